@@ -11,7 +11,7 @@ use Rattle.sc_actor.specs.declared.rows.Event.{Event}
 use Rattle.sc_actor.specs.declared.rows.Event.TheVariants.{Deliver, Drop, Again, Go, Tick, Crash, Told}
 use Rattle.sc_actor.specs.declared.schedules.Line.{Line}
 use Rattle.sc_actor.specs.declared.schedules.Line.TheVariants.{Go as GoLine, Deliver as DeliverLine, Drop as DropLine, Again as AgainLine, Tick as TickLine, Crash as CrashLine, Told as ToldLine, Settle, Free, Storm}
-use Rattle.sc_actor.specs.Definitions.{mails, numbered, may_get, has_crashed, System, acts, row_of, network, waiting, kth, numbers_of, has_gone, IsUnderWay, IsOpen, IsLoose, IsStep, Task, Once, Settles, Frees, Storms, WalkPlace, Allows, MayAdd, IsWalk, IsLawful, after_row, start, rest_of_all, tasks_of, delivery, repeat_of, picked, storm_row}
+use Rattle.sc_actor.specs.Definitions.{mails, numbered, may_get, has_crashed, System, acts, row_of, network, waiting, kth, numbers_of, has_started, IsUnderWay, IsOpen, IsLoose, IsStep, Task, Once, Settles, Frees, Storms, WalkPlace, Allows, MayAdd, IsWalk, IsLawful, after_row, start, rest_of_all, tasks_of, delivery, repeat_of, picked, storm_row}
 use Rattle.sc_actor.proofs.PendingLemmas.{waiting_one, waiting_any, waiting_at}
 use Rattle.sc_actor.proofs.WalkLemmas.{onward-rows}
 
@@ -57,7 +57,7 @@ module _ {A M O : Type 0} (s : System A M O) (rows : List (Row M O)) where
       network-step (Again mail) row (p.0, p.1, q.0) q.1
 
   line-step : (line : Line O) (row : Row M O) → Allows s rows (Once line) row → IsStep s rows row
-  line-step (GoLine who) row e = let p = unless-some (has_gone rows who) (acts s rows who Go) row e in acts-step who Go row p.0 p.1
+  line-step (GoLine who) row e = let p = unless-some (has_started rows who) (acts s rows who Go) row e in acts-step who Go row p.0 p.1
   line-step (DeliverLine who k) row e =
       let p = and_then-some (λ mail. acts s rows who (Deliver mail)) (kth (waiting s rows (Some who)) k) row e in
       acts-step who (Deliver p.0) row (waiting_one s rows who k p.0 p.1) p.2

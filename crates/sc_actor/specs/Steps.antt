@@ -5,7 +5,7 @@ use Rattle.sc_actor.specs.declared.actors.Seat.{Seat}
 use Rattle.sc_actor.specs.declared.rows.Event.{Event}
 use Rattle.sc_actor.specs.declared.rows.Event.TheVariants.{Deliver, Tick, Go, Told, Crash, Drop, Again}
 use Rattle.sc_actor.specs.Mail.{mails, numbered, has_crashed, may_get, copies}
-use Rattle.sc_actor.specs.System.{System, numbers_of, row_of, network, has_gone}
+use Rattle.sc_actor.specs.System.{System, numbers_of, row_of, network, has_started}
 
 -- the mail with this number was sent to an actor that has not crashed, and a copy of it is under way
 pub record IsUnderWay {A M O : Type 0} (s : System A M O) (rows : List (Row M O)) (number : ℕ) (mail : M) : Type 0 where
@@ -16,7 +16,7 @@ pub record IsUnderWay {A M O : Type 0} (s : System A M O) (rows : List (Row M O)
 -- an event that an actor may have now: a delivery only of mail to it of which a copy is under way, a start only once, and a tick, a crash or an order only before it has crashed
 abbrev pub IsOpen : {A M O : Type 0} → System A M O → List (Row M O) → ℕ → Event O → Type 0
 IsOpen {A} {M} {O} s rows who (Deliver number) = (mail : M) × IsUnderWay s rows number mail × (s.receiver mail ≡ who)
-IsOpen s rows who Go = has_gone rows who ≡ false
+IsOpen s rows who Go = has_started rows who ≡ false
 IsOpen s rows who Tick = has_crashed rows who ≡ false
 IsOpen s rows who Crash = has_crashed rows who ≡ false
 IsOpen s rows who (Told order) = has_crashed rows who ≡ false

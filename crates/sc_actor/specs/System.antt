@@ -65,5 +65,5 @@ is_go (Drop mail) = false
 is_go (Again mail) = false
 
 -- whether an actor has started
-abbrev pub has_gone : {M O : Type 0} → List (Row M O) → ℕ → Bool
-has_gone rows who = list_any (λ row. row.who == who && is_go row.event) rows
+abbrev pub has_started : {M O : Type 0} → List (Row M O) → ℕ → Bool
+has_started rows who = list_any (λ row. row.who == who && is_go row.event) rows

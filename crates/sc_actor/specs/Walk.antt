@@ -7,7 +7,7 @@ use Rattle.sc_actor.specs.declared.rows.Event.TheVariants.{Deliver, Tick, Go, To
 use Rattle.sc_actor.specs.declared.schedules.Line.{Line}
 use Rattle.sc_actor.specs.declared.schedules.Line.TheVariants.{Go as GoLine, Deliver as DeliverLine, Drop as DropLine, Again as AgainLine, Tick as TickLine, Crash as CrashLine, Told as ToldLine, Settle, Free, Storm}
 use Rattle.sc_actor.specs.Mail.{mails, numbered, has_crashed, may_get}
-use Rattle.sc_actor.specs.System.{System, numbers_of, waiting, acts, network, kth, has_gone}
+use Rattle.sc_actor.specs.System.{System, numbers_of, waiting, acts, network, kth, has_started}
 
 -- a unit of work of a schedule: a line that makes one row, the deliveries that a `Settle` or `Free` line may still make, or one step of a storm with its two words
 pub data Task (O : Type 0) : Type 0 where
@@ -45,7 +45,7 @@ repeat_of s rows mail =
 
 -- the row that a line of one row makes, or None where the line is skipped
 abbrev pub line_row : {A M O : Type 0} → System A M O → List (Row M O) → Line O → Option (Row M O)
-line_row s rows (GoLine who) = if has_gone rows who then None else acts s rows who Go
+line_row s rows (GoLine who) = if has_started rows who then None else acts s rows who Go
 line_row s rows (DeliverLine who k) = option_and_then (λ mail. acts s rows who (Deliver mail)) (kth (waiting s rows (Some who)) k)
 line_row s rows (DropLine who k) = option_map (λ mail. network (Drop mail)) (kth (waiting s rows (Some who)) k)
 line_row s rows (AgainLine mail) = repeat_of s rows mail

@@ -7,6 +7,6 @@ pub use Rattle.sc_base.proofs.Exact.{bytes, arc, draw, op, noted, ballot, reply}
 pub use Rattle.sc_base.proofs.NameLemmas.{draw_is, same_name, ballot_itself, ballot_is, ballots_equal}
 pub use Rattle.sc_base.proofs.Pairs.{AllPairs-head, AllPairs-tail}
 pub use Rattle.sc_base.proofs.Rising.{roster_with, roster_without, Below}
-pub use Rattle.sc_base.proofs.TextLemmas.{no_fault}
+pub use Rattle.sc_base.proofs.TextLemmas.{no_error}
 pub use Rattle.sc_base.proofs.UnionLemmas.{count_united, grows}
 pub use Rattle.sc_base.proofs.Meeting.{length_with, at_most_one}

@@ -6,7 +6,7 @@ use Rattle.std.proofs.lemmas.Bool.{cases_Bool, cond-true, cond-false, cases_orde
 use Rattle.std.proofs.lemmas.List.Folds.{list_any-append}
 use Rattle.std.proofs.lemmas.List.Elements.{All-tail, All-head}
 use Rattle.std.proofs.lemmas.List.Kept.{AllPairs-from_increasing}
-use Rattle.sc_base.specs.Definitions.{is_member, with_member, add_fault, with_any, united}
+use Rattle.sc_base.specs.Definitions.{is_member, with_member, add_error, with_any, united}
 use Rattle.sc_base.proofs.Meeting.{length_with}
 use Rattle.sc_base.proofs.Rising.{Below}
 use Rattle.sc_base.proofs.Pairs.{AllPairs-head, AllPairs-tail}
@@ -103,8 +103,8 @@ count_united members (node ∷ others) up =
     ]
 
 -- a node that makes at most nine is not refused
-pub no_fault : (members : List ℕ) (node : ℕ) → is_member members node ≡ false → length (with_any members node) ≤ 9 → add_fault members node ≡ None
-no_fault members node absent few =
+pub no_error : (members : List ℕ) (node : ℕ) → is_member members node ≡ false → length (with_any members node) ≤ 9 → add_error members node ≡ None
+no_error members node absent few =
     let here = ap length (cond-false (is_member members node) members (with_member members node) absent) in
     let one = length_with members node absent in
     let room : eqb (length members) 9 ≡ false = ne_eqb (length members) 9 (λ e. omega (arith, here, one, few)) in

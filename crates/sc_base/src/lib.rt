@@ -29,5 +29,5 @@ pub use numbers::read_number;
 pub use ops::{Noted, Op, Pairs, Reply, SeenList};
 pub use ordered::Ordered;
 pub use sames::{Same, are_same};
-pub use sets::{MemberFault, Members};
-pub use texts::{Key, KeyFault, Value};
+pub use sets::{MemberError, Members};
+pub use texts::{Key, KeyError, Value};

@@ -3,7 +3,7 @@ ghost use Rattle.std.specs.Prelude.{◌≡◌, ◌<◌, ◌≤◌, ◌∷◌, []
 ghost use Rattle.std.specs.Cmp.{partial_equiv_from_equiv};
 ghost use Rattle.std.specs.Cmp.Lexicographic.{pointwise, nat_list_eq_equiv};
 ghost use Rattle.sc_base.specs.Roster.{IsRoster, is_member, with_member, without_member, least_of, next_after};
-ghost use Rattle.sc_base.specs.Faults.{add_fault, remove_fault};
+ghost use Rattle.sc_base.specs.Errors.{add_error, remove_error};
 ghost use Rattle.sc_base.specs.Majority.{is_majority, votes_of};
 
 use crate::dups::{Dup, OutOfMemory};
@@ -14,7 +14,7 @@ use std::marker::Model;
 
 /// The reason why a set is not changed.
 #[derive(Clone, Copy, Debug, PartialEq, Eq)]
-pub enum MemberFault {
+pub enum MemberError {
     /// The node is in the set.
     Present,
     /// The node is not in the set, and the set has nine.
@@ -55,16 +55,16 @@ impl Members {
     }
 
     /// Adds a node to the set. Refuses with `Present` or `Full`, and then the set is unchanged.
-    pub fn add(&mut self, node: u16) -> Result<(), MemberFault>
+    pub fn add(&mut self, node: u16) -> Result<(), MemberError>
         ensures { MatchResult result
-            (λ _. (add_fault self.old node ≡ None) × (self.new ≡ with_member self.old node))
-            (λ fault. (add_fault self.old node ≡ Some fault) × (self.new ≡ self.old)) }
+            (λ _. (add_error self.old node ≡ None) × (self.new ≡ with_member self.old node))
+            (λ error. (add_error self.old node ≡ Some error) × (self.new ≡ self.old)) }
     {
         if self.has(node) {
-            return Err(MemberFault::Present);
+            return Err(MemberError::Present);
         }
         if self.len() == 9 {
-            return Err(MemberFault::Full);
+            return Err(MemberError::Full);
         }
         self.nodes = placed(self.as_slice(), node);
         Ok(())
@@ -72,16 +72,16 @@ impl Members {
 
     /// Removes a node from the set. Refuses with `Absent` or `Last`, and then the set is
     /// unchanged.
-    pub fn remove(&mut self, node: u16) -> Result<(), MemberFault>
+    pub fn remove(&mut self, node: u16) -> Result<(), MemberError>
         ensures { MatchResult result
-            (λ _. (remove_fault self.old node ≡ None) × (self.new ≡ without_member self.old node))
-            (λ fault. (remove_fault self.old node ≡ Some fault) × (self.new ≡ self.old)) }
+            (λ _. (remove_error self.old node ≡ None) × (self.new ≡ without_member self.old node))
+            (λ error. (remove_error self.old node ≡ Some error) × (self.new ≡ self.old)) }
     {
         if !self.has(node) {
-            return Err(MemberFault::Absent);
+            return Err(MemberError::Absent);
         }
         if self.len() == 1 {
-            return Err(MemberFault::Last);
+            return Err(MemberError::Last);
         }
         self.nodes = left_by(self.as_slice(), node);
         Ok(())

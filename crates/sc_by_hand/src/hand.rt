@@ -5,7 +5,7 @@ ghost use Rattle.sc_actor.specs.declared.rows.Event.TheVariants.{Go};
 ghost use Rattle.sc_base.specs.Limits.{client_actor};
 ghost use Rattle.sc_by_hand.specs.Deeds.{after_deed, deeds_of, delivery};
 ghost use Rattle.sc_scenario.specs.Valid.{IsValid};
-ghost use Rattle.sc_world.specs.Replays.{IsFault};
+ghost use Rattle.sc_world.specs.Replays.{IsReplayError};
 ghost use Rattle.sc_world.specs.Worlds.{StandsFor};
 
 use crate::steps::{Log, deliver, start};
@@ -14,7 +14,7 @@ use sc_base::OutOfMemory;
 use sc_cmd::OrderLine;
 use sc_mail::{Mail, client_number};
 use sc_scenario::Scenario;
-use sc_world::{ReplayFault, World, replay_rows};
+use sc_world::{ReplayError, World, replay_rows};
 use std::alloc::Global;
 
 /// The scenario that `Hand::run` plays: a group of two nodes, and a client that puts once. The
@@ -118,12 +118,12 @@ impl<A: Actor<Mail = Mail, Order = OrderLine>> Hand<A> {
         &'a self,
         alloc: Global,
         scenario: &'a Scenario,
-    ) -> Result<World<'a>, ReplayFault>
+    ) -> Result<World<'a>, ReplayError>
         requires valid { IsValid scenario.now }
         requires few_rows { length self.now.log.rows < 2 ^ 31 }
         requires few_mails { length (mails self.now.log.rows) < 2 ^ 31 }
         ensures { MatchResult result (λ world. StandsFor scenario.now self.now.log.rows world)
-            (λ fault. IsFault scenario.now self.now.log.rows fault) }
+            (λ error. IsReplayError scenario.now self.now.log.rows error) }
     {
         replay_rows(alloc, scenario, &self.log.rows)
     }

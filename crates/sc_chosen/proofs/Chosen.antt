@@ -92,24 +92,24 @@ chosen_more {V} rule h log value so_far next = λ k v is. elim (get_pushed log v
 
 -- ---- the decided log
 
-seam : {V : Type 0} (front : List V) (x : V) (rest : List V) → slice_get (front ++ x ∷ rest) (length front) ≡ Some x
+seam : {V : Type 0} (prefix : List V) (x : V) (rest : List V) → slice_get (prefix ++ x ∷ rest) (length prefix) ≡ Some x
 seam [] x rest = refl
-seam (y ∷ front) x rest = seam front x rest
+seam (y ∷ prefix) x rest = seam prefix x rest
 
 walk : {V : Type 0} (rule : Rule V) (h : List (Step V)) (log : List V) → IsChosenSoFar rule h log → NothingFollows rule h log
-    → (rest front : List V) → log ≡ front ++ rest → (more : ℕ) → length rest ≤ more → with_next_entries rule h more front ≡ log
-walk {V} rule h log so_far ends [] front is more le =
-    let same : log ≡ front = is ∙ append-nil front in
-    with_next_entries-ends rule h more front (subst (NothingFollows rule h) same ends) ∙ sym same
-walk rule h log so_far ends (x ∷ rest) front is zero le = absurd (omega (arith, le))
-walk {V} rule h log so_far ends (x ∷ rest) front is (suc more) le =
-    let here : slice_get log (length front) ≡ Some x = ap (λ (xs : List V). slice_get xs (length front)) is ∙ seam front x rest in
-    let chosen : chosen_at (members_of rule front (length front + 1)) h (length front + 1) ≡ Some x =
-    ap (λ (ms : List ℕ). chosen_at ms h (length front + 1))
-    (sym (members_so_far rule front (x ∷ rest) (length front) (omega arith)) ∙ ap (λ (xs : List V). members_of rule xs (length front + 1)) (sym is))
-    ∙ so_far (length front) x here in
-    with_next_entries-grows rule h more front x chosen
-    ∙ walk rule h log so_far ends rest (front ++ x ∷ []) (is ∙ sym (append_assoc front (x ∷ []) rest)) more (omega (arith, le))
+    → (rest prefix : List V) → log ≡ prefix ++ rest → (more : ℕ) → length rest ≤ more → with_next_entries rule h more prefix ≡ log
+walk {V} rule h log so_far ends [] prefix is more le =
+    let same : log ≡ prefix = is ∙ append-nil prefix in
+    with_next_entries-ends rule h more prefix (subst (NothingFollows rule h) same ends) ∙ sym same
+walk rule h log so_far ends (x ∷ rest) prefix is zero le = absurd (omega (arith, le))
+walk {V} rule h log so_far ends (x ∷ rest) prefix is (suc more) le =
+    let here : slice_get log (length prefix) ≡ Some x = ap (λ (xs : List V). slice_get xs (length prefix)) is ∙ seam prefix x rest in
+    let chosen : chosen_at (members_of rule prefix (length prefix + 1)) h (length prefix + 1) ≡ Some x =
+    ap (λ (ms : List ℕ). chosen_at ms h (length prefix + 1))
+    (sym (members_so_far rule prefix (x ∷ rest) (length prefix) (omega arith)) ∙ ap (λ (xs : List V). members_of rule xs (length prefix + 1)) (sym is))
+    ∙ so_far (length prefix) x here in
+    with_next_entries-grows rule h more prefix x chosen
+    ∙ walk rule h log so_far ends rest (prefix ++ x ∷ []) (is ∙ sym (append_assoc prefix (x ∷ []) rest)) more (omega (arith, le))
 
 last_of : {V : Type 0} (x : V) (xs : List V) → (y : V) × (slice_get (x ∷ xs) (length xs) ≡ Some y)
 last_of x [] = (x, refl)

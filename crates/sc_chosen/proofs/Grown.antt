@@ -19,7 +19,7 @@ use Rattle.sc_sound.specs.GroupsOf.{children_of}
 use Rattle.sc_sound.specs.Logs.{rule_of}
 use Rattle.sc_chosen.specs.Acceptances.{step_of, steps_of}
 use Rattle.sc_chosen.specs.Indexes.{IsIndexed}
-use Rattle.sc_chosen.specs.Known.{Tells, IsChosenSoFar}
+use Rattle.sc_chosen.specs.Known.{MatchesAccepted, IsChosenSoFar}
 use Rattle.sc_chosen.specs.declared.accepting.Acceptance.{Acceptance}
 use Rattle.sc_chosen.proofs.Chosen.{members_so_far, chosen_more, chosen_still}
 use Rattle.sc_chosen.proofs.Indexed.{chosen_here}
@@ -64,11 +64,11 @@ last_or_before (suc k) (suc n) lt = elim (last_or_before k n (omega (arith, lt))
 -- the next command of the log was chosen
 pub grown : (h : List (Step Command)) (base : Base) (kept : ℕ → List Acceptance) (log : List Command) (members : List (List ℕ)) (state behind : Group)
     (command : Command) (log2 : List Command) (members2 : List (List ℕ)) (state2 behind2 : Group)
-    → Tells h base kept log members state behind
+    → MatchesAccepted h base kept log members state behind
     → chosen_at (members_of (rule_of as_nodes base) log (length log + 1)) h (length log + 1) ≡ Some command
     → log2 ≡ log ++ command ∷ [] → members2 ≡ members ++ behind.core.members ∷ [] → state2 ≡ (applied state command).0
     → ((group : Group) → behind ≡ state_after group (take (length log + 1 - as_nodes.slots) log) → behind2 ≡ state_after group (take (length log2 + 1 - as_nodes.slots) log2))
-    → Tells h base kept log2 members2 state2 behind2
+    → MatchesAccepted h base kept log2 members2 state2 behind2
 grown h base kept log members state behind command log2 members2 state2 behind2 told next log_is members_are state_is behind_is =
     let rule : Rule Command = rule_of as_nodes base in
     let longer : length log2 ≡ length log + 1 = ap length log_is ∙ length_push log command in
@@ -93,7 +93,7 @@ grown h base kept log members state behind command log2 members2 state2 behind2 
 
 -- what is chosen next, by the members so far behind and the acceptances of the next slot
 pub next_is : (h : List (Step Command)) (base : Base) (kept : ℕ → List Acceptance) (log : List Command) (members : List (List ℕ)) (state behind : Group) (slot : ℕ) (at : List Acceptance) (members2 : List ℕ)
-    → Tells h base kept log members state behind → slot ≡ length log + 1 → at ≡ kept slot → members2 ≡ behind.core.members
+    → MatchesAccepted h base kept log members state behind → slot ≡ length log + 1 → at ≡ kept slot → members2 ≡ behind.core.members
     → chosen_at (members_of (rule_of as_nodes base) log (length log + 1)) h (length log + 1) ≡ chosen_at members2 (steps_of at) slot
 next_is h base kept log members state behind slot at members2 told slot_is at_is members_are =
     let here : members_of (rule_of as_nodes base) log (length log + 1) ≡ members2 = ap (λ (group : Group). group.core.members) (sym told.behind_is) ∙ sym members_are in
@@ -113,9 +113,9 @@ slot_is members kept slot found at indexed at_is =
 -- it leaves the log as it is, if each entry is still chosen
 pub one_more : (h : List (Step Command)) (base : Base) (kept kept2 : ℕ → List Acceptance) (log : List Command) (members : List (List ℕ)) (state behind : Group) (acceptance : Acceptance)
     → ((found : List Acceptance) → IsIndexed kept found → IsIndexed kept2 (found ++ acceptance ∷ []))
-    → (told : Tells h base kept log members state behind)
+    → (told : MatchesAccepted h base kept log members state behind)
     → ((k : ℕ) (v : Command) → acceptance.slot ≡ k + 1 → slice_get log k ≡ Some v → chosen_at (members_of (rule_of as_nodes base) log (k + 1)) (step_of acceptance ∷ h) (k + 1) ≡ Some v)
-    → Tells (step_of acceptance ∷ h) base kept2 log members state behind
+    → MatchesAccepted (step_of acceptance ∷ h) base kept2 log members state behind
 one_more h base kept kept2 log members state behind acceptance index told still = record {
   found = told.found ++ acceptance ∷ [];
   accepted = steps_of-last told.found acceptance ∙ ap (λ (steps : List (Step Command)). step_of acceptance ∷ steps) told.accepted;
@@ -129,9 +129,9 @@ one_more h base kept kept2 log members state behind acceptance index told still 
 
 -- ---- what is kept at first
 
-told_none : (h : List (Step Command)) (base : Base) (kept : ℕ → List Acceptance) (found : List Acceptance) (state behind : Group) → steps_of found ≡ h → IsIndexed kept found → state ≡ group_of base → behind ≡ group_of base
-    → Tells h base kept [] [] state behind
-told_none h base kept found state behind accepted indexed state_is behind_is = record {
+matches_none : (h : List (Step Command)) (base : Base) (kept : ℕ → List Acceptance) (found : List Acceptance) (state behind : Group) → steps_of found ≡ h → IsIndexed kept found → state ≡ group_of base → behind ≡ group_of base
+    → MatchesAccepted h base kept [] [] state behind
+matches_none h base kept found state behind accepted indexed state_is behind_is = record {
   found = found;
   accepted = accepted;
   indexed = indexed;
@@ -145,7 +145,7 @@ told_none h base kept found state behind accepted indexed state_is behind_is = r
 -- the entry at its slot is still chosen, where what is kept says so
 pub still_chosen : (h : List (Step Command)) (base : Base) (kept kept2 : ℕ → List Acceptance) (log : List Command) (members : List (List ℕ)) (state behind : Group) (acceptance : Acceptance)
     → ((found : List Acceptance) → IsIndexed kept found → IsIndexed kept2 (found ++ acceptance ∷ []))
-    → (told : Tells h base kept log members state behind)
+    → (told : MatchesAccepted h base kept log members state behind)
     → ((found : List Acceptance) (ms : List ℕ) → IsIndexed kept2 found → slice_get members (acceptance.slot - 1) ≡ Some ms → chosen_at ms (steps_of found) acceptance.slot ≡ slice_get log (acceptance.slot - 1))
     → (k : ℕ) (v : Command) → acceptance.slot ≡ k + 1 → slice_get log k ≡ Some v → chosen_at (members_of (rule_of as_nodes base) log (k + 1)) (step_of acceptance ∷ h) (k + 1) ≡ Some v
 still_chosen h base kept kept2 log members state behind acceptance index told check k v at is =
@@ -158,8 +158,8 @@ still_chosen h base kept kept2 log members state behind acceptance index told ch
     ∙ ap (slice_get log) place ∙ is
 
 -- no entry is recorded yet
-pub told_first : (h : List (Step Command)) (base : Base) (kept : ℕ → List Acceptance) (found : List Acceptance) (log : List Command) (members : List (List ℕ)) (state behind : Group)
-    → log ≡ [] → members ≡ [] → steps_of found ≡ h → IsIndexed kept found → state ≡ group_of base → behind ≡ group_of base → Tells h base kept log members state behind
-told_first h base kept found log members state behind no_log no_members accepted indexed state_is behind_is =
-    subst (λ (l : List Command). Tells h base kept l members state behind) (sym no_log)
-    (subst (λ (ms : List (List ℕ)). Tells h base kept [] ms state behind) (sym no_members) (told_none h base kept found state behind accepted indexed state_is behind_is))
+pub matches_first : (h : List (Step Command)) (base : Base) (kept : ℕ → List Acceptance) (found : List Acceptance) (log : List Command) (members : List (List ℕ)) (state behind : Group)
+    → log ≡ [] → members ≡ [] → steps_of found ≡ h → IsIndexed kept found → state ≡ group_of base → behind ≡ group_of base → MatchesAccepted h base kept log members state behind
+matches_first h base kept found log members state behind no_log no_members accepted indexed state_is behind_is =
+    subst (λ (l : List Command). MatchesAccepted h base kept l members state behind) (sym no_log)
+    (subst (λ (ms : List (List ℕ)). MatchesAccepted h base kept [] ms state behind) (sym no_members) (matches_none h base kept found state behind accepted indexed state_is behind_is))

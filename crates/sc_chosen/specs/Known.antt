@@ -31,7 +31,7 @@ abbrev pub NothingFollows : {V : Type 0} → Rule V → List (Step V) → List V
 NothingFollows rule h log = chosen_at (members_of rule log (length log + 1)) h (length log + 1) ≡ None
 
 -- what is kept of a group agrees with what was accepted for it
-pub record Tells (h : List (Step Command)) (base : Base) (kept : ℕ → List Acceptance) (log : List Command) (members : List (List ℕ)) (state behind : Group) : Type 0 where
+pub record MatchesAccepted (h : List (Step Command)) (base : Base) (kept : ℕ → List Acceptance) (log : List Command) (members : List (List ℕ)) (state behind : Group) : Type 0 where
   -- the acceptances, which are kept by their slots
   pub found : List Acceptance
   pub accepted : steps_of found ≡ h
@@ -52,7 +52,7 @@ kept_of known slot = listed_in (λ kept. kept.items) (get_by (nat_cmp slot) know
 
 -- all that is kept of a group agrees with what was accepted for it
 abbrev pub Agrees : List (Step Command) → Known → Type 0
-Agrees h known = Tells h known.base (kept_of known) known.log.items known.members.items known.state known.behind
+Agrees h known = MatchesAccepted h known.base (kept_of known) known.log.items known.members.items known.state known.behind
 
 -- what is kept of a group is what the rows show of it, with all of its log
 pub record IsKnown (rows : List (Row Mail OrderLine)) (known : Known) : Type 0 where

@@ -12,7 +12,7 @@ use Rattle.sc_mail.specs.declared.bodies.MailBody.{MailBody}
 use Rattle.sc_mail.specs.declared.bodies.MailBody.TheVariants.{Answer}
 use Rattle.sc_mail.specs.declared.bodies.AnswerBody.{AnswerBody}
 use Rattle.sc_mail.specs.declared.bodies.AnswerBody.TheVariants.{Value, NotLeader, NotMine, Gone, Stale}
-use Rattle.sc_lookup.specs.Definitions.{KnownGroups, target_in, preferring, passed_on, told_not_mine, told_gone}
+use Rattle.sc_lookup.specs.Definitions.{KnownGroups, target_in, preferring, passed_on, learnt_from_not_mine, learnt_from_gone}
 use Rattle.sc_client_table.specs.Definitions.{Client, waiting_request, ClientStep, asked_of, sent_to, sent_where, chosen_for, request_sent, started, turned_on, client_ticked, waits_for, was_asked, redirected, answer_taken, got, SendsWaiting, InTurn, SendsInTurn}
 
 -- a step that sends at most the waiting request, and otherwise only learns
@@ -92,8 +92,8 @@ ticks client None asked = waits client Tick (client, []) (silent client)
 redirected_sends : (group : Draw) (answer : AnswerBody) (client : Client) → Sent client (redirected group answer client)
 redirected_sends group (NotLeader (Some hint)) client = to_known client (preferring group hint client.known) (redirected group (NotLeader (Some hint)) client) (to_sends group (record client { known = preferring group hint client.known }))
 redirected_sends group (NotLeader None) client = turned_sends group client
-redirected_sends group (NotMine arc succ) client = to_known client (told_not_mine group arc succ client.known) (redirected group (NotMine arc succ) client) (sent_sends (record client { known = told_not_mine group arc succ client.known }))
-redirected_sends group (Gone into) client = to_known client (told_gone group into client.known) (redirected group (Gone into) client) (sent_sends (record client { known = told_gone group into client.known }))
+redirected_sends group (NotMine arc succ) client = to_known client (learnt_from_not_mine group arc succ client.known) (redirected group (NotMine arc succ) client) (sent_sends (record client { known = learnt_from_not_mine group arc succ client.known }))
+redirected_sends group (Gone into) client = to_known client (learnt_from_gone group into client.known) (redirected group (Gone into) client) (sent_sends (record client { known = learnt_from_gone group into client.known }))
 redirected_sends group (Value reply) client = silent client
 redirected_sends group (Stale last) client = silent client
 

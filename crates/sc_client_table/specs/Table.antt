@@ -11,7 +11,7 @@ use Rattle.sc_mail.specs.declared.bodies.MailBody.{MailBody}
 use Rattle.sc_mail.specs.declared.bodies.MailBody.TheVariants.{Request, Answer, Prepare, Promise, Accept, Accepted, Nack, Learn, Ask, Install, TxPrepare, TxVote, TxOutcome, TxElsewhere, TxWatch, TxWatched, Told as ToldMail}
 use Rattle.sc_mail.specs.declared.bodies.AnswerBody.{AnswerBody}
 use Rattle.sc_mail.specs.declared.bodies.AnswerBody.TheVariants.{Value, NotLeader, NotMine, Gone, Stale}
-use Rattle.sc_lookup.specs.Definitions.{chosen, target_in, preferring, passed_on, told_not_mine, told_gone}
+use Rattle.sc_lookup.specs.Definitions.{chosen, target_in, preferring, passed_on, learnt_from_not_mine, learnt_from_gone}
 use Rattle.sc_client_table.specs.Client.{Client, waiting_request}
 
 -- a client, and the mail that it sends
@@ -76,8 +76,8 @@ was_asked (Some asked) from group = (asked.1 == from) && same_draw asked.0 group
 abbrev pub redirected : Draw → AnswerBody → Client → ClientStep
 redirected group (NotLeader (Some hint)) client = sent_to group (record client { known = preferring group hint client.known })
 redirected group (NotLeader None) client = turned_on group client
-redirected group (NotMine arc succ) client = request_sent (record client { known = told_not_mine group arc succ client.known })
-redirected group (Gone into) client = request_sent (record client { known = told_gone group into client.known })
+redirected group (NotMine arc succ) client = request_sent (record client { known = learnt_from_not_mine group arc succ client.known })
+redirected group (Gone into) client = request_sent (record client { known = learnt_from_gone group into client.known })
 redirected group (Value reply) client = (client, [])
 redirected group (Stale last) client = (client, [])
 

@@ -20,8 +20,8 @@ use Rattle.sc_cmd.specs.contracts.links.Route as route_type
 use Rattle.sc_cmd.specs.contracts.links.RoutePartialEq.TheImpl as route_eq
 use Rattle.sc_cmd.specs.contracts.orders.OrderRefusal as refusal_type
 use Rattle.sc_cmd.specs.contracts.orders.OrderRefusalPartialEq.TheImpl as refusal_eq
-use Rattle.sc_cmd.specs.contracts.orders.ToldResult as told_result_type
-use Rattle.sc_cmd.specs.contracts.orders.ToldResultPartialEq.TheImpl as told_result_eq
+use Rattle.sc_cmd.specs.contracts.orders.OrderResult as order_result_type
+use Rattle.sc_cmd.specs.contracts.orders.OrderResultPartialEq.TheImpl as order_result_eq
 use Rattle.sc_cmd.specs.contracts.votes.Frozen as frozen_type
 use Rattle.sc_cmd.specs.contracts.votes.FrozenPartialEq.TheImpl as frozen_eq
 use Rattle.sc_cmd.specs.contracts.votes.Gift as gift_type
@@ -88,5 +88,5 @@ command = enum command_type.enum (no_field or numbers and numbers and last op or
 pub refusal : Exact refusal_eq.ghosts.eq
 refusal = enum refusal_type.enum (last (options numbers) or last draw or no_field or no_field or last numbers or no_field or no_field or no_field or no_field or no_variant)
 
-pub told_result : Exact told_result_eq.ghosts.eq
-told_result = enum told_result_type.enum (no_field or no_field or no_field or last refusal or no_variant)
+pub result_reported : Exact order_result_eq.ghosts.eq
+result_reported = enum order_result_type.enum (no_field or no_field or no_field or last refusal or no_variant)

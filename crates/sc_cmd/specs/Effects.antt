@@ -2,8 +2,8 @@
 use Rattle.std.specs.Prelude.{Bool, true, false, Option, Some, None}
 use Rattle.sc_cmd.specs.declared.effects.Effect.{Effect}
 use Rattle.sc_cmd.specs.declared.effects.Effect.TheVariants.{Done, Again, Stale, NotMine, Gone, NoEffect, Idle, Changed, Voted, Decided, Refused}
-use Rattle.sc_cmd.specs.declared.orders.ToldResult.{ToldResult}
-use Rattle.sc_cmd.specs.declared.orders.ToldResult.TheVariants as Tells
+use Rattle.sc_cmd.specs.declared.orders.OrderResult.{OrderResult}
+use Rattle.sc_cmd.specs.declared.orders.OrderResult.TheVariants as Tells
 use Rattle.sc_cmd.specs.declared.votes.Outcome.{Outcome}
 use Rattle.sc_cmd.specs.declared.votes.Outcome.TheVariants.{Abort, Merged, Moved, Migrated, Divided}
 use Rattle.sc_cmd.specs.declared.votes.Past.{Past}
@@ -23,7 +23,7 @@ is_changed (Decided outcome) = false
 is_changed (Refused why) = false
 
 -- the result to report of an order that was refused when it was executed, or None
-abbrev pub refused_result : Effect → Option ToldResult
+abbrev pub refused_result : Effect → Option OrderResult
 refused_result (Refused why) = Some (Tells.Refused why)
 refused_result (Done reply) = None
 refused_result (Again reply) = None
@@ -37,7 +37,7 @@ refused_result (Voted vote) = None
 refused_result (Decided outcome) = None
 
 -- the result to report of an order that one entry carries out: a join, a leave, or the split of a group that is its own successor; None where the entry ends no order
-abbrev pub result_of : Effect → Option ToldResult
+abbrev pub result_of : Effect → Option OrderResult
 result_of Changed = Some Tells.Done
 result_of (Refused why) = Some (Tells.Refused why)
 result_of (Done reply) = None

@@ -5,7 +5,7 @@ ghost use Rattle.sc_cmd.specs.declared.votes.Outcome.{Outcome};
 ghost use Rattle.sc_cmd.specs.Effects.{is_changed, is_divided, refused_result, result_of, decided_in, cast_in};
 
 use crate::links::{Link, Route};
-use crate::orders::{OrderRefusal, ToldResult};
+use crate::orders::{OrderRefusal, OrderResult};
 use crate::votes::{Outcome, Past};
 use sc_base::{Draw, Dup, OutOfMemory, Reply, RingArc};
 use std::alloc::Global;
@@ -55,23 +55,23 @@ impl Effect {
 
     /// Returns the result to report of an order that was refused when it was executed, or `None`
     /// where it was not refused.
-    pub fn refused(&self) -> Option<ToldResult>
+    pub fn refused(&self) -> Option<OrderResult>
         ensures { result ≡ refused_result self.now }
     {
         match self {
-            Effect::Refused(why) => Some(ToldResult::Refused(*why)),
+            Effect::Refused(why) => Some(OrderResult::Refused(*why)),
             _ => None,
         }
     }
 
     /// Returns the result to report of an order that one entry carries out, or `None` where the
     /// entry ends no order.
-    pub fn told(&self) -> Option<ToldResult>
+    pub fn reported(&self) -> Option<OrderResult>
         ensures { result ≡ result_of self.now }
     {
         match self {
-            Effect::Changed => Some(ToldResult::Done),
-            Effect::Refused(why) => Some(ToldResult::Refused(*why)),
+            Effect::Changed => Some(OrderResult::Done),
+            Effect::Refused(why) => Some(OrderResult::Refused(*why)),
             _ => None,
         }
     }

@@ -54,7 +54,7 @@ pub enum OrderRefusal {
 
 /// The result of an order that is reported to the desk.
 #[derive(Clone, Copy, PartialEq, Eq)]
-pub enum ToldResult {
+pub enum OrderResult {
     /// The group has carried the order out alone.
     Done,
     /// The transaction of the order was committed.
@@ -125,8 +125,8 @@ impl Dup for OrderRefusal {
     }
 }
 
-impl Dup for ToldResult {
-    fn dup(&self, _alloc: Global) -> Result<ToldResult, OutOfMemory>
+impl Dup for OrderResult {
+    fn dup(&self, _alloc: Global) -> Result<OrderResult, OutOfMemory>
         ensures { result ≡ Ok self.now }
     {
         Ok(*self)
@@ -151,8 +151,8 @@ impl Same for OrderRefusal {
     }
 }
 
-impl Same for ToldResult {
-    fn is_same(&self, other: &ToldResult) -> bool {
+impl Same for OrderResult {
+    fn is_same(&self, other: &OrderResult) -> bool {
         self == other
     }
 }

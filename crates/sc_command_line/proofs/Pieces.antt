@@ -16,15 +16,15 @@ take_nil : (n : ℕ) → take {A = ℕ} n [] ≡ []
 take_nil zero = refl
 take_nil (suc n) = refl
 
-front : (ys zs : List ℕ) (n : ℕ) → take (min n (length ys)) (ys ++ zs) ≡ take n ys
-front [] zs n = let e : min n 0 ≡ 0 = omega arith in rw e (sym (take_nil n))
-front (y ∷ ys) zs zero = let e : min 0 (suc (length ys)) ≡ 0 = omega arith in rw e refl
-front (y ∷ ys) zs (suc n) = let e : min (suc n) (suc (length ys)) ≡ suc (min n (length ys)) = omega arith in rw e (ap (λ t. y ∷ t) (front ys zs n))
+prefix : (ys zs : List ℕ) (n : ℕ) → take (min n (length ys)) (ys ++ zs) ≡ take n ys
+prefix [] zs n = let e : min n 0 ≡ 0 = omega arith in rw e (sym (take_nil n))
+prefix (y ∷ ys) zs zero = let e : min 0 (suc (length ys)) ≡ 0 = omega arith in rw e refl
+prefix (y ∷ ys) zs (suc n) = let e : min (suc n) (suc (length ys)) ≡ suc (min n (length ys)) = omega arith in rw e (ap (λ t. y ∷ t) (prefix ys zs n))
 
 -- a prefix of one more piece is a prefix of the whole
 part-take : (xs : List (List ℕ)) (i : ℕ) (x : List ℕ) (n : ℕ) → i < length xs → x ≡ get_or xs i x → (m : ℕ) × (take m (concat xs) ≡ concat (take i xs) ++ take n x)
 part-take [] i x n lt is = absurd (omega arith)
-part-take (y ∷ xs) zero x n lt is = (min n (length y), rw is (front y (concat xs) n))
+part-take (y ∷ xs) zero x n lt is = (min n (length y), rw is (prefix y (concat xs) n))
 part-take (y ∷ xs) (suc i) x n lt is =
     let rest = part-take xs i x n (omega arith) is in
     (length y + rest.0, take-append-add y (concat xs) rest.0 ∙ ap (λ t. y ++ t) rest.1 ∙ sym (append_assoc y (concat (take i xs)) (take n x)))

@@ -6,22 +6,22 @@ use Rattle.std.specs.Result.{result_ok, IsErrAnd}
 use Rattle.sc_actor.specs.declared.rows.Row.{Row}
 use Rattle.sc_cmd.specs.declared.orders.OrderLine.{OrderLine}
 use Rattle.sc_edges.specs.Uses.{SourceUse}
-use Rattle.sc_journal_file.specs.Laws.{FirstBytesDecideFaults, ScenariosAreShort}
-use Rattle.sc_journal_file.specs.Stored.{most_file_bytes, IsBadFile, IsFileFault}
+use Rattle.sc_journal_file.specs.Laws.{FirstBytesDecideErrors, ScenariosAreShort}
+use Rattle.sc_journal_file.specs.Stored.{most_file_bytes, IsBadFile, IsFileError}
 use Rattle.sc_lines.specs.Lines.{most_bytes}
 use Rattle.sc_mail.specs.declared.bodies.Mail.{Mail}
 use Rattle.sc_scenario.specs.Grammar.{verdict_of}
 use Rattle.sc_scenario.specs.Valid.{FirstBytesDecide}
-use Rattle.sc_scenario.specs.declared.reading.ScenarioFault.{ScenarioFault}
-use Rattle.sc_scenario.specs.declared.reading.ScenarioFault.TheVariants.{Bad, OutOfMemory}
+use Rattle.sc_scenario.specs.declared.reading.ScenarioError.{ScenarioError}
+use Rattle.sc_scenario.specs.declared.reading.ScenarioError.TheVariants.{Bad, OutOfMemory}
 use Rattle.sc_scenario.specs.declared.scenarios.Scenario.{Scenario}
-use Rattle.sc_command_line.specs.Faults.{of_scenario, HasFault, IsBadText}
-use Rattle.sc_command_line.specs.declared.faults.InputFault.{InputFault}
+use Rattle.sc_command_line.specs.Errors.{of_scenario, HasError, IsBadText}
+use Rattle.sc_command_line.specs.declared.errors.InputError.{InputError}
 use Rattle.sc_command_line.specs.Inputs.{AreAll, ReadsFile, ReadsScenario, ReadsText, Stores}
 use Rattle.sc_lines.specs.declared.reasons.Reason.{Reason}
 
 -- what was read of a source comes out as the whole
-read_whole : FirstBytesDecide → (left : Option (List ℕ)) (bytes : List ℕ) (verdict : Result Scenario ScenarioFault) → IfSome left (λ input. bytes ≡ take (most_bytes + 1) input) → verdict_of bytes ≡ verdict → IfSome left (λ input. verdict_of input ≡ verdict)
+read_whole : FirstBytesDecide → (left : Option (List ℕ)) (bytes : List ℕ) (verdict : Result Scenario ScenarioError) → IfSome left (λ input. bytes ≡ take (most_bytes + 1) input) → verdict_of bytes ≡ verdict → IfSome left (λ input. verdict_of input ≡ verdict)
 read_whole decide None bytes verdict taken is = tt
 read_whole decide (Some input) bytes verdict taken is = sym (decide input) ∙ ap verdict_of (sym taken) ∙ is
 
@@ -48,21 +48,21 @@ pub reads_file : (left : Option (List ℕ)) (bytes : List ℕ) (scenario : Scena
 reads_file left bytes scenario rows taken stores = record { file = bytes; stores = stores; all = all_of most_file_bytes left bytes taken stores.is_file.within }
 
 -- the bytes that were read of a source are no scenario, and neither is the whole of it
-pub bad_text : FirstBytesDecide → (source : SourceUse) (bytes : List ℕ) (fault : ScenarioFault) → IfSome source.left (λ input. bytes ≡ take (most_bytes + 1) input) → (fault ≡ OutOfMemory) ⊎ (verdict_of bytes ≡ Err fault) → HasFault IsBadText source (of_scenario fault)
+pub bad_text : FirstBytesDecide → (source : SourceUse) (bytes : List ℕ) (error : ScenarioError) → IfSome source.left (λ input. bytes ≡ take (most_bytes + 1) input) → (error ≡ OutOfMemory) ⊎ (verdict_of bytes ≡ Err error) → HasError IsBadText source (of_scenario error)
 bad_text decide source bytes (Bad line why) taken (inl short) = absurd (let same : Bad line why ≡ OutOfMemory = short in cc)
 bad_text decide source bytes (Bad line why) taken (inr is) = read_whole decide source.left bytes (Err (Bad line why)) taken is
 bad_text decide source bytes OutOfMemory taken is = tt
 
-bad_whole : FirstBytesDecideFaults → (left : Option (List ℕ)) (bytes : List ℕ) (line : ℕ) (why : Reason) → IfSome left (λ input. bytes ≡ take (most_file_bytes + 1) input) → IsBadFile bytes line why → IfSome left (λ input. IsBadFile input line why)
+bad_whole : FirstBytesDecideErrors → (left : Option (List ℕ)) (bytes : List ℕ) (line : ℕ) (why : Reason) → IfSome left (λ input. bytes ≡ take (most_file_bytes + 1) input) → IsBadFile bytes line why → IfSome left (λ input. IsBadFile input line why)
 bad_whole decide None bytes line why taken bad = tt
 bad_whole decide (Some input) bytes line why taken bad = (decide input line why).0 (subst (λ file. IsBadFile file line why) taken bad)
 
 -- the bytes that were read of a source are no stored journal, and neither is the whole of it
-pub bad_file : FirstBytesDecideFaults → (source : SourceUse) (bytes : List ℕ) (fault : ScenarioFault) → IfSome source.left (λ input. bytes ≡ take (most_file_bytes + 1) input) → IsFileFault bytes fault → HasFault IsBadFile source (of_scenario fault)
+pub bad_file : FirstBytesDecideErrors → (source : SourceUse) (bytes : List ℕ) (error : ScenarioError) → IfSome source.left (λ input. bytes ≡ take (most_file_bytes + 1) input) → IsFileError bytes error → HasError IsBadFile source (of_scenario error)
 bad_file decide source bytes (Bad line why) taken bad = bad_whole decide source.left bytes line why taken bad
 bad_file decide source bytes OutOfMemory taken bad = tt
 
 -- an error that went on is the answer
-pub answers_fault : {T : Type 0} (answer : Result T InputFault) (P : T → Type 0) (Q : InputFault → Type 0) (fault : InputFault) → IsErrAnd answer (λ e. e ≡ fault) → Q fault → MatchResult answer P Q
-answers_fault (Ok x) P Q fault is holds = absurd is
-answers_fault (Err e) P Q fault is holds = subst Q (sym is) holds
+pub answers_error : {T : Type 0} (answer : Result T InputError) (P : T → Type 0) (Q : InputError → Type 0) (error : InputError) → IsErrAnd answer (λ e. e ≡ error) → Q error → MatchResult answer P Q
+answers_error (Ok x) P Q error is holds = absurd is
+answers_error (Err e) P Q error is holds = subst Q (sym is) holds

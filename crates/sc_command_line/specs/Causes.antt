@@ -8,7 +8,7 @@ use Rattle.sc_edges.specs.Uses.{SinkUse}
 use Rattle.sc_actor.specs.declared.schedules.Played.{Played}
 use Rattle.sc_actor.specs.declared.schedules.Played.TheVariants as Was
 use Rattle.sc_command_line.specs.declared.said.Said.{Said}
-use Rattle.sc_command_line.specs.declared.said.Said.TheVariants.{Ended, Unsettled, Filled, Usage, BadScenario, ReadFault, Lawful, Unlawful}
+use Rattle.sc_command_line.specs.declared.said.Said.TheVariants.{Ended, Unsettled, Filled, Usage, BadScenario, ReadError, Lawful, Unlawful}
 
 -- which text a run that ended begins
 abbrev pub said_of : Bool → Said
@@ -26,7 +26,7 @@ abbrev pub status_of : Said → ℕ
 status_of Ended = 0
 status_of Usage = 2
 status_of BadScenario = 3
-status_of ReadFault = 4
+status_of ReadError = 4
 status_of Unsettled = 6
 status_of Filled = 7
 status_of Lawful = 0
@@ -44,4 +44,4 @@ BringsFirst told told' lines = (n : ℕ) × BringsLines told told' (take n lines
 abbrev pub Prints : SinkUse → Said → List (List ℕ) → ℕ → Type 0
 Prints sink said lines status =
     ((status ≡ status_of said) × Appends sink.held_before sink.held_after (concat lines) × BringsLines sink.pieces_before sink.pieces_after lines)
-    ⊎ ((status ≡ 5) × AppendsPart sink.held_before sink.held_after (concat lines) × BringsFirst sink.pieces_before sink.pieces_after lines × Rose sink.faults_before sink.faults_after)
+    ⊎ ((status ≡ 5) × AppendsPart sink.held_before sink.held_after (concat lines) × BringsFirst sink.pieces_before sink.pieces_after lines × Rose sink.errors_before sink.errors_after)

@@ -8,36 +8,36 @@ use Rattle.sc_command_line.specs.declared.subcommands.Subcommand.{Subcommand}
 use Rattle.sc_command_line.specs.declared.subcommands.Subcommand.TheVariants.{Run, Journal, Audit, Pool, Explain}
 
 -- an argument that must be there, by its name
-abbrev pub word_rule : Text → Rule
-word_rule id = record (new_rule id) { required = true }
+abbrev pub argument_rule : Text → Rule
+argument_rule id = record (new_rule id) { required = true }
 
 -- `make N S`
 abbrev pub make_app : App
-make_app = with_rule (with_rule (new_app (codes "make")) (word_rule (codes "N"))) (word_rule (codes "S"))
+make_app = with_rule (with_rule (new_app (codes "make")) (argument_rule (codes "N"))) (argument_rule (codes "S"))
 
 -- `scan LO LEN`
 abbrev pub arc_app : App
-arc_app = with_rule (with_rule (new_app (codes "scan")) (word_rule (codes "LO"))) (word_rule (codes "LEN"))
+arc_app = with_rule (with_rule (new_app (codes "scan")) (argument_rule (codes "LO"))) (argument_rule (codes "LEN"))
 
 -- `scan LO LEN R MOST`
 abbrev pub scan_app : App
-scan_app = with_rule (with_rule arc_app (word_rule (codes "R"))) (word_rule (codes "MOST"))
+scan_app = with_rule (with_rule arc_app (argument_rule (codes "R"))) (argument_rule (codes "MOST"))
 
 -- `scatter` alone, whose arguments do not have the program's name before them
 abbrev pub bare_app : App
 bare_app = on_top (λ s. record s { no_binary_name = true }) (new_app (codes "scatter"))
 
 -- an app with one more subcommand, which has no arguments
-abbrev pub with_word : App → Text → App
-with_word app name = with_subcommand app (new_app name).top
+abbrev pub with_bare_subcommand : App → Text → App
+with_bare_subcommand app name = with_subcommand app (new_app name).top
 
 -- `scatter`, with the subcommands of one word: `run`, `journal`, `audit`, `pool` and `explain`
-abbrev pub words_app : App
-words_app = with_word (with_word (with_word (with_word (with_word bare_app (codes "run")) (codes "journal")) (codes "audit")) (codes "pool")) (codes "explain")
+abbrev pub bare_subcommands_app : App
+bare_subcommands_app = with_bare_subcommand (with_bare_subcommand (with_bare_subcommand (with_bare_subcommand (with_bare_subcommand bare_app (codes "run")) (codes "journal")) (codes "audit")) (codes "pool")) (codes "explain")
 
 -- `scatter`, with all its subcommands: these, `make` and `scan`
 abbrev pub scatter_app : App
-scatter_app = with_subcommand (with_subcommand words_app make_app.top) scan_app.top
+scatter_app = with_subcommand (with_subcommand bare_subcommands_app make_app.top) scan_app.top
 
 -- what the values of `make` spell
 abbrev pub make_in : List Row → Option Subcommand

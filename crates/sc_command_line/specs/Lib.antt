@@ -1,5 +1,5 @@
 pub mod Causes
 pub mod Commands
-pub mod Faults
+pub mod Errors
 pub mod Inputs
 pub mod Subcommands

@@ -2,10 +2,10 @@
 ghost use Rattle.std.specs.Prelude.{◌≤◌, ◌+◌, MatchResult};
 ghost use Rattle.sc_journal_file.specs.Stored.{most_file_bytes, IsBadFile};
 ghost use Rattle.sc_lines.specs.Lines.{most_bytes};
-ghost use Rattle.sc_command_line.specs.Faults.{HasFault, IsBadText};
+ghost use Rattle.sc_command_line.specs.Errors.{HasError, IsBadText};
 ghost use Rattle.sc_command_line.specs.Inputs.{ReadsFile, ReadsScenario, ReadsText};
 
-use crate::faults::InputFault;
+use crate::errors::InputError;
 use sc_actor::Journal;
 use sc_cmd::OrderLine;
 use sc_edges::{Source, read_all};
@@ -16,13 +16,13 @@ use std::alloc::Global;
 
 /// Reads the scenario that an input is. Fails with the first bad line of the input and its reason,
 /// at a read error, and where it runs out of memory.
-pub fn scenario_in<S: Source>(alloc: Global, input: &mut S) -> Result<Scenario, InputFault>
+pub fn scenario_in<S: Source>(alloc: Global, input: &mut S) -> Result<Scenario, InputError>
     ensures read { MatchResult result (λ scenario. ReadsScenario (S.left input.old) scenario)
-        (λ fault. HasFault IsBadText (record {
+        (λ error. HasError IsBadText (record {
           left = S.left input.old;
-          faults_before = S.faults input.old;
-          faults_after = S.faults input.new;
-        }) fault) }
+          errors_before = S.errors input.old;
+          errors_after = S.errors input.new;
+        }) error) }
     ensures calls { S.calls input.new ≤ S.calls input.old + (most_bytes + 2) }
 {
     let bytes = read_all(alloc, input, INPUT_LIMIT)?;
@@ -32,13 +32,13 @@ pub fn scenario_in<S: Source>(alloc: Global, input: &mut S) -> Result<Scenario, 
 
 /// Reads the scenario that an input is, and returns the input's bytes beside it. Fails as
 /// `scenario_in` does.
-pub fn text_in<S: Source>(alloc: Global, input: &mut S) -> Result<(Scenario, Vec<u8>), InputFault>
+pub fn text_in<S: Source>(alloc: Global, input: &mut S) -> Result<(Scenario, Vec<u8>), InputError>
     ensures read { MatchResult result (λ read. ReadsText (S.left input.old) read.0 read.1.items)
-        (λ fault. HasFault IsBadText (record {
+        (λ error. HasError IsBadText (record {
           left = S.left input.old;
-          faults_before = S.faults input.old;
-          faults_after = S.faults input.new;
-        }) fault) }
+          errors_before = S.errors input.old;
+          errors_after = S.errors input.new;
+        }) error) }
     ensures calls { S.calls input.new ≤ S.calls input.old + (most_bytes + 2) }
 {
     let bytes = read_all(alloc, input, INPUT_LIMIT)?;
@@ -53,13 +53,13 @@ pub fn text_in<S: Source>(alloc: Global, input: &mut S) -> Result<(Scenario, Vec
 pub fn file_in<S: Source>(
     alloc: Global,
     input: &mut S,
-) -> Result<(Scenario, Journal<Mail, OrderLine>), InputFault>
+) -> Result<(Scenario, Journal<Mail, OrderLine>), InputError>
     ensures read { MatchResult result (λ read. ReadsFile (S.left input.old) read.0 read.1)
-        (λ fault. HasFault IsBadFile (record {
+        (λ error. HasError IsBadFile (record {
           left = S.left input.old;
-          faults_before = S.faults input.old;
-          faults_after = S.faults input.new;
-        }) fault) }
+          errors_before = S.errors input.old;
+          errors_after = S.errors input.new;
+        }) error) }
     ensures calls { S.calls input.new ≤ S.calls input.old + (most_file_bytes + 2) }
 {
     let file = read_all(alloc, input, FILE_LIMIT)?;

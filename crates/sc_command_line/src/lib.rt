@@ -2,14 +2,14 @@
 //! each answer.
 #![tactic(auto)]
 
-mod faults;
+mod errors;
 mod inputs;
 mod parsing;
 mod printing;
 mod said;
 mod subcommands;
 
-pub use faults::{InputFault, fault_text};
+pub use errors::{InputError, error_text};
 pub use inputs::{file_in, scenario_in, text_in};
 pub use parsing::subcommand_by;
 pub use printing::print;

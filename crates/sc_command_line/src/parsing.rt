@@ -7,7 +7,7 @@ ghost use Rattle.clap.specs.Words.{app_of, first_of, found_of, kind_of, rows_of,
 ghost use Rattle.clap.specs.declared.builder.command.Command.TheViews.{out-Command};
 ghost use Rattle.sc_command_line.specs.Subcommands.{has_dash, is_known, is_plain, make_of, subcommand_by, IsInRange};
 ghost use Rattle.sc_command_line.specs.Subcommands.{is_run, is_journal, is_audit, is_pool, is_explain, reads_input, is_on_input, scan_of, whole_circle};
-ghost use Rattle.sc_command_line.specs.Commands.{make_app, arc_app, scan_app, bare_app, with_word, words_app, scatter_app};
+ghost use Rattle.sc_command_line.specs.Commands.{make_app, arc_app, scan_app, bare_app, with_bare_subcommand, bare_subcommands_app, scatter_app};
 ghost use Rattle.sc_command_line.specs.Commands.{make_in, scan_in, subcommand_as, subcommand_in};
 ghost use Rattle.sc_command_line.specs.declared.subcommands.Subcommand.TheVariants.{Run, Journal, Audit, Pool, Explain};
 
@@ -30,7 +30,7 @@ const WHOLE_CIRCLE: u64 = 4_294_967_296;
 const MOST_PAIRS: u32 = 1_000_000;
 
 // Returns the first argument, or the empty text where there is none.
-fn first_word(words: &[String]) -> &[u8]
+fn first_argument(words: &[String]) -> &[u8]
     ensures { result.now ≡ nth (map string_bytes words.now) 0 }
 {
     if 0 < words.len() {
@@ -76,7 +76,7 @@ fn is_known(word: &[u8]) -> bool
 fn is_plain(words: &[String]) -> bool
     ensures { result ≡ is_plain (map string_bytes words.now) }
 {
-    is_known(first_word(words)) && !have_dash(words)
+    is_known(first_argument(words)) && !have_dash(words)
 }
 
 fn make_command<'a>(alloc: Global) -> Result<Command<'a>, AllocError>
@@ -114,24 +114,24 @@ fn bare_command<'a>(alloc: Global) -> Command<'a>
 }
 
 // Adds a subcommand that has no arguments.
-fn with_word<'a>(
+fn with_bare_subcommand<'a>(
     alloc: Global,
     command: Command<'a>,
     name: &'a str,
 ) -> Result<Command<'a>, AllocError>
-    ensures { IfOk result (λ more. app_of more ≡ with_word (app_of command.entry) name.now) }
+    ensures { IfOk result (λ more. app_of more ≡ with_bare_subcommand (app_of command.entry) name.now) }
 {
     command.subcommand(Command::new(alloc, name))
 }
 
-fn words_command<'a>(alloc: Global) -> Result<Command<'a>, AllocError>
-    ensures { IfOk result (λ command. app_of command ≡ words_app) }
+fn bare_subcommands<'a>(alloc: Global) -> Result<Command<'a>, AllocError>
+    ensures { IfOk result (λ command. app_of command ≡ bare_subcommands_app) }
 {
-    let run = with_word(alloc, bare_command(alloc), "run")?;
-    let journal = with_word(alloc, run, "journal")?;
-    let audit = with_word(alloc, journal, "audit")?;
-    let pool = with_word(alloc, audit, "pool")?;
-    with_word(alloc, pool, "explain")
+    let run = with_bare_subcommand(alloc, bare_command(alloc), "run")?;
+    let journal = with_bare_subcommand(alloc, run, "journal")?;
+    let audit = with_bare_subcommand(alloc, journal, "audit")?;
+    let pool = with_bare_subcommand(alloc, audit, "pool")?;
+    with_bare_subcommand(alloc, pool, "explain")
 }
 
 fn command<'a>(alloc: Global) -> Result<Command<'a>, AllocError>
@@ -139,7 +139,7 @@ fn command<'a>(alloc: Global) -> Result<Command<'a>, AllocError>
 {
     let make = make_command(alloc)?;
     let scan = scan_command(alloc)?;
-    words_command(alloc)?.subcommand(make)?.subcommand(scan)
+    bare_subcommands(alloc)?.subcommand(make)?.subcommand(scan)
 }
 
 fn make_of(count: &str, seed: &str) -> Option<Subcommand>

@@ -16,7 +16,7 @@ fn put_all<K: Sink>(sink: &mut K, lines: &[ReportLine]) -> Result<(), Failed>
     ensures whole { OnOk result (Appends (K.held sink.old) (K.held sink.new) (concat lines.now)) }
     ensures part { OnErr result
         (AppendsPart (K.held sink.old) (K.held sink.new) (concat lines.now)) }
-    ensures cause { HasCause (K.faults sink.old) (K.faults sink.new) result }
+    ensures cause { HasCause (K.errors sink.old) (K.errors sink.new) result }
     ensures calls { K.calls sink.new ≤ K.calls sink.old + length lines.now }
     ensures each { OnOk result (BringsLines (K.pieces sink.old) (K.pieces sink.new) lines.now) }
     ensures first { OnErr result (BringsFirst (K.pieces sink.old) (K.pieces sink.new) lines.now) }
@@ -37,8 +37,8 @@ pub fn print<K: Sink>(sink: &mut K, said: Said, lines: &[ReportLine]) -> u8
       held_after = K.held sink.new;
       pieces_before = K.pieces sink.old;
       pieces_after = K.pieces sink.new;
-      faults_before = K.faults sink.old;
-      faults_after = K.faults sink.new;
+      errors_before = K.errors sink.old;
+      errors_after = K.errors sink.new;
       calls_before = K.calls sink.old;
       calls_after = K.calls sink.new;
     })

@@ -26,9 +26,9 @@ use Rattle.sc_paxos_words.proofs.ListLemmas.{Each-push}
 
 -- ---- facts of each
 
-each_front : {X : Type 0} (P : X → Type 0) (xs : List X) (x : X) → Each P (xs ++ x ∷ []) → Each P xs
-each_front P [] x all = tt
-each_front P (y ∷ xs) x all = (all.0, each_front P xs x all.1)
+each_prefix : {X : Type 0} (P : X → Type 0) (xs : List X) (x : X) → Each P (xs ++ x ∷ []) → Each P xs
+each_prefix P [] x all = tt
+each_prefix P (y ∷ xs) x all = (all.0, each_prefix P xs x all.1)
 
 pub each_of : {X : Type 0} (P : X → Type 0) (xs : List X) → ((x : X) → P x) → Each P xs
 each_of P [] all = tt
@@ -123,7 +123,7 @@ stable rows bases i (suc n) le calm = elim (last i n le) [
 each_before : (P : Base → Type 0) (bases : List Base) (base : Base) → Each P (with_birth bases base) → Each P bases
 each_before P bases base all = elim (cases_Bool (list_any (is_birth_of base.core.id) bases)) [
   | inl t ↦ subst (Each P) (cond-true (list_any (is_birth_of base.core.id) bases) bases (bases ++ base ∷ []) t) all
-  | inr f ↦ each_front P bases base (subst (Each P) (cond-false (list_any (is_birth_of base.core.id) bases) bases (bases ++ base ∷ []) f) all)
+  | inr f ↦ each_prefix P bases base (subst (Each P) (cond-false (list_any (is_birth_of base.core.id) bases) bases (bases ++ base ∷ []) f) all)
 ]
 
 each_earlier : (P : Base → Type 0) (bases children : List Base) → Each P (fold with_birth bases children) → Each P bases
@@ -164,8 +164,8 @@ pub first_push : (rows : List (Row Mail OrderLine)) (bases : List Base) (i : ℕ
     → AreKnown rows (take i bases) knowns → IsKnown rows known → known.base ≡ base → AreKnown rows (take (i + 1) bases) (knowns ++ known ∷ [])
 first_push rows bases i knowns base known within here are is born =
     let one : i + 1 ≡ suc i = omega arith in
-    let front : take (i + 1) bases ≡ take i bases ++ base ∷ [] = ap (λ (n : ℕ). take n bases) one ∙ take-suc bases i base within ∙ ap (λ (b : Base). take i bases ++ b ∷ []) (sym here) in
-    subst (λ (bs : List Base). AreKnown rows bs (knowns ++ known ∷ [])) (sym front) (known_push rows (take i bases) knowns base known are is born)
+    let prefix : take (i + 1) bases ≡ take i bases ++ base ∷ [] = ap (λ (n : ℕ). take n bases) one ∙ take-suc bases i base within ∙ ap (λ (b : Base). take i bases ++ b ∷ []) (sym here) in
+    subst (λ (bs : List Base). AreKnown rows bs (knowns ++ known ∷ [])) (sym prefix) (known_push rows (take i bases) knowns base known are is born)
 
 -- one more child
 pub births_push : (bases children : List Base) (i : ℕ) (child : Base) → i < length children → child ≡ get_or children i child

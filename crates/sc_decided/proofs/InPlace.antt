@@ -28,11 +28,11 @@ module _ (old now : List Known) (i : ℕ) (lt : i < length now) (long : length n
       → (Each (IsKnown rows) (take i old) → StayKnown rows later (take i old) (take i now)) → (IsKnown rows x → StaysKnown rows later x y)
       → Each (IsKnown rows) (take (i + 1) old) → StayKnown rows later (take (i + 1) old) (take (i + 1) (set now i y))
   stay_next rows later x y is so_far one each =
-      let front : take (i + 1) old ≡ take i old ++ x ∷ [] = take_more old i x (omega (arith, lt, long)) ∙ ap (λ (k : Known). take i old ++ k ∷ []) (sym (is ∙ (next_was x).0)) in
+      let prefix : take (i + 1) old ≡ take i old ++ x ∷ [] = take_more old i x (omega (arith, lt, long)) ∙ ap (λ (k : Known). take i old ++ k ∷ []) (sym (is ∙ (next_was x).0)) in
       let new : take (i + 1) (set now i y) ≡ take i now ++ y ∷ [] = take_more_set now i y lt in
-      subst (λ (ks : List Known). StayKnown rows later ks (take (i + 1) (set now i y))) (sym front)
+      subst (λ (ks : List Known). StayKnown rows later ks (take (i + 1) (set now i y))) (sym prefix)
       (subst (λ (ks : List Known). StayKnown rows later (take i old ++ x ∷ []) ks) (sym new)
-      (stay_push rows later (take i old) (take i now) x y (subst (Each (IsKnown rows)) front each) so_far one))
+      (stay_push rows later (take i old) (take i now) x y (subst (Each (IsKnown rows)) prefix each) so_far one))
 
 -- and in the end all do
 pub stay_all : (rows later : List (Row Mail OrderLine)) (old now : List Known) (i : ℕ) → length now ≤ i → length now ≡ length old

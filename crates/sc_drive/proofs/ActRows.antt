@@ -29,8 +29,8 @@ use Rattle.sc_workers.specs.Ends.{IsGathered}
 use Rattle.sc_workers.proofs.Lists.{get_any}
 use Rattle.sc_workers.proofs.Attending.{prefix_snoc, count_split}
 use Rattle.sc_drive.specs.Companies.{IsCompany}
-use Rattle.sc_drive.specs.Acts.{RowAdded, RowPasses, HasHalted, Told, KthIs, Served}
-use Rattle.sc_drive.proofs.RowCounts.{whole_front}
+use Rattle.sc_drive.specs.Acts.{RowAdded, RowPasses, HasHalted, AfterEvent, KthIs, AfterTurn}
+use Rattle.sc_drive.proofs.RowCounts.{whole_prefix}
 use Rattle.sc_drive.proofs.OneActed.{nothing_seen, row_seen, seen_before, shell_later, company_after}
 use Rattle.std.proofs.lemmas.List.{get_or-map, length-map}
 use Rattle.sc_turn.proofs.Lists.{starts_trans}
@@ -72,7 +72,7 @@ module _ {A M O : Type 0} {g : Ghosts A M O} {h : MailGhosts M} where
 
     -- between two prefixes of one length
     between : (low rows high : List (Row M O)) → StartsWith rows low → StartsWith high rows → high ≡ low → rows ≡ low
-    between low rows high a b e = whole_front low rows a (omega (arith, ap length a.1, length-append low a.0, ap length b.1, length-append rows b.0, ap length e))
+    between low rows high a b e = whole_prefix low rows a (omega (arith, ap length a.1, length-append low a.0, ap length b.1, length-append rows b.0, ap length e))
 
     replays_met : (e : Seat A) → (met.spent ≡ false) ⊎ (met.port.crashed ≡ true) → Replays met (get_or births k e).actor
     replays_met e runs = (was t).goes.replay (get_or births k e).actor (λ _. c.replay k t e lt) runs
@@ -124,20 +124,20 @@ module _ {A M O : Type 0} {g : Ghosts A M O} {h : MailGhosts M} where
         company_after births net mid next ss after k t c lt met was ahead stays looked len rest gathered rows (λ _. ap (λ (p : Port M O h). p.crashed) port ∙ crashed) (λ e. actor ∙ (replays_met e (inr crashed) ∙ (λ i. value g.table (record { who = (sym port i).who; actor = (get_or births k e).actor }) (seen (sym port i)))))
 
     -- what an event did
-    pub told_so : (event : Event O) (turn : Turn) → MayHappen event → Happens (state met) (state t) event turn → Told births k event net next ss after turn
-    told_so event (Did at) may x =
+    pub event_leaves : (event : Event O) (turn : Turn) → MayHappen event → Happens (state met) (state t) event turn → AfterEvent births k event net next ss after turn
+    event_leaves event (Did at) may x =
         let is : input_of [] event ≡ input_of (mails (seen net)) event = sym (input_steady event may (mails (seen net))) in (
           company_after births net mid next ss after k t c lt met was ahead stays looked len rest gathered rows (λ spent. x.1.4 ∙ (sym x.1.3 ∙ spent)) (λ e. keeps (get_or births k e).actor (λ _. replays_met e (inl x.0)) (crash_state (is_crash event) x.1.3 x.1.4)),
           row_added event (input_of [] event) x.0 is x.1.0,
           fits (row_at (state met) event (input_of [] event)) x.1.0 x.1.6,
           runs_is x.0,
         )
-    told_so event (Full bytes) may x =
+    event_leaves event (Full bytes) may x =
         let is : input_of [] event ≡ input_of (mails (seen net)) event = sym (input_steady event may (mails (seen net))) in
         (nothing x.1.0.made, passes event (input_of [] event) x.0 is x.1.0 x.1.1.1, runs_is x.0)
-    told_so event Spent may x = (spent_company x.0 x.1 x.2, nothing (ap made x.2), halted_is x.0)
-    told_so event (Empty told) may x = absurd x.1
-    told_so event OutOfMemory may x = tt
+    event_leaves event Spent may x = (spent_company x.0 x.1 x.2, nothing (ap made x.2), halted_is x.0)
+    event_leaves event (Empty told) may x = absurd x.1
+    event_leaves event OutOfMemory may x = tt
 
     module _ (n : ℕ) where
       -- the fetch saw the journal
@@ -161,21 +161,21 @@ module _ {A M O : Type 0} {g : Ghosts A M O} {h : MailGhosts M} where
       got_is f same = sym (ap (option_map Got) (ap (λ l. numbered (mails l) f.number) (sym same) ∙ f.mail_is))
 
       -- what a turn did
-      pub served_so : (turn : Turn) → Takes (state met) (state t) n turn → Served births k n net next ss after turn
-      served_so (Did at) x =
+      pub turn_leaves : (turn : Turn) → Takes (state met) (state t) n turn → AfterTurn births k n net next ss after turn
+      turn_leaves (Did at) x =
           let row = row_at (state met) (Deliver x.1.number) (Some (Got x.1.mail)) in
           let same = fetch_did x.1 row refl x.2.0 in (
             company_after births net mid next ss after k t c lt met was ahead stays looked len rest gathered rows (λ spent. absurd (true≢false (sym spent ∙ x.2.3))) (λ e. keeps (get_or births k e).actor (λ _. replays_met e (inl x.0)) (inl x.2.3)),
             (x.1.number, kth_is x.1 same, row_added (Deliver x.1.number) (Some (Got x.1.mail)) x.0 (got_is x.1 same) x.2.0),
             fits row x.2.0 x.2.6,
           )
-      served_so (Full bytes) x =
+      turn_leaves (Full bytes) x =
           let same = fetch_looked x.1 x.2.0 in
           (nothing x.2.0.made, (x.1.number, kth_is x.1 same, passes (Deliver x.1.number) (Some (Got x.1.mail)) x.0 (got_is x.1 same) x.2.0 x.2.1.1))
-      served_so (Empty told) x = (
+      turn_leaves (Empty told) x = (
         company_after births net mid next ss after k t c lt met was ahead stays looked len rest gathered rows (λ spent. absurd (true≢false (sym spent ∙ x.1.4))) (λ e. keeps (get_or births k e).actor (λ _. replays_met e (inl x.0)) (inl x.1.4)),
         nothing x.1.0.made,
         λ d. (λ i. kth_pending h.receiver (actors_are i) (sym (sees_same x.1.0) i) (sym (who_is d) i) n) ∙ x.1.2,
       )
-      served_so Spent x = (spent_company x.0 x.1 x.2, nothing (ap made x.2), halted_is x.0)
-      served_so OutOfMemory x = tt
+      turn_leaves Spent x = (spent_company x.0 x.1 x.2, nothing (ap made x.2), halted_is x.0)
+      turn_leaves OutOfMemory x = tt

@@ -20,7 +20,7 @@ use Rattle.sc_workers.specs.Crews.{crew_numbers}
 use Rattle.sc_drive.specs.Numbers.{is_in}
 use Rattle.sc_drive.specs.declared.company.Stop.TheVariants.{Full as TooMuch}
 use Rattle.sc_drive.specs.Companies.{IsCompany}
-use Rattle.sc_drive.specs.Acts.{HasHalted, Told, Served}
+use Rattle.sc_drive.specs.Acts.{HasHalted, AfterEvent, AfterTurn}
 use Rattle.sc_drive.specs.Stepping.{IsPlace, IsNowhere, Stepped, unless_crashed}
 use Rattle.sc_drive.proofs.Crashes.{both_out}
 use Rattle.sc_drive.proofs.SystemWords.{sys, acts_at, crashed_at, waiting_at, waiting_none, acts_none, waiting_crashed}
@@ -64,24 +64,24 @@ module _ {A M O : Type 0} {g : Ghosts A M O} {h : MailGhosts M} where
       may_is event runs = ap (λ b. cond b None (acts (sys words births net ss c) (seen net) who event)) (halted false runs) ∙ act_is event
 
       -- it made its row
-      pub happens_did : (event : Event O) (n : ℕ) → Told births place event net next ss after (Did n) → Stepped (sys words births net ss c) (unless_crashed (sys words births net ss c) (seen net) who event) net next after (Ok true)
+      pub happens_did : (event : Event O) (n : ℕ) → AfterEvent births place event net next ss after (Did n) → Stepped (sys words births net ss c) (unless_crashed (sys words births net ss c) (seen net) who event) net next after (Ok true)
       happens_did event n t = (t.0, (row_of g.table (get_or births place e) (seen net) event, may_is event t.3, t.1 e), t.2)
 
       -- its row would pass the limit
-      pub happens_full : (event : Event O) (n : ℕ) → Told births place event net next ss after (Full n) → Stepped (sys words births net ss c) (unless_crashed (sys words births net ss c) (seen net) who event) net next after (Err TooMuch)
+      pub happens_full : (event : Event O) (n : ℕ) → AfterEvent births place event net next ss after (Full n) → Stepped (sys words births net ss c) (unless_crashed (sys words births net ss c) (seen net) who event) net next after (Err TooMuch)
       happens_full event n t = ((row_of g.table (get_or births place e) (seen net) event, may_is event t.2, t.1 e), t.0)
 
       -- the actor has crashed
-      pub happens_spent : (event : Event O) → Told births place event net next ss after Spent → Stepped (sys words births net ss c) (unless_crashed (sys words births net ss c) (seen net) who event) net next after (Ok false)
+      pub happens_spent : (event : Event O) → AfterEvent births place event net next ss after Spent → Stepped (sys words births net ss c) (unless_crashed (sys words births net ss c) (seen net) who event) net next after (Ok false)
       happens_spent event t = (t.0, ap (λ b. cond b None (acts (sys words births net ss c) (seen net) who event)) (halted true t.2), t.1)
 
       -- a Go, of an actor that has not crashed
-      pub tells_did : (event : Event O) (n : ℕ) → Told births place event net next ss after (Did n) → Stepped (sys words births net ss c) (acts (sys words births net ss c) (seen net) who event) net next after (Ok true)
-      tells_did event n t = (t.0, (row_of g.table (get_or births place e) (seen net) event, act_is event, t.1 e), t.2)
+      pub event_answers_did : (event : Event O) (n : ℕ) → AfterEvent births place event net next ss after (Did n) → Stepped (sys words births net ss c) (acts (sys words births net ss c) (seen net) who event) net next after (Ok true)
+      event_answers_did event n t = (t.0, (row_of g.table (get_or births place e) (seen net) event, act_is event, t.1 e), t.2)
 
       -- its row would pass the limit
-      pub tells_full : (event : Event O) (n : ℕ) → Told births place event net next ss after (Full n) → Stepped (sys words births net ss c) (acts (sys words births net ss c) (seen net) who event) net next after (Err TooMuch)
-      tells_full event n t = ((row_of g.table (get_or births place e) (seen net) event, act_is event, t.1 e), t.0)
+      pub full_text : (event : Event O) (n : ℕ) → AfterEvent births place event net next ss after (Full n) → Stepped (sys words births net ss c) (acts (sys words births net ss c) (seen net) who event) net next after (Err TooMuch)
+      full_text event n t = ((row_of g.table (get_or births place e) (seen net) event, act_is event, t.1 e), t.0)
 
       -- the k-th pending mail
       kth_at : (k : ℕ) (o : Option ℕ) → kth_pending h.receiver net.actors (seen net) (get_or ss place d).port.who k ≡ o → kth (waiting (sys words births net ss c) (seen net) (Some who)) k ≡ o
@@ -91,27 +91,27 @@ module _ {A M O : Type 0} {g : Ghosts A M O} {h : MailGhosts M} where
       delivers k number is = ap (option_and_then (λ mail. acts (sys words births net ss c) (seen net) who (Deliver mail))) (kth_at k (Some number) is) ∙ act_is (Deliver number)
 
       -- a mail was delivered
-      pub delivers_did : (k n : ℕ) → Served births place k net next ss after (Did n) → Stepped (sys words births net ss c) (line_row (sys words births net ss c) (seen net) (DeliverLine who k)) net next after (Ok true)
+      pub delivers_did : (k n : ℕ) → AfterTurn births place k net next ss after (Did n) → Stepped (sys words births net ss c) (line_row (sys words births net ss c) (seen net) (DeliverLine who k)) net next after (Ok true)
       delivers_did k n t = (t.0, (row_of g.table (get_or births place e) (seen net) (Deliver t.1.0), delivers k t.1.0 (t.1.1 d), t.1.2 e), t.2)
 
       -- its row would pass the limit
-      pub delivers_full : (k n : ℕ) → Served births place k net next ss after (Full n) → Stepped (sys words births net ss c) (line_row (sys words births net ss c) (seen net) (DeliverLine who k)) net next after (Err TooMuch)
+      pub delivers_full : (k n : ℕ) → AfterTurn births place k net next ss after (Full n) → Stepped (sys words births net ss c) (line_row (sys words births net ss c) (seen net) (DeliverLine who k)) net next after (Err TooMuch)
       delivers_full k n t = ((row_of g.table (get_or births place e) (seen net) (Deliver t.1.0), delivers k t.1.0 (t.1.1 d), t.1.2 e), t.0)
 
       -- no k-th mail is pending
-      pub serves_empty : (k n : ℕ) → Served births place k net next ss after (Empty n) → kth (waiting (sys words births net ss c) (seen net) (Some who)) k ≡ None
+      pub serves_empty : (k n : ℕ) → AfterTurn births place k net next ss after (Empty n) → kth (waiting (sys words births net ss c) (seen net) (Some who)) k ≡ None
       serves_empty k n t = kth_at k None (t.2 d)
 
       -- nor for an actor that has crashed
-      pub serves_spent : (k : ℕ) → Served births place k net next ss after Spent → kth (waiting (sys words births net ss c) (seen net) (Some who)) k ≡ None
+      pub serves_spent : (k : ℕ) → AfterTurn births place k net next ss after Spent → kth (waiting (sys words births net ss c) (seen net) (Some who)) k ≡ None
       serves_spent k t = waiting_crashed words births net ss c who k (seen net) (halted true t.2)
 
       -- too few are pending
-      pub delivers_empty : (k n : ℕ) → Served births place k net next ss after (Empty n) → Stepped (sys words births net ss c) (line_row (sys words births net ss c) (seen net) (DeliverLine who k)) net next after (Ok false)
+      pub delivers_empty : (k n : ℕ) → AfterTurn births place k net next ss after (Empty n) → Stepped (sys words births net ss c) (line_row (sys words births net ss c) (seen net) (DeliverLine who k)) net next after (Ok false)
       delivers_empty k n t = (t.0, ap (option_and_then (λ mail. acts (sys words births net ss c) (seen net) who (Deliver mail))) (serves_empty k n t), t.1)
 
       -- the actor has crashed, and nothing is pending for it
-      pub delivers_spent : (k : ℕ) → Served births place k net next ss after Spent → Stepped (sys words births net ss c) (line_row (sys words births net ss c) (seen net) (DeliverLine who k)) net next after (Ok false)
+      pub delivers_spent : (k : ℕ) → AfterTurn births place k net next ss after Spent → Stepped (sys words births net ss c) (line_row (sys words births net ss c) (seen net) (DeliverLine who k)) net next after (Ok false)
       delivers_spent k t = (t.0, ap (option_and_then (λ mail. acts (sys words births net ss c) (seen net) who (Deliver mail))) (serves_spent k t), t.1)
 
     -- an actor that is not there

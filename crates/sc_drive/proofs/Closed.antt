@@ -21,13 +21,13 @@ use Rattle.sc_turn.proofs.Lists.{starts_trans}
 
 module _ {M O : Type 0} where
   -- a list that begins with another and has no more rows of any number is that one
-  pub no_more : (whole front : List (Row M O)) → StartsWith whole front → ((n : ℕ) → length (rows_of n whole) ≡ length (rows_of n front)) → whole ≡ front
-  no_more whole front begins same = by begins.0 begins.1
+  pub no_more : (whole prefix : List (Row M O)) → StartsWith whole prefix → ((n : ℕ) → length (rows_of n whole) ≡ length (rows_of n prefix)) → whole ≡ prefix
+  no_more whole prefix begins same = by begins.0 begins.1
     where
-      by : (rest : List (Row M O)) → whole ≡ front ++ rest → whole ≡ front
-      by [] e = e ∙ append-nil front
+      by : (rest : List (Row M O)) → whole ≡ prefix ++ rest → whole ≡ prefix
+      by [] e = e ∙ append-nil prefix
       by (row ∷ rest) e =
-          absurd (omega (arith, same row.who, ap (λ l. length (rows_of row.who l)) e, count_split row.who front rest row refl))
+          absurd (omega (arith, same row.who, ap (λ l. length (rows_of row.who l)) e, count_split row.who prefix rest row refl))
 
 module _ {A M O : Type 0} {g : Ghosts A M O} {h : MailGhosts M} where
   -- what the ports of shells made

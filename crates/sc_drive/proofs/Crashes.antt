@@ -12,7 +12,7 @@ use Rattle.sc_actor.specs.declared.rows.Event.TheVariants.{Deliver, Tick, Go, To
 use Rattle.sc_actor.specs.declared.schedules.Line.{Line}
 use Rattle.sc_actor.specs.declared.schedules.Line.TheVariants.{Go as GoLine, Deliver as DeliverLine, Drop as DropLine, Again as AgainLine, Tick as TickLine, Crash as CrashLine, Told as ToldLine, Settle, Free, Storm}
 use Rattle.sc_actor.specs.Mail.{mails, numbered, may_get, has_crashed, is_crash}
-use Rattle.sc_actor.specs.System.{System, acts, row_of, network, waiting, kth, numbers_of, has_gone}
+use Rattle.sc_actor.specs.System.{System, acts, row_of, network, waiting, kth, numbers_of, has_started}
 use Rattle.sc_actor.specs.Walk.{Task, Once, Settles, Frees, Storms, WalkPlace, Allows, MayAdd, IsWalk, IsLawful, after_row, start, onward, is_over, skips, cuts, rest_of_all, tasks_of, storm_steps, line_row, delivery, repeat_of, picked, storm_row}
 use Rattle.sc_actor.proofs.Induction.{find-who}
 
@@ -85,7 +85,7 @@ module _ {A M O : Type 0} (s : System A M O) (rows : List (Row M O)) (who : ℕ)
 
   -- a row of a line
   of_line : (line : Line O) → line_row s rows line ≡ Some row → line ≢ CrashLine who → IsNoCrash who row
-  of_line (GoLine w) e other = acted w Go (unless_is (has_gone rows w) (acts s rows w Go) e) refl
+  of_line (GoLine w) e other = acted w Go (unless_is (has_started rows w) (acts s rows w Go) e) refl
   of_line (DeliverLine w k) e other = delivered w (kth (waiting s rows (Some w)) k) e
   of_line (DropLine w k) e other = lost (kth (waiting s rows (Some w)) k) e
   of_line (AgainLine mail) e other = repeated mail e

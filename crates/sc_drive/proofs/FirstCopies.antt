@@ -29,7 +29,7 @@ use Rattle.sc_drive.specs.Lowest.{FindsLowest, IsFirstPlaced}
 use Rattle.sc_drive.proofs.SystemWords.{sys}
 use Rattle.sc_drive.proofs.LowestMail.{wider}
 use Rattle.sc_drive.proofs.OneActed.{count_seen, count_company}
-use Rattle.sc_drive.proofs.RowCounts.{flip, whole_front}
+use Rattle.sc_drive.proofs.RowCounts.{flip, whole_prefix}
 use Rattle.sc_drive.proofs.Seats.{cut_at}
 
 -- the first of the prefix and then of the rest
@@ -42,9 +42,9 @@ module _ {X : Type 0} (test : X → Bool) where
       by true e later = cc
       by false e later = later e
 
-  find_front : (xs ys : List X) (x : X) → find test xs ≡ Some x → find test (xs ++ ys) ≡ Some x
-  find_front [] ys x e = cc
-  find_front (y ∷ xs) ys x e = by (test y) e (find_front xs ys x)
+  find_prefix : (xs ys : List X) (x : X) → find test xs ≡ Some x → find test (xs ++ ys) ≡ Some x
+  find_prefix [] ys x e = cc
+  find_prefix (y ∷ xs) ys x e = by (test y) e (find_prefix xs ys x)
     where
       by : (b : Bool) → cond b (Some y) (find test xs) ≡ Some x → (find test xs ≡ Some x → find test (xs ++ ys) ≡ Some x) → cond b (Some y) (find test (xs ++ ys)) ≡ Some x
       by true e later = e
@@ -74,7 +74,7 @@ module _ (receivers : List ℕ) (has : ℕ → Bool) where
 
   stays_found : (ns : List ℕ) (spots : List Spot) (spot : Spot) → find gets spots ≡ Some spot → find gets (fold step spots ns) ≡ Some spot
   stays_found [] spots spot e = e
-  stays_found (n ∷ ns) spots spot e = stays_found ns (step spots n) spot (find_front gets spots (spot_after receivers spots n ∷ []) spot e)
+  stays_found (n ∷ ns) spots spot e = stays_found ns (step spots n) spot (find_prefix gets spots (spot_after receivers spots n ∷ []) spot e)
 
   spots_found : (ns : List ℕ) (spots : List Spot) → find gets spots ≡ None → Matches (find gets (fold step spots ns)) (find (λ n. has (to n)) ns)
   spots_found [] spots none = subst (λ o. Matches o None) (sym none) refl
@@ -186,7 +186,7 @@ module _ {A M O : Type 0} {g : Ghosts A M O} {h : MailGhosts M} where
         let first : net.who ≡ 0 = together.crew.first in
         let all = looked.stays.given in
         let long : length (seen net) ≡ length (seen next) = omega (arith, count_seen net ss first (sym looked.stays.given ∙ (sym looked2.stays.given ∙ (c.all ∙ same))) (ap (λ ws. apart (0 ∷ ws)) (sym same) ∙ c.far) together.over together.rows, count_company births next after c, still_rows ss after len still, ap length looked.made, ap length looked2.made) in
-        whole_front (seen mid) (seen next) looked2.later (omega (arith, long, shorter (seen net) (seen mid) looked.later, shorter (seen mid) (seen next) looked2.later))
+        whole_prefix (seen mid) (seen next) looked2.later (omega (arith, long, shorter (seen net) (seen mid) looked.later, shorter (seen mid) (seen next) looked2.later))
       where
         shorter : (xs zs : List (Row M O)) → StartsWith zs xs → length xs ≤ length zs
         shorter xs zs s = omega (arith, ap length s.1, length-append xs s.0)

@@ -12,7 +12,7 @@ use Rattle.sc_actor.specs.declared.rows.Row.{Row}
 use Rattle.sc_actor.specs.declared.rows.Event.TheVariants.{Deliver}
 use Rattle.sc_actor.specs.declared.schedules.Line.{Line}
 use Rattle.sc_actor.specs.Counted.{journal_bytes}
-use Rattle.sc_actor.specs.System.{System, row_of, acts, waiting, kth, has_gone, is_go}
+use Rattle.sc_actor.specs.System.{System, row_of, acts, waiting, kth, has_started, is_go}
 use Rattle.sc_actor.specs.Walk.{Task, Frees, is_over, is_quiet, first_of}
 use Rattle.sc_actor.proofs.WalkLemmas.{Stands, Stands-row}
 use Rattle.sc_actor.proofs.PendingLemmas.{some_waits}
@@ -82,38 +82,38 @@ module _ {A M O : Type 0} {g : Ghosts A M O} {h : MailGhosts M} where
         rows.others first_is_net n (λ z. true≢false (sym (eq-eqb n 0 z) ∙ parts.0)) (λ x. not_in n (crew_numbers ss) parts.1 (subst (λ ws. Contains ws n) (looked.stays.given ∙ c.all) x))
 
     -- the maker of a new row has a shell
-    maker_in : (front : List (Row M O)) (row : Row M O) (rest : List (Row M O)) → seen next ≡ front ++ row ∷ rest → StartsWith front (seen net) → is_in row.who (crew_numbers ss) ≡ true
-    maker_in front row rest is low = by (is_in row.who (0 ∷ crew_numbers ss)) refl
+    maker_in : (prefix : List (Row M O)) (row : Row M O) (rest : List (Row M O)) → seen next ≡ prefix ++ row ∷ rest → StartsWith prefix (seen net) → is_in row.who (crew_numbers ss) ≡ true
+    maker_in prefix row rest is low = by (is_in row.who (0 ∷ crew_numbers ss)) refl
       where
         net_count : length (rows_of 0 (seen net)) ≡ length (rows_of 0 (seen next))
         net_count =
             ap (λ n. length (rows_of n (seen net))) (sym c.first) ∙ (ap length c.rows.own ∙ (ap length (sym looked.made) ∙ (ap length (sym rows.own) ∙ ap (λ n. length (rows_of n (seen next))) first_is_net)))
 
         not_net : row.who ≡ 0 → ⊥
-        not_net z = absurd (omega (arith, net_count, ap (λ l. length (rows_of 0 l)) is, count_split 0 front rest row z, count_later 0 front (seen net) low))
+        not_net z = absurd (omega (arith, net_count, ap (λ l. length (rows_of 0 l)) is, count_split 0 prefix rest row z, count_later 0 prefix (seen net) low))
 
         by : (b : Bool) → is_in row.who (0 ∷ crew_numbers ss) ≡ b → is_in row.who (crew_numbers ss) ≡ true
         by true e = ap (λ b. b || is_in row.who (crew_numbers ss)) (sym (ne_eqb row.who 0 not_net)) ∙ e
-        by false e = absurd (omega (arith, ap length (closed row.who e), ap (λ l. length (rows_of row.who l)) is, count_split row.who front rest row refl))
+        by false e = absurd (omega (arith, ap length (closed row.who e), ap (λ l. length (rows_of row.who l)) is, count_split row.who prefix rest row refl))
 
     -- a new row is the first delivery of its actor
-    allowed : (front : List (Row M O)) (row : Row M O) (rest : List (Row M O)) → seen next ≡ front ++ row ∷ rest → StartsWith front (seen net) → (number : ℕ) × (kth (waiting world front (Some row.who)) 1 ≡ Some number) × (acts world front row.who (Deliver number) ≡ Some row) × (row.event ≡ Deliver number) × (journal_bytes h.weighs (front ++ row ∷ []) ≤ next.limit)
-    allowed front row rest is low =
-        let place = in_at row.who ss (maker_in front row rest is low) in
+    allowed : (prefix : List (Row M O)) (row : Row M O) (rest : List (Row M O)) → seen next ≡ prefix ++ row ∷ rest → StartsWith prefix (seen net) → (number : ℕ) × (kth (waiting world prefix (Some row.who)) 1 ≡ Some number) × (acts world prefix row.who (Deliver number) ≡ Some row) × (row.event ≡ Deliver number) × (journal_bytes h.weighs (prefix ++ row ∷ []) ≤ next.limit)
+    allowed prefix row rest is low =
+        let place = in_at row.who ss (maker_in prefix row rest is low) in
         let k = place.0 in
         let lt : k < length ss = place.1 in
         let d = one_of ss k lt in
         let e : Seat A = record { who = 0; actor = d.actor } in
         let who : (get_or ss k d).port.who ≡ row.who = place.2 d in
         let own : length (rows_of (get_or ss k d).port.who (seen net)) ≡ length (made (get_or ss k d).port) = ap length (c.over k d lt).own in
-        let new : length (made (get_or ss k d).port) ≤ length (rows_of (get_or ss k d).port.who front) = omega (arith, own, count_later (get_or ss k d).port.who front (seen net) low) in
-        let v : IsService (get_or ss k d) next.actors next.limit front row = (served k d lt).each front row rest is (sym who) new in
+        let new : length (made (get_or ss k d).port) ≤ length (rows_of (get_or ss k d).port.who prefix) = omega (arith, own, count_later (get_or ss k d).port.who prefix (seen net) low) in
+        let v : IsService (get_or ss k d) next.actors next.limit prefix row = (served k d lt).each prefix row rest is (sym who) new in
         let seat : (get_or births k e).who ≡ row.who = birth_number births net ss k d e c lt ∙ who in
-        let born : row ≡ row_of g.table (record { who = row.who; actor = (get_or births k e).actor }) front (Deliver v.number) = v.by_table (get_or births k e).actor (λ _. c.replay k d e lt) in
-        let same : row_of g.table (get_or births k e) front (Deliver v.number) ≡ row = (λ i. row_of g.table (record { who = seat i; actor = (get_or births k e).actor }) front (Deliver v.number)) ∙ sym born in (
+        let born : row ≡ row_of g.table (record { who = row.who; actor = (get_or births k e).actor }) prefix (Deliver v.number) = v.by_table (get_or births k e).actor (λ _. c.replay k d e lt) in
+        let same : row_of g.table (get_or births k e) prefix (Deliver v.number) ≡ row = (λ i. row_of g.table (record { who = seat i; actor = (get_or births k e).actor }) prefix (Deliver v.number)) ∙ sym born in (
           v.number,
-          ap (λ n. kth (waiting world front (Some n)) 1) (sym who) ∙ (sym (waiting_at words births net ss c k lt d front 1) ∙ ((λ i. kth_pending h.receiver (sym looked.stays.exchange.1 i) front (who i) 1) ∙ v.first)),
-          ap (λ n. acts world front n (Deliver v.number)) (sym who) ∙ (acts_at words births net ss c k lt d e front (Deliver v.number) ∙ ap Some same),
+          ap (λ n. kth (waiting world prefix (Some n)) 1) (sym who) ∙ (sym (waiting_at words births net ss c k lt d prefix 1) ∙ ((λ i. kth_pending h.receiver (sym looked.stays.exchange.1 i) prefix (who i) 1) ∙ v.first)),
+          ap (λ n. acts world prefix n (Deliver v.number)) (sym who) ∙ (acts_at words births net ss c k lt d e prefix (Deliver v.number) ∙ ap Some same),
           v.event,
           v.within,
         )
@@ -130,13 +130,13 @@ module _ {A M O : Type 0} {g : Ghosts A M O} {h : MailGhosts M} where
           let all : seen next ≡ seen net ++ done = looked.later.1 ∙ ap (λ l. seen net ++ l) (is ∙ append-nil done) in
           (subst (λ l. Stands world lines l (Frees (left - 0) ∷ tasks) skips_ cut) (sym all) (subst (λ n. Stands world lines (seen net ++ done) (Frees n ∷ tasks) skips_ cut) (omega arith) stands), subst (λ l. journal_bytes h.weighs l ≤ next.limit) (sym all) fits)
       walk_on done (row ∷ rest) is left enough fits stands =
-          let front = seen net ++ done in
-          let cut_here : seen next ≡ front ++ row ∷ rest = looked.later.1 ∙ (ap (λ l. seen net ++ l) is ∙ sym (append_assoc (seen net) done (row ∷ rest))) in
-          let a = allowed front row rest cut_here (done, refl) in
-          let may : first_of world front row.who ≡ Some row = ap (option_and_then (λ mail. acts world front row.who (Deliver mail))) a.1 ∙ a.2 in
-          let opens : is_over world front (Frees left) ≡ false = some_left left (is_quiet world front) (omega (arith, enough)) (some_waits world front row.who a.0 a.1) in
-          let next_stands : Stands world lines (front ++ row ∷ []) (Frees (left - 1) ∷ tasks) skips_ cut = Stands-row world lines front (Frees left) tasks skips_ cut row stands opens may in
-          let shift : front ++ row ∷ [] ≡ seen net ++ (done ++ row ∷ []) = append_assoc (seen net) done (row ∷ []) in
+          let prefix = seen net ++ done in
+          let cut_here : seen next ≡ prefix ++ row ∷ rest = looked.later.1 ∙ (ap (λ l. seen net ++ l) is ∙ sym (append_assoc (seen net) done (row ∷ rest))) in
+          let a = allowed prefix row rest cut_here (done, refl) in
+          let may : first_of world prefix row.who ≡ Some row = ap (option_and_then (λ mail. acts world prefix row.who (Deliver mail))) a.1 ∙ a.2 in
+          let opens : is_over world prefix (Frees left) ≡ false = some_left left (is_quiet world prefix) (omega (arith, enough)) (some_waits world prefix row.who a.0 a.1) in
+          let next_stands : Stands world lines (prefix ++ row ∷ []) (Frees (left - 1) ∷ tasks) skips_ cut = Stands-row world lines prefix (Frees left) tasks skips_ cut row stands opens may in
+          let shift : prefix ++ row ∷ [] ≡ seen net ++ (done ++ row ∷ []) = append_assoc (seen net) done (row ∷ []) in
           let step = walk_on (done ++ row ∷ []) rest (is ∙ sym (append_assoc done (row ∷ []) rest)) (left - 1) (omega (arith, enough))
           (subst (λ l. journal_bytes h.weighs l ≤ next.limit) shift a.4) (subst (λ l. Stands world lines l (Frees (left - 1) ∷ tasks) skips_ cut) shift next_stands) in
           let count : left - 1 - length rest ≡ left - length (row ∷ rest) = omega arith in
@@ -148,15 +148,15 @@ module _ {A M O : Type 0} {g : Ghosts A M O} {h : MailGhosts M} where
       free_walk left enough fits stands =
           walk_on [] more refl left enough (subst (λ l. journal_bytes h.weighs l ≤ next.limit) (sym (append-nil (seen net))) fits) (subst (λ l. Stands world lines l (Frees left ∷ tasks) skips_ cut) (sym (append-nil (seen net))) stands)
 
-    gone_on : (who : ℕ) (done rest : List (Row M O)) → more ≡ done ++ rest → has_gone (seen next) who ≡ has_gone (seen net ++ done) who
-    gone_on who done [] is = ap (λ l. has_gone l who) (looked.later.1 ∙ ap (λ l. seen net ++ l) (is ∙ append-nil done))
+    gone_on : (who : ℕ) (done rest : List (Row M O)) → more ≡ done ++ rest → has_started (seen next) who ≡ has_started (seen net ++ done) who
+    gone_on who done [] is = ap (λ l. has_started l who) (looked.later.1 ∙ ap (λ l. seen net ++ l) (is ∙ append-nil done))
     gone_on who done (row ∷ rest) is =
-        let front = seen net ++ done in
-        let cut_here : seen next ≡ front ++ row ∷ rest = looked.later.1 ∙ (ap (λ l. seen net ++ l) is ∙ sym (append_assoc (seen net) done (row ∷ rest))) in
-        let a = allowed front row rest cut_here (done, refl) in
+        let prefix = seen net ++ done in
+        let cut_here : seen next ≡ prefix ++ row ∷ rest = looked.later.1 ∙ (ap (λ l. seen net ++ l) is ∙ sym (append_assoc (seen net) done (row ∷ rest))) in
+        let a = allowed prefix row rest cut_here (done, refl) in
         gone_on who (done ++ row ∷ []) rest (is ∙ sym (append_assoc done (row ∷ []) rest))
-        ∙ (ap (λ l. has_gone l who) (sym (append_assoc (seen net) done (row ∷ []))) ∙ gone_push front row who (ap is_go a.3))
+        ∙ (ap (λ l. has_started l who) (sym (append_assoc (seen net) done (row ∷ []))) ∙ gone_push prefix row who (ap is_go a.3))
 
     -- none was told to go
-    pub gone_same : (who : ℕ) → has_gone (seen next) who ≡ has_gone (seen net) who
-    gone_same who = gone_on who [] more refl ∙ ap (λ l. has_gone l who) (append-nil (seen net))
+    pub gone_same : (who : ℕ) → has_started (seen next) who ≡ has_started (seen net) who
+    gone_same who = gone_on who [] more refl ∙ ap (λ l. has_started l who) (append-nil (seen net))

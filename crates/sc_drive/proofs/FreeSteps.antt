@@ -9,7 +9,7 @@ use Rattle.sc_actor.specs.declared.rows.Row.{Row}
 use Rattle.sc_actor.specs.declared.rows.Event.TheVariants.{Deliver}
 use Rattle.sc_actor.specs.declared.schedules.Line.{Line}
 use Rattle.sc_actor.specs.Counted.{row_bytes, journal_bytes, IsFull}
-use Rattle.sc_actor.specs.System.{System, system, row_of, acts, waiting, kth, has_gone}
+use Rattle.sc_actor.specs.System.{System, system, row_of, acts, waiting, kth, has_started}
 use Rattle.sc_actor.specs.Walk.{Task, Frees, is_over, is_quiet, first_of}
 use Rattle.sc_actor.proofs.WalkLemmas.{Stands, Stands-over, Stands-next}
 use Rattle.sc_ledger.specs.Pending.{kth_pending}
@@ -56,11 +56,11 @@ module _ {A M O : Type 0} {g : Ghosts A M O} {h : MailGhosts M} where
           free_walk words births net mid ss mids at.company looked len go over rows_mid served lines rest score.skipped score.unsettled most few (subst (λ n. journal_bytes h.weighs (seen net) ≤ n) (sym limit_mid) at.within)
           (record { lawful = at.lawful; place = at.place })
 
-      gone_mid : (who : ℕ) → has_gone (seen mid) who ≡ has_gone (seen net) who
+      gone_mid : (who : ℕ) → has_started (seen mid) who ≡ has_started (seen net) who
       gone_mid = gone_same words births net mid ss mids at.company looked len go over rows_mid served
 
-      ended : AllSound mids → (few : length looked.later.0 ≤ most) (cut : Bool) → is_quiet (system g.table h.receiver words births) (seen mid) ≡ not cut → is_over (system g.table h.receiver words births) (seen mid) (let task : Task O = Frees (most - length looked.later.0) in task) ≡ true → now.skipped ≡ score.skipped → now.unsettled ≡ (score.unsettled || cut) → now.gone.items ≡ score.gone.items → HasReached words births lines next after now rest
-      ended sound few cut quiet done skipped unsettled gone =
+      ended : AllSound mids → (few : length looked.later.0 ≤ most) (cut : Bool) → is_quiet (system g.table h.receiver words births) (seen mid) ≡ not cut → is_over (system g.table h.receiver words births) (seen mid) (let task : Task O = Frees (most - length looked.later.0) in task) ≡ true → now.skipped ≡ score.skipped → now.unsettled ≡ (score.unsettled || cut) → now.started.items ≡ score.started.items → HasReached words births lines next after now rest
+      ended sound few cut quiet done skipped unsettled started =
           let c1 = company_go births net mid ss mids at.company looked len go over rows_mid sound in
           let c2 = company_still births mid next mids after c1 looked2 len2 still gathered rows in
           let w = walked few in
@@ -72,7 +72,7 @@ module _ {A M O : Type 0} {g : Ghosts A M O} {h : MailGhosts M} where
             lawful = there.lawful;
             place = there.place;
             company = c2.0;
-            told = λ who. ap (is_in who) gone ∙ (at.told who ∙ (sym (gone_mid who) ∙ ap (λ l. has_gone l who) (sym c2.1)));
+            told = λ who. ap (is_in who) started ∙ (at.told who ∙ (sym (gone_mid who) ∙ ap (λ l. has_started l who) (sym c2.1)));
             within = subst (λ (p : List (Row M O) × ℕ). journal_bytes h.weighs p.0 ≤ p.1) (λ i. (sym c2.1 i, sym looked2.stays.exchange.2 i)) w.1;
           }
         where
@@ -102,19 +102,19 @@ module _ {A M O : Type 0} {g : Ghosts A M O} {h : MailGhosts M} where
           }
 
     -- a free line at whose end nothing is pending
-    pub frees_quiet : (used : ℕ) → IsEnd (Quiet used) mid ss mids (crew_numbers ss) most → now.skipped ≡ score.skipped → now.unsettled ≡ score.unsettled → now.gone.items ≡ score.gone.items → Goes net ss score (Frees most ∷ []) next after now []
-    frees_quiet used e skipped unsettled gone = λ words births lines rest at.
+    pub frees_quiet : (used : ℕ) → IsEnd (Quiet used) mid ss mids (crew_numbers ss) most → now.skipped ≡ score.skipped → now.unsettled ≡ score.unsettled → now.started.items ≡ score.started.items → Goes net ss score (Frees most ∷ []) next after now []
+    frees_quiet used e skipped unsettled started = λ words births lines rest at.
         let n = count words births lines rest at e.0 e.4 in
         let quiet = quiet_after words births net mid ss at.company looked.stays.exchange.1 e.1 in
-        ended words births lines rest at e.0 e.4 e.5 (omega (arith, n, e.2, e.3)) false quiet (ap (λ b. eqb (most - length looked.later.0) 0 || b) quiet ∙ or-true (eqb (most - length looked.later.0) 0)) skipped (unsettled ∙ sym (or-false score.unsettled)) gone
+        ended words births lines rest at e.0 e.4 e.5 (omega (arith, n, e.2, e.3)) false quiet (ap (λ b. eqb (most - length looked.later.0) 0 || b) quiet ∙ or-true (eqb (most - length looked.later.0) 0)) skipped (unsettled ∙ sym (or-false score.unsettled)) started
 
     -- one that ends with mail pending
-    pub frees_cut : (used : ℕ) → IsEnd (Limit used) mid ss mids (crew_numbers ss) most → now.skipped ≡ score.skipped → now.unsettled ≡ true → now.gone.items ≡ score.gone.items → Goes net ss score (Frees most ∷ []) next after now []
-    frees_cut used e skipped unsettled gone = λ words births lines rest at.
+    pub frees_cut : (used : ℕ) → IsEnd (Limit used) mid ss mids (crew_numbers ss) most → now.skipped ≡ score.skipped → now.unsettled ≡ true → now.started.items ≡ score.started.items → Goes net ss score (Frees most ∷ []) next after now []
+    frees_cut used e skipped unsettled started = λ words births lines rest at.
         let n = count words births lines rest at e.0 e.4 in
         let loud = cut_after words births net mid ss at.company looked.stays.exchange.1 e.1 in
         let none : most - length looked.later.0 ≡ 0 = omega (arith, n, e.2, e.3) in
-        ended words births lines rest at e.0 e.4 e.5 (omega (arith, n, e.2, e.3)) true loud (ap (λ k. eqb k 0 || is_quiet (system g.table h.receiver words births) (seen mid)) none) skipped (unsettled ∙ sym (or-true score.unsettled)) gone
+        ended words births lines rest at e.0 e.4 e.5 (omega (arith, n, e.2, e.3)) true loud (ap (λ k. eqb k 0 || is_quiet (system g.table h.receiver words births) (seen mid)) none) skipped (unsettled ∙ sym (or-true score.unsettled)) started
 
     -- one that comes to a row that passes the limit
     pub frees_full : (bytes : ℕ) → IsEnd (Full bytes) mid ss mids (crew_numbers ss) most → Fills net ss score (Frees most ∷ []) next

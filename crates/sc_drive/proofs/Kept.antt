@@ -14,7 +14,7 @@ use Rattle.sc_workers.specs.Ends.{IsGathered}
 use Rattle.sc_workers.proofs.Lists.{get_any}
 use Rattle.sc_workers.proofs.Crews.{all_of_go, all_of_later, all_of_on, later_then, stays_same as stays_self, still_all_go, still_later, still_sound}
 use Rattle.sc_workers.proofs.Serving.{numbers_go}
-use Rattle.sc_drive.specs.Acts.{IsTold, SoundAfter}
+use Rattle.sc_drive.specs.Acts.{IsEventAnswer, SoundAfter}
 use Rattle.sc_drive.specs.Goings.{IsKept, IsOn, IsTogether}
 use Rattle.sc_drive.proofs.OneActed.{length_set, numbers_set, set_all, sound_acted}
 use Rattle.sc_exchange.proofs.Knowing.{looked_trans, stays_trans}
@@ -115,25 +115,25 @@ module _ {A M O : Type 0} {g : Ghosts A M O} {h : MailGhosts M} where
     sound_all mine = sound_acted ss after k t lt sound mine len rest
 
     -- after an event
-    pub sound_told : (event : Event O) (turn : Turn) → Happens (state met) (state t) event turn → SoundAfter turn after
-    sound_told event (Did at) x = sound_all (λ spent. x.1.4 ∙ (sym x.1.3 ∙ spent))
-    sound_told event (Empty told) x = absurd x.1
-    sound_told event (Full bytes) x = tt
-    sound_told event Spent x = sound_all (sound_same x.2 x.0)
-    sound_told event OutOfMemory x = tt
+    pub sound_after_event : (event : Event O) (turn : Turn) → Happens (state met) (state t) event turn → SoundAfter turn after
+    sound_after_event event (Did at) x = sound_all (λ spent. x.1.4 ∙ (sym x.1.3 ∙ spent))
+    sound_after_event event (Empty told) x = absurd x.1
+    sound_after_event event (Full bytes) x = tt
+    sound_after_event event Spent x = sound_all (sound_same x.2 x.0)
+    sound_after_event event OutOfMemory x = tt
 
     -- after a turn
-    pub sound_served : (n : ℕ) (turn : Turn) → Takes (state met) (state t) n turn → SoundAfter turn after
-    sound_served n (Did at) x = sound_all (λ spent. absurd (true≢false (sym spent ∙ x.2.3)))
-    sound_served n (Empty told) x = sound_all (λ spent. absurd (true≢false (sym spent ∙ x.1.4)))
-    sound_served n (Full bytes) x = tt
-    sound_served n Spent x = sound_all (sound_same x.2 x.0)
-    sound_served n OutOfMemory x = tt
+    pub sound_after_turn : (n : ℕ) (turn : Turn) → Takes (state met) (state t) n turn → SoundAfter turn after
+    sound_after_turn n (Did at) x = sound_all (λ spent. absurd (true≢false (sym spent ∙ x.2.3)))
+    sound_after_turn n (Empty told) x = sound_all (λ spent. absurd (true≢false (sym spent ∙ x.1.4)))
+    sound_after_turn n (Full bytes) x = tt
+    sound_after_turn n Spent x = sound_all (sound_same x.2 x.0)
+    sound_after_turn n OutOfMemory x = tt
 
   -- an event is no fetch
-  pub told_is : (s t : State A M O g h) (event : Event O) (turn : Turn) → Happens s t event turn → IsTold turn
-  told_is s t event (Did at) x = tt
-  told_is s t event (Empty told) x = absurd x.1
-  told_is s t event (Full bytes) x = tt
-  told_is s t event Spent x = tt
-  told_is s t event OutOfMemory x = tt
+  pub is_event_answer : (s t : State A M O g h) (event : Event O) (turn : Turn) → Happens s t event turn → IsEventAnswer turn
+  is_event_answer s t event (Did at) x = tt
+  is_event_answer s t event (Empty told) x = absurd x.1
+  is_event_answer s t event (Full bytes) x = tt
+  is_event_answer s t event Spent x = tt
+  is_event_answer s t event OutOfMemory x = tt

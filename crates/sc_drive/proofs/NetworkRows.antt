@@ -28,7 +28,7 @@ use Rattle.sc_drive.specs.declared.company.Stop.TheVariants.{Full as TooMuch, Ou
 use Rattle.sc_drive.specs.Numbers.{is_in, apart}
 use Rattle.sc_drive.specs.Companies.{IsCompany}
 use Rattle.sc_drive.specs.Stepping.{IsPlace, IsNowhere, Stepped}
-use Rattle.sc_drive.proofs.RowCounts.{whole_front}
+use Rattle.sc_drive.proofs.RowCounts.{whole_prefix}
 use Rattle.sc_drive.proofs.OneActed.{one_seen, none_seen, replays_of, count_company}
 use Rattle.sc_drive.proofs.SystemWords.{sys, waiting_at, waiting_none, upto_has, births_have, any_out, births_long}
 use Rattle.sc_drive.proofs.ActRows.{birth_number}
@@ -59,7 +59,7 @@ pending_found receiver actors rows (suc w) (suc k) number ne e =
 module _ {M O : Type 0} {h : MailGhosts M} where
   -- before a prefix of one list
   pub front_same : (net first : Port M O h) (before : List (Row M O)) → StartsWith (seen first) (seen net) → StartsWith before (seen first) → before ≡ seen net → seen first ≡ seen net
-  front_same net first before a b e = whole_front (seen net) (seen first) a (omega (arith, ap length a.1, length-append (seen net) a.0, ap length b.1, length-append (seen first) b.0, ap length e))
+  front_same net first before a b e = whole_prefix (seen net) (seen first) a (omega (arith, ap length a.1, length-append (seen net) a.0, ap length b.1, length-append (seen first) b.0, ap length e))
 
 module _ {A M O : Type 0} {g : Ghosts A M O} {h : MailGhosts M} where
   -- the network's port changed, and all have gathered
@@ -97,7 +97,7 @@ module _ {A M O : Type 0} {g : Ghosts A M O} {h : MailGhosts M} where
     pub mid_same : (l : Looked net mid) → seen mid ≡ seen net
     mid_same l =
         let a = l.later in let b = looked.later in
-        whole_front (seen net) (seen mid) a (omega (arith, ap length a.1, length-append (seen net) a.0, ap length b.1, length-append (seen mid) b.0, ap length (net_same l)))
+        whole_prefix (seen net) (seen mid) a (omega (arith, ap length a.1, length-append (seen net) a.0, ap length b.1, length-append (seen mid) b.0, ap length (net_same l)))
 
   -- mail of an actor that there is not
   pub loses_nowhere : (words : ℕ → ℕ → ℕ × ℕ) (births : List (Seat A)) (net : Port M O h) (ss : List (Shell A M O g h)) (c : IsCompany births net ss) (who k : ℕ) → IsNowhere ss who → Stepped (sys words births net ss c) (line_row (sys words births net ss c) (seen net) (DropLine who k)) net net ss (Ok false)

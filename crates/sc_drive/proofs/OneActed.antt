@@ -19,7 +19,7 @@ use Rattle.sc_workers.proofs.Crews.{still_rows, still_all_go}
 use Rattle.sc_workers.proofs.Serving.{numbers_go}
 use Rattle.sc_drive.specs.Numbers.{is_in, apart}
 use Rattle.sc_drive.specs.Companies.{IsCompany}
-use Rattle.sc_drive.proofs.RowCounts.{count_rows, all_in, not_in, sum_map, sum_each, whole_front}
+use Rattle.sc_drive.proofs.RowCounts.{count_rows, all_in, not_in, sum_map, sum_each, whole_prefix}
 use Rattle.std.proofs.lemmas.Bool.{or_parts}
 use Rattle.std.proofs.lemmas.List.Sums.{sum_by-cons}
 use Rattle.sc_turn.proofs.Lists.{starts_trans}
@@ -43,16 +43,16 @@ module _ {A M O : Type 0} {g : Ghosts A M O} {h : MailGhosts M} where
 module _ {M O : Type 0} {h : MailGhosts M} where
   -- nothing was made in between
   pub none_seen : (net next : Port M O h) (n : ℕ) → StartsWith (seen next) (seen net) → length (seen net) ≡ n → length (seen next) ≡ n → seen next ≡ seen net
-  none_seen net next n later a b = whole_front (seen net) (seen next) later (omega (arith, a, b))
+  none_seen net next n later a b = whole_prefix (seen net) (seen next) later (omega (arith, a, b))
 
   -- one row was made in between
-  pub one_seen : (net next : Port M O h) (before front : List (Row M O)) (row : Row M O) → StartsWith (seen next) (seen net) → StartsWith before (seen net) → front ≡ before ++ row ∷ [] → StartsWith (seen next) front → length (seen next) ≡ length (seen net) + 1 → (before ≡ seen net) × (seen next ≡ seen net ++ row ∷ [])
-  one_seen net next before front row later low is high count =
-      let long : length front ≡ length before + 1 = ap length is ∙ length-append before (row ∷ []) in
-      let most : length front ≤ length (seen next) = omega (arith, ap length high.1, length-append front high.0) in
+  pub one_seen : (net next : Port M O h) (before prefix : List (Row M O)) (row : Row M O) → StartsWith (seen next) (seen net) → StartsWith before (seen net) → prefix ≡ before ++ row ∷ [] → StartsWith (seen next) prefix → length (seen next) ≡ length (seen net) + 1 → (before ≡ seen net) × (seen next ≡ seen net ++ row ∷ [])
+  one_seen net next before prefix row later low is high count =
+      let long : length prefix ≡ length before + 1 = ap length is ∙ length-append before (row ∷ []) in
+      let most : length prefix ≤ length (seen next) = omega (arith, ap length high.1, length-append prefix high.0) in
       let least : length (seen net) ≤ length before = omega (arith, ap length low.1, length-append (seen net) low.0) in
-      let same : before ≡ seen net = whole_front (seen net) before low (omega (arith, long, most, least, count)) in
-      (same, whole_front front (seen next) high (omega (arith, count, long, ap length same)) ∙ (is ∙ ap (λ l. l ++ row ∷ []) same))
+      let same : before ≡ seen net = whole_prefix (seen net) before low (omega (arith, long, most, least, count)) in
+      (same, whole_prefix prefix (seen next) high (omega (arith, count, long, ap length same)) ∙ (is ∙ ap (λ l. l ++ row ∷ []) same))
 
 -- one shell of a list is another
 module _ {X : Type 0} where
@@ -149,7 +149,7 @@ module _ {A M O : Type 0} {g : Ghosts A M O} {h : MailGhosts M} where
     seen_before row a =
         let low : StartsWith (seen met.port) (seen net) = ahead.begins in
         let high : StartsWith (seen net) (seen met.port) = subst (λ l. StartsWith l (seen met.port)) (row_seen row a).0 a.later in
-        whole_front (seen net) (seen met.port) low (omega (arith, ap length low.1, length-append (seen net) low.0, ap length high.1, length-append (seen met.port) high.0))
+        whole_prefix (seen net) (seen met.port) low (omega (arith, ap length low.1, length-append (seen net) low.0, ap length high.1, length-append (seen met.port) high.0))
 
     -- the shells are a company again
     pub company_after : Sound t → ((e : Seat A) → Replays t (get_or births k e).actor) → IsCompany births next after

@@ -109,19 +109,19 @@ not_in n (w ∷ ws) out = λ c. at c.0 c.1 c.2 (not_in n ws parts.1)
 
 -- prefixes of one list
 module _ {X : Type 0} where
-  pub same_front : (xs ys zs : List X) → StartsWith zs xs → StartsWith zs ys → length xs ≡ length ys → xs ≡ ys
-  same_front [] [] zs a b l = refl
-  same_front [] (y ∷ ys) zs a b l = absurd (omega (arith, l))
-  same_front (x ∷ xs) [] zs a b l = absurd (omega (arith, l))
-  same_front (x ∷ xs) (y ∷ ys) [] a b l = (let bad : [] ≡ x ∷ (xs ++ a.0) = a.1 in cc)
-  same_front (x ∷ xs) (y ∷ ys) (z ∷ zs) a b l =
+  pub same_prefix : (xs ys zs : List X) → StartsWith zs xs → StartsWith zs ys → length xs ≡ length ys → xs ≡ ys
+  same_prefix [] [] zs a b l = refl
+  same_prefix [] (y ∷ ys) zs a b l = absurd (omega (arith, l))
+  same_prefix (x ∷ xs) [] zs a b l = absurd (omega (arith, l))
+  same_prefix (x ∷ xs) (y ∷ ys) [] a b l = (let bad : [] ≡ x ∷ (xs ++ a.0) = a.1 in cc)
+  same_prefix (x ∷ xs) (y ∷ ys) (z ∷ zs) a b l =
       let e = a.1 in let f = b.1 in
       let first : z ≡ x = cc in
       let second : z ≡ y = cc in
       let left : zs ≡ xs ++ a.0 = cc in
       let right : zs ≡ ys ++ b.0 = cc in
-      λ i. (sym first ∙ second) i ∷ same_front xs ys zs (a.0, left) (b.0, right) (omega (arith, l)) i
+      λ i. (sym first ∙ second) i ∷ same_prefix xs ys zs (a.0, left) (b.0, right) (omega (arith, l)) i
 
   -- a prefix as long as the list is the list
-  pub whole_front : (xs zs : List X) → StartsWith zs xs → length zs ≡ length xs → zs ≡ xs
-  whole_front xs zs a l = same_front zs xs zs ([], sym (append-nil zs)) a l
+  pub whole_prefix : (xs zs : List X) → StartsWith zs xs → length zs ≡ length xs → zs ≡ xs
+  whole_prefix xs zs a l = same_prefix zs xs zs ([], sym (append-nil zs)) a l

@@ -22,20 +22,20 @@ cut_at (y ∷ ys) zero x lt is = (ys, ap (λ z. z ∷ ys) (sym is))
 cut_at (y ∷ ys) (suc n) x lt is = let c = cut_at ys n x (omega (arith, lt)) is in (c.0, ap (λ l. y ∷ l) c.1)
 
 module _ {A : Type 0} where
-  none_has : (n : ℕ) (front : List (Seat A)) (seat : Seat A) (rest : List (Seat A)) → list_any (λ (other : Seat A). eqb other.who n) (front ++ seat ∷ rest) ≡ false → eqb seat.who n ≡ false
+  none_has : (n : ℕ) (prefix : List (Seat A)) (seat : Seat A) (rest : List (Seat A)) → list_any (λ (other : Seat A). eqb other.who n) (prefix ++ seat ∷ rest) ≡ false → eqb seat.who n ≡ false
   none_has n [] seat rest e = (or_parts (eqb seat.who n) (list_any (λ (other : Seat A). eqb other.who n) rest) e).0
-  none_has n (f ∷ front) seat rest e = none_has n front seat rest (or_parts (eqb f.who n) (list_any (λ (other : Seat A). eqb other.who n) (front ++ seat ∷ rest)) e).1
+  none_has n (f ∷ prefix) seat rest e = none_has n prefix seat rest (or_parts (eqb f.who n) (list_any (λ (other : Seat A). eqb other.who n) (prefix ++ seat ∷ rest)) e).1
 
   -- a seat's number is none of those before it
-  pub new_number : (front : List (Seat A)) (seat : Seat A) (rest : List (Seat A)) → are_apart (front ++ seat ∷ rest) ≡ true → ¬ Contains (numbers_of front) seat.who
+  pub new_number : (prefix : List (Seat A)) (seat : Seat A) (rest : List (Seat A)) → are_apart (prefix ++ seat ∷ rest) ≡ true → ¬ Contains (numbers_of prefix) seat.who
   new_number [] seat rest far = λ c. absurd (omega (arith, c.1))
-  new_number (f ∷ front) seat rest far = λ c. at c.0 c.1 c.2 (new_number front seat rest)
+  new_number (f ∷ prefix) seat rest far = λ c. at c.0 c.1 c.2 (new_number prefix seat rest)
     where
-      parts : (not (list_any (λ (other : Seat A). eqb other.who f.who) (front ++ seat ∷ rest)) ≡ true) × (are_apart (front ++ seat ∷ rest) ≡ true)
-      parts = and_parts (not (list_any (λ (other : Seat A). eqb other.who f.who) (front ++ seat ∷ rest))) (are_apart (front ++ seat ∷ rest)) far
+      parts : (not (list_any (λ (other : Seat A). eqb other.who f.who) (prefix ++ seat ∷ rest)) ≡ true) × (are_apart (prefix ++ seat ∷ rest) ≡ true)
+      parts = and_parts (not (list_any (λ (other : Seat A). eqb other.who f.who) (prefix ++ seat ∷ rest))) (are_apart (prefix ++ seat ∷ rest)) far
 
-      at : (i : ℕ) → i < length (numbers_of (f ∷ front)) → get_or (numbers_of (f ∷ front)) i seat.who ≡ seat.who → (are_apart (front ++ seat ∷ rest) ≡ true → ¬ Contains (numbers_of front) seat.who) → ⊥
-      at zero lt is before = true≢false (sym (eq-eqb seat.who f.who (sym is)) ∙ none_has f.who front seat rest (not-true (list_any (λ (other : Seat A). eqb other.who f.who) (front ++ seat ∷ rest)) parts.0))
+      at : (i : ℕ) → i < length (numbers_of (f ∷ prefix)) → get_or (numbers_of (f ∷ prefix)) i seat.who ≡ seat.who → (are_apart (prefix ++ seat ∷ rest) ≡ true → ¬ Contains (numbers_of prefix) seat.who) → ⊥
+      at zero lt is before = true≢false (sym (eq-eqb seat.who f.who (sym is)) ∙ none_has f.who prefix seat rest (not-true (list_any (λ (other : Seat A). eqb other.who f.who) (prefix ++ seat ∷ rest)) parts.0))
       at (suc i) lt is before = before parts.1 (i, omega (arith, lt), is)
 
 module _ {M O : Type 0} {h : MailGhosts M} where

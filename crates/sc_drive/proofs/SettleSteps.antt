@@ -10,7 +10,7 @@ use Rattle.sc_actor.specs.declared.rows.Event.TheVariants.{Deliver}
 use Rattle.sc_actor.specs.declared.schedules.Line.{Line}
 use Rattle.sc_actor.specs.declared.schedules.Line.TheVariants.{Deliver as DeliverLine}
 use Rattle.sc_actor.specs.Counted.{journal_bytes, IsFull}
-use Rattle.sc_actor.specs.System.{System, system, acts, waiting, kth, has_gone, no_words}
+use Rattle.sc_actor.specs.System.{System, system, acts, waiting, kth, has_started, no_words}
 use Rattle.sc_actor.specs.Walk.{Task, Settles, is_over, is_quiet, line_row, lowest, delivery, IsLawful, place_after, onward}
 use Rattle.sc_actor.proofs.WalkLemmas.{Stands, Stands-over, Stands-row, Stands-next}
 use Rattle.sc_ledger.proofs.Kept.{bytes-push}
@@ -20,7 +20,7 @@ use Rattle.sc_shell.specs.declared.shells.Shell.{Shell}
 use Rattle.sc_shell.specs.declared.turns.Turn.TheVariants.{Did, Empty, Full, Spent}
 use Rattle.sc_drive.specs.declared.company.Score.{Score}
 use Rattle.sc_drive.specs.Numbers.{is_in}
-use Rattle.sc_drive.specs.Acts.{Served, ServedAll}
+use Rattle.sc_drive.specs.Acts.{AfterTurn, AfterTurnAll}
 use Rattle.sc_drive.specs.Companies.{IsCompany}
 use Rattle.sc_drive.specs.Goings.{HasReached, Goes, Fills}
 use Rattle.sc_drive.specs.Lowest.{FindsLowest, LowestAt, Rests}
@@ -62,14 +62,14 @@ module _ {A M O : Type 0} {g : Ghosts A M O} {h : MailGhosts M} where
 
   module _ (births : List (Seat A)) (net next : Port M O h) (ss after : List (Shell A M O g h)) (place : ℕ) (company : IsCompany births net ss) (found : FindsLowest net ss (Some place)) where
     -- what was found is taken
-    pub never_empty : (n : ℕ) → Served births place 1 net next ss after (Empty n) → ⊥
+    pub never_empty : (n : ℕ) → AfterTurn births place 1 net next ss after (Empty n) → ⊥
     never_empty n served =
         let l = found.lowest no_words births company in
         own_waits (system g.table h.receiver no_words births) net ss place l
         (serves_empty no_words births net next ss after company (h.receiver l.mail) place l.at 1 n served)
 
     -- and its receiver has not crashed
-    pub never_spent : Served births place 1 net next ss after Spent → ⊥
+    pub never_spent : AfterTurn births place 1 net next ss after Spent → ⊥
     never_spent served =
         let l = found.lowest no_words births company in
         own_waits (system g.table h.receiver no_words births) net ss place l
@@ -83,14 +83,14 @@ module _ {A M O : Type 0} {g : Ghosts A M O} {h : MailGhosts M} where
         lawful = subst (IsLawful s lines) (sym t.1) at.lawful;
         place = subst (λ l. place_after s lines l ≡ onward s l (tasks ++ rest) score.skipped score.unsettled) (sym t.1) at.place;
         company = t.0;
-        told = λ who. at.told who ∙ ap (λ l. has_gone l who) (sym t.1);
+        told = λ who. at.told who ∙ ap (λ l. has_started l who) (sym t.1);
         within = subst (λ (p : List (Row M O) × ℕ). journal_bytes h.weighs p.0 ≤ p.1) (λ i. (sym t.1 i, sym limit i)) at.within;
       }
 
   module _ (net : Port M O h) (ss : List (Shell A M O g h)) (score now : Score) (left : ℕ) where
     ended : (words : ℕ → ℕ → ℕ × ℕ) (births : List (Seat A)) (lines : List (Line O)) (rest : List (Task O)) → HasReached words births lines net ss score (Settles left ∷ rest) → (cut : Bool) → is_quiet (system g.table h.receiver words births) (seen net) ≡ not cut →
-        is_over (system g.table h.receiver words births) (seen net) (let task : Task O = Settles left in task) ≡ true → now.skipped ≡ score.skipped → now.unsettled ≡ (score.unsettled || cut) → now.gone.items ≡ score.gone.items → HasReached words births lines net ss now rest
-    ended words births lines rest at cut quiet done skipped unsettled gone =
+        is_over (system g.table h.receiver words births) (seen net) (let task : Task O = Settles left in task) ≡ true → now.skipped ≡ score.skipped → now.unsettled ≡ (score.unsettled || cut) → now.started.items ≡ score.started.items → HasReached words births lines net ss now rest
+    ended words births lines rest at cut quiet done skipped unsettled started =
         let s = system g.table h.receiver words births in
         let stands : Stands s lines (seen net) (Settles left ∷ rest) score.skipped score.unsettled = record { lawful = at.lawful; place = at.place } in
         let on : Stands s lines (seen net) rest (score.skipped + 0) (score.unsettled || not (is_quiet s (seen net))) = Stands-over s lines (seen net) (Settles left) rest score.skipped score.unsettled stands done in
@@ -100,7 +100,7 @@ module _ {A M O : Type 0} {g : Ghosts A M O} {h : MailGhosts M} where
           lawful = on2.lawful;
           place = on2.place;
           company = at.company;
-          told = λ who. ap (is_in who) gone ∙ at.told who;
+          told = λ who. ap (is_in who) started ∙ at.told who;
           within = at.within;
         }
       where
@@ -109,27 +109,27 @@ module _ {A M O : Type 0} {g : Ghosts A M O} {h : MailGhosts M} where
         twice false = refl
 
     -- no mail is pending
-    pub settles_quiet : FindsLowest net ss None → now.skipped ≡ score.skipped → now.unsettled ≡ score.unsettled → now.gone.items ≡ score.gone.items → Goes net ss score (Settles left ∷ []) net ss now []
-    settles_quiet none skipped cut gone = λ words births lines rest at.
+    pub settles_quiet : FindsLowest net ss None → now.skipped ≡ score.skipped → now.unsettled ≡ score.unsettled → now.started.items ≡ score.started.items → Goes net ss score (Settles left ∷ []) net ss now []
+    settles_quiet none skipped cut started = λ words births lines rest at.
         let quiet = none.lowest words births at.company in
-        ended words births lines rest at false quiet (ap (λ b. eqb left 0 || b) quiet ∙ or-true (eqb left 0)) skipped (cut ∙ sym (or-false score.unsettled)) gone
+        ended words births lines rest at false quiet (ap (λ b. eqb left 0 || b) quiet ∙ or-true (eqb left 0)) skipped (cut ∙ sym (or-false score.unsettled)) started
 
     -- mail is pending, and no more may be delivered
-    pub settles_cut : (place : ℕ) → FindsLowest net ss (Some place) → left ≡ 0 → now.skipped ≡ score.skipped → now.unsettled ≡ true → now.gone.items ≡ score.gone.items → Goes net ss score (Settles left ∷ []) net ss now []
-    settles_cut place some none skipped cut gone = λ words births lines rest at.
+    pub settles_cut : (place : ℕ) → FindsLowest net ss (Some place) → left ≡ 0 → now.skipped ≡ score.skipped → now.unsettled ≡ true → now.started.items ≡ score.started.items → Goes net ss score (Settles left ∷ []) net ss now []
+    settles_cut place some none skipped cut started = λ words births lines rest at.
         let s = system g.table h.receiver words births in
         let t = some.lowest words births at.company in
         let loud : is_quiet s (seen net) ≡ false = ap is_none t.first in
-        ended words births lines rest at true loud (ap (λ k. eqb k 0 || is_quiet s (seen net)) none) skipped (cut ∙ sym (or-true score.unsettled)) gone
+        ended words births lines rest at true loud (ap (λ k. eqb k 0 || is_quiet s (seen net)) none) skipped (cut ∙ sym (or-true score.unsettled)) started
 
     module _ (next : Port M O h) (after : List (Shell A M O g h)) (place n : ℕ) (found : FindsLowest net ss (Some place)) (more : 0 < left) where
       opens : (s : System A M O) → is_quiet s (seen net) ≡ false → is_over s (seen net) (let task : Task O = Settles left in task) ≡ false
       opens s loud = ap (λ b. b || is_quiet s (seen net)) (ne_eqb left 0 (λ z. absurd (omega (arith, z, more)))) ∙ loud
 
       -- one is delivered
-      pub settles_did : next.limit ≡ net.limit → ServedAll place 1 net next ss after (Did n) →
-          now.skipped ≡ score.skipped → now.unsettled ≡ score.unsettled → now.gone.items ≡ score.gone.items → Goes net ss score (Settles left ∷ []) next after now (Settles (left - 1) ∷ [])
-      settles_did limit served skipped cut gone = λ words births lines rest at.
+      pub settles_did : next.limit ≡ net.limit → AfterTurnAll place 1 net next ss after (Did n) →
+          now.skipped ≡ score.skipped → now.unsettled ≡ score.unsettled → now.started.items ≡ score.started.items → Goes net ss score (Settles left ∷ []) next after now (Settles (left - 1) ∷ [])
+      settles_did limit served skipped cut started = λ words births lines rest at.
           let s = system g.table h.receiver words births in
           let t = found.lowest words births at.company in
           let step = delivers_did words births net next ss after at.company (h.receiver t.mail) place t.at 1 n (served births at.company) in
@@ -143,12 +143,12 @@ module _ {A M O : Type 0} {g : Ghosts A M O} {h : MailGhosts M} where
             lawful = there.lawful;
             place = there.place;
             company = step.0;
-            told = λ who. ap (is_in who) gone ∙ (at.told who ∙ (sym (gone_push (seen net) row who (no_go s (seen net) (DeliverLine (h.receiver t.mail) 1) row tt step.1.1)) ∙ ap (λ l. has_gone l who) (sym all)));
+            told = λ who. ap (is_in who) started ∙ (at.told who ∙ (sym (gone_push (seen net) row who (no_go s (seen net) (DeliverLine (h.receiver t.mail) 1) row tt step.1.1)) ∙ ap (λ l. has_started l who) (sym all)));
             within = subst (λ k. journal_bytes h.weighs (seen next) ≤ k) (sym limit) step.2;
           }
 
       -- its row would pass the limit
-      pub settles_full : ServedAll place 1 net next ss after (Full n) → Fills net ss score (Settles left ∷ []) next
+      pub settles_full : AfterTurnAll place 1 net next ss after (Full n) → Fills net ss score (Settles left ∷ []) next
       settles_full served = λ words births lines rest at.
           let s = system g.table h.receiver words births in
           let t = found.lowest words births at.company in

@@ -8,7 +8,7 @@ use Rattle.sc_drive.specs.declared.company.Company.{Company}
 use Rattle.sc_drive.specs.declared.company.Score.{Score}
 use Rattle.sc_drive.specs.Goings.{Goes}
 use Rattle.sc_drive.specs.Lowest.{FindsLowest}
-use Rattle.sc_drive.specs.Working.{ActServed, AreTogether, HasFound, HasRested, HasSettledOne, LineEnded, LineRefused}
+use Rattle.sc_drive.specs.Working.{ActedByTurn, AreTogether, HasFound, HasRested, HasSettledOne, LineEnded, LineRefused}
 use Rattle.sc_drive.proofs.Kept.{kept_then, on_same, on_then, together_on}
 use Rattle.sc_drive.proofs.SettleSteps.{fills_then, goes_rest, goes_then, settles_cut, settles_did, settles_full, settles_quiet}
 
@@ -43,11 +43,11 @@ module _ {A M O : Type 0} {g : Ghosts A M O} {h : MailGhosts M} where
   together_after c d tasks left together line = together_on c.net d.net c.shells.items d.shells.items together.crew.first line.on
 
   -- all are together after a turn that made a row
-  pub served_together : (c d : Company A M O g h) (place k at : ℕ) → AreTogether c → ActServed place k (Did at) c d → AreTogether d
+  pub served_together : (c d : Company A M O g h) (place k at : ℕ) → AreTogether c → ActedByTurn place k (Did at) c d → AreTogether d
   served_together c d place k at together act = together_on c.net d.net c.shells.items d.shells.items together.crew.first (record { kept = act.kept; sound = act.sound })
 
   module _ (c m : Company A M O g h) (left place n : ℕ) (finds : FindsLowest c.net c.shells.items (Some place)) (some : 0 < left) where
-    one_served : ActServed place 1 (Did n) c m → LineEnded (Settles left ∷ []) (Settles (left - 1) ∷ []) c m
+    one_served : ActedByTurn place 1 (Did n) c m → LineEnded (Settles left ∷ []) (Settles (left - 1) ∷ []) c m
     one_served act = record {
       on = record { kept = act.kept; sound = act.sound };
       goes = scored c m (Settles left ∷ []) (Settles (left - 1) ∷ []) c.score (sym act.score)
@@ -55,14 +55,14 @@ module _ {A M O : Type 0} {g : Ghosts A M O} {h : MailGhosts M} where
     }
 
     -- its row would pass the limit
-    pub full_settles : ActServed place 1 (Full n) c m → LineRefused (Settles left ∷ []) c m
+    pub full_settles : ActedByTurn place 1 (Full n) c m → LineRefused (Settles left ∷ []) c m
     full_settles act = record {
       kept = act.kept;
       fills = settles_full c.net c.shells.items c.score c.score left m.net m.shells.items place n finds some act.served;
     }
 
   -- one delivery was made, and the next place was found
-  pub settled_one : (c m d : Company A M O g h) (left place n : ℕ) (found : Option ℕ) → FindsLowest c.net c.shells.items (Some place) → 0 < left → ActServed place 1 (Did n) c m → HasFound m d found → HasSettledOne left c d found
+  pub settled_one : (c m d : Company A M O g h) (left place n : ℕ) (found : Option ℕ) → FindsLowest c.net c.shells.items (Some place) → 0 < left → ActedByTurn place 1 (Did n) c m → HasFound m d found → HasSettledOne left c d found
   settled_one c m d left place n found finds some act after = record {
     line = line_then c m d (Settles left ∷ []) (Settles (left - 1) ∷ []) (Settles (left - 1) ∷ []) (one_served c m left place n finds some act) (line_rested m d (Settles (left - 1) ∷ []) after.rested);
     staffed = λ births company. (after.rested.rests births (act.served births company).0).0;

@@ -14,7 +14,7 @@ use Rattle.sc_actor.specs.declared.schedules.Line.{Line}
 use Rattle.sc_actor.specs.declared.schedules.Line.TheVariants.{Go as GoLine, Deliver as DeliverLine, Drop as DropLine, Again as AgainLine, Tick as TickLine, Crash as CrashLine, Told as ToldLine, Settle, Free, Storm}
 use Rattle.sc_actor.specs.Mail.{mails, numbered, has_crashed, may_get}
 use Rattle.sc_actor.specs.Counted.{journal_bytes, IsFull}
-use Rattle.sc_actor.specs.System.{System, system, numbers_of, row_of, acts, waiting, kth, network, has_gone, is_go}
+use Rattle.sc_actor.specs.System.{System, system, numbers_of, row_of, acts, waiting, kth, network, has_started, is_go}
 use Rattle.sc_actor.specs.Walk.{Once, line_row}
 use Rattle.sc_actor.proofs.WalkLemmas.{Stands, Stands-over, Stands-row, Stands-next}
 use Rattle.sc_ledger.proofs.Kept.{bytes-push}
@@ -79,17 +79,17 @@ module _ {A M O : Type 0} (s : System A M O) (rows : List (Row M O)) (who : ℕ)
       (ap (λ (r : Row M O). r.who) (sym same) ∙ find-who s.births who seat is, ap (λ (r : Row M O). r.event) (sym same))
 
   go_row : line_row s rows (GoLine who) ≡ Some row → (row.who ≡ who) × (row.event ≡ Go)
-  go_row e = by (has_gone rows who) e
+  go_row e = by (has_started rows who) e
     where
       by : (b : Bool) → cond b None (acts s rows who Go) ≡ Some row → (row.who ≡ who) × (row.event ≡ Go)
       by true e = cc
       by false e = go_found (find (λ seat. eqb seat.who who) s.births) refl e
 
-pub go_push : {M O : Type 0} (rows : List (Row M O)) (row : Row M O) (n who : ℕ) → row.who ≡ who → row.event ≡ Go → has_gone (rows ++ row ∷ []) n ≡ (has_gone rows n || eqb n who)
+pub go_push : {M O : Type 0} (rows : List (Row M O)) (row : Row M O) (n who : ℕ) → row.who ≡ who → row.event ≡ Go → has_started (rows ++ row ∷ []) n ≡ (has_started rows n || eqb n who)
 go_push rows row n who maker event =
     list_any-append (λ r. eqb r.who n && is_go r.event) rows (row ∷ [])
-    ∙ ((λ i. has_gone rows n || ((eqb (maker i) n && is_go (event i)) || false))
-    ∙ ap (λ b. has_gone rows n || b) (or-false (eqb who n && true) ∙ (and_true (eqb who n) ∙ flip who n)))
+    ∙ ((λ i. has_started rows n || ((eqb (maker i) n && is_go (event i)) || false))
+    ∙ ap (λ b. has_started rows n || b) (or-false (eqb who n && true) ∙ (and_true (eqb who n) ∙ flip who n)))
   where
     and_true : (b : Bool) → (b && true) ≡ b
     and_true true = refl
@@ -99,8 +99,8 @@ module _ {A M O : Type 0} {g : Ghosts A M O} {h : MailGhosts M} where
   module _ (line : Line O) (net next : Port M O h) (ss after : List (Shell A M O g h)) (score now : Score) (limit : next.limit ≡ net.limit) where
     -- a line that made its row takes the walk on
     pub goes_made : StepsSo line net ss score next after (Ok true) →
-        IsCalm line → now.skipped ≡ score.skipped → now.unsettled ≡ score.unsettled → now.gone.items ≡ score.gone.items → Goes net ss score (Once line ∷ []) next after now []
-    goes_made stepped quiet skipped cut gone = λ words births lines rest at.
+        IsCalm line → now.skipped ≡ score.skipped → now.unsettled ≡ score.unsettled → now.started.items ≡ score.started.items → Goes net ss score (Once line ∷ []) next after now []
+    goes_made stepped quiet skipped cut started = λ words births lines rest at.
         let s = system g.table h.receiver words births in
         let t = stepped words births at.company (λ n. sym (at.told n)) in
         let row = t.1.0 in
@@ -110,14 +110,14 @@ module _ {A M O : Type 0} {g : Ghosts A M O} {h : MailGhosts M} where
           lawful = there.lawful;
           place = there.place;
           company = t.0;
-          told = λ who. ap (is_in who) gone ∙ (at.told who ∙ (sym (gone_push (seen net) row who (no_go s (seen net) line row quiet t.1.1)) ∙ ap (λ l. has_gone l who) (sym t.1.2)));
+          told = λ who. ap (is_in who) started ∙ (at.told who ∙ (sym (gone_push (seen net) row who (no_go s (seen net) line row quiet t.1.1)) ∙ ap (λ l. has_started l who) (sym t.1.2)));
           within = subst (λ n. journal_bytes h.weighs (seen next) ≤ n) (sym limit) t.2;
         }
 
     -- a Go
     pub goes_go : (who : ℕ) → line ≡ GoLine who → StepsSo line net ss score next after (Ok true) →
-        now.skipped ≡ score.skipped → now.unsettled ≡ score.unsettled → ((n : ℕ) → is_in n now.gone.items ≡ (is_in n score.gone.items || eqb n who)) → Goes net ss score (Once line ∷ []) next after now []
-    goes_go who is stepped skipped cut gone = λ words births lines rest at.
+        now.skipped ≡ score.skipped → now.unsettled ≡ score.unsettled → ((n : ℕ) → is_in n now.started.items ≡ (is_in n score.started.items || eqb n who)) → Goes net ss score (Once line ∷ []) next after now []
+    goes_go who is stepped skipped cut started = λ words births lines rest at.
         let s = system g.table h.receiver words births in
         let t = stepped words births at.company (λ n. sym (at.told n)) in
         let row = t.1.0 in
@@ -128,14 +128,14 @@ module _ {A M O : Type 0} {g : Ghosts A M O} {h : MailGhosts M} where
           lawful = there.lawful;
           place = there.place;
           company = t.0;
-          told = λ n. gone n ∙ ((λ i. at.told n i || eqb n who) ∙ (sym (go_push (seen net) row n who what.0 what.1) ∙ ap (λ l. has_gone l n) (sym t.1.2)));
+          told = λ n. started n ∙ ((λ i. at.told n i || eqb n who) ∙ (sym (go_push (seen net) row n who what.0 what.1) ∙ ap (λ l. has_started l n) (sym t.1.2)));
           within = subst (λ n. journal_bytes h.weighs (seen next) ≤ n) (sym limit) t.2;
         }
 
     -- a line that makes no row is skipped
     pub goes_skipped : StepsSo line net ss score next after (Ok false) →
-        now.skipped ≡ score.skipped + 1 → now.unsettled ≡ score.unsettled → now.gone.items ≡ score.gone.items → Goes net ss score (Once line ∷ []) next after now []
-    goes_skipped stepped skipped cut gone = λ words births lines rest at.
+        now.skipped ≡ score.skipped + 1 → now.unsettled ≡ score.unsettled → now.started.items ≡ score.started.items → Goes net ss score (Once line ∷ []) next after now []
+    goes_skipped stepped skipped cut started = λ words births lines rest at.
         let s = system g.table h.receiver words births in
         let t = stepped words births at.company (λ n. sym (at.told n)) in
         let stands : Stands s lines (seen net) (Once line ∷ rest) score.skipped score.unsettled = record { lawful = at.lawful; place = at.place } in
@@ -144,7 +144,7 @@ module _ {A M O : Type 0} {g : Ghosts A M O} {h : MailGhosts M} where
           lawful = there.lawful;
           place = there.place;
           company = t.0;
-          told = λ who. ap (is_in who) gone ∙ (at.told who ∙ ap (λ l. has_gone l who) (sym t.2));
+          told = λ who. ap (is_in who) started ∙ (at.told who ∙ ap (λ l. has_started l who) (sym t.2));
           within = subst (λ (p : List (Row M O) × ℕ). journal_bytes h.weighs p.0 ≤ p.1) (λ i. (sym t.2 i, sym limit i)) at.within;
         }
 
@@ -169,11 +169,11 @@ pub go_pushed : (n who : ℕ) (ws vs : List ℕ) → vs ≡ ws ++ who ∷ [] →
 go_pushed n who ws vs is = ap (is_in n) is ∙ (list_any-append (λ w. eqb n w) ws (who ∷ []) ∙ ap (λ b. is_in n ws || b) (or-false (eqb n who)))
 
 -- a Go of one who was not told to go
-pub go_steps : {A M O : Type 0} {g : Ghosts A M O} {h : MailGhosts M} (who : ℕ) (net next : Port M O h) (ss after : List (Shell A M O g h)) (score : Score) (step : Result Bool Stop) → is_in who score.gone.items ≡ false →
+pub go_steps : {A M O : Type 0} {g : Ghosts A M O} {h : MailGhosts M} (who : ℕ) (net next : Port M O h) (ss after : List (Shell A M O g h)) (score : Score) (step : Result Bool Stop) → is_in who score.started.items ≡ false →
     ((words : ℕ → ℕ → ℕ × ℕ) (births : List (Seat A)) → IsCompany births net ss → Stepped (system g.table h.receiver words births) (acts (system g.table h.receiver words births) (seen net) who Go) net next after step) → StepsSo (GoLine who) net ss score next after step
-go_steps {g = g} {h = h} who net next ss after score step not_told f = λ words births company told.
+go_steps {g = g} {h = h} who net next ss after score step no_event_answer f = λ words births company told.
     let s = system g.table h.receiver words births in
-    subst (λ o. Stepped s o net next after step) (sym (ap (λ b. cond b None (acts s (seen net) who Go)) (told who ∙ not_told))) (f words births company)
+    subst (λ o. Stepped s o net next after step) (sym (ap (λ b. cond b None (acts s (seen net) who Go)) (told who ∙ no_event_answer))) (f words births company)
 
 -- a line of one row that is no `go` line, since it is none of the others
 pub calm_else : {O : Type 0} (line : Line O) → ((who : ℕ) → line ≡ GoLine who → ⊥) → ((most : ℕ) → line ≡ Settle most → ⊥) → ((most workers : ℕ) → line ≡ Free most workers → ⊥) → ((number most : ℕ) → line ≡ Storm number most → ⊥) → IsCalm line

@@ -24,7 +24,7 @@ use Rattle.sc_drive.proofs.StormSteps.{storms_full, storms_made, storms_skipped}
 pub record IsSkipped (score now : Score) : Type 0 where
   pub count : now.skipped ≡ score.skipped + 1
   pub cut : now.unsettled ≡ score.unsettled
-  pub gone : now.gone.items ≡ score.gone.items
+  pub started : now.started.items ≡ score.started.items
 
 module _ {A M O : Type 0} {g : Ghosts A M O} {h : MailGhosts M} where
   module _ (line : Line O) (c d : Company A M O g h) where
@@ -33,7 +33,7 @@ module _ {A M O : Type 0} {g : Ghosts A M O} {h : MailGhosts M} where
     once_made calm row = record {
       on = row.on;
       goes = goes_made line c.net d.net c.shells.items d.shells.items c.score d.score row.on.kept.stays.exchange.2 (λ words births company _. row.row words births company) calm
-          (ap (λ (s : Score). s.skipped) row.score) (ap (λ (s : Score). s.unsettled) row.score) (ap (λ (s : Score). s.gone.items) row.score);
+          (ap (λ (s : Score). s.skipped) row.score) (ap (λ (s : Score). s.unsettled) row.score) (ap (λ (s : Score). s.started.items) row.score);
     }
 
     -- it made none, and was counted
@@ -41,7 +41,7 @@ module _ {A M O : Type 0} {g : Ghosts A M O} {h : MailGhosts M} where
     once_skipped now row skip = record {
       on = row.on;
       goes = goes_skipped line c.net d.net c.shells.items d.shells.items c.score now row.on.kept.stays.exchange.2 (λ words births company _. row.row words births company)
-          (skip.count ∙ ap (λ (s : Score). s.skipped + 1) row.score) (skip.cut ∙ ap (λ (s : Score). s.unsettled) row.score) (skip.gone ∙ ap (λ (s : Score). s.gone.items) row.score);
+          (skip.count ∙ ap (λ (s : Score). s.skipped + 1) row.score) (skip.cut ∙ ap (λ (s : Score). s.unsettled) row.score) (skip.started ∙ ap (λ (s : Score). s.started.items) row.score);
     }
 
     -- its row would pass the limit
@@ -52,15 +52,15 @@ module _ {A M O : Type 0} {g : Ghosts A M O} {h : MailGhosts M} where
           fills = fills_full line c.net d.net c.shells.items d.shells.items c.score c.score row.kept.stays.exchange.2 (λ words births company _. row.row words births company);
         }
 
-  module _ (who : ℕ) (c d : Company A M O g h) (fresh : is_in who c.score.gone.items ≡ false) where
+  module _ (who : ℕ) (c d : Company A M O g h) (fresh : is_in who c.score.started.items ≡ false) where
     -- an actor was told to go, and it is noted
-    pub go_made : (now : Score) → RowEnded (λ s rows. acts s rows who GoEvent) c d true → now.skipped ≡ d.score.skipped → now.unsettled ≡ d.score.unsettled → now.gone.items ≡ d.score.gone.items ++ who ∷ []
+    pub go_made : (now : Score) → RowEnded (λ s rows. acts s rows who GoEvent) c d true → now.skipped ≡ d.score.skipped → now.unsettled ≡ d.score.unsettled → now.started.items ≡ d.score.started.items ++ who ∷ []
         → LineEnded (Once (Go who) ∷ []) [] c (record d { score = now })
-    go_made now row skipped cut gone = record {
+    go_made now row skipped cut started = record {
       on = row.on;
       goes = goes_go (Go who) c.net d.net c.shells.items d.shells.items c.score now row.on.kept.stays.exchange.2 who refl (go_steps who c.net d.net c.shells.items d.shells.items c.score (Ok true) fresh row.row)
           (skipped ∙ ap (λ (s : Score). s.skipped) row.score) (cut ∙ ap (λ (s : Score). s.unsettled) row.score)
-          (λ n. go_pushed n who c.score.gone.items now.gone.items (gone ∙ ap (λ (s : Score). s.gone.items ++ who ∷ []) row.score));
+          (λ n. go_pushed n who c.score.started.items now.started.items (started ∙ ap (λ (s : Score). s.started.items ++ who ∷ []) row.score));
     }
 
     -- there is none such
@@ -68,7 +68,7 @@ module _ {A M O : Type 0} {g : Ghosts A M O} {h : MailGhosts M} where
     go_skipped now row skip = record {
       on = row.on;
       goes = goes_skipped (Go who) c.net d.net c.shells.items d.shells.items c.score now row.on.kept.stays.exchange.2 (go_steps who c.net d.net c.shells.items d.shells.items c.score (Ok false) fresh row.row)
-          (skip.count ∙ ap (λ (s : Score). s.skipped + 1) row.score) (skip.cut ∙ ap (λ (s : Score). s.unsettled) row.score) (skip.gone ∙ ap (λ (s : Score). s.gone.items) row.score);
+          (skip.count ∙ ap (λ (s : Score). s.skipped + 1) row.score) (skip.cut ∙ ap (λ (s : Score). s.unsettled) row.score) (skip.started ∙ ap (λ (s : Score). s.started.items) row.score);
     }
 
     -- its row would pass the limit

@@ -10,7 +10,7 @@ use Rattle.sc_actor.specs.declared.actors.Seat.{Seat}
 use Rattle.sc_actor.specs.declared.rows.Row.{Row}
 use Rattle.sc_actor.specs.declared.rows.Event.{Event}
 use Rattle.sc_actor.specs.Mail.{mails, copies, numbers, is_for, may_get, has_crashed, is_crash}
-use Rattle.sc_actor.specs.System.{System, system, numbers_of, row_of, acts, waiting, kth, has_gone, is_go}
+use Rattle.sc_actor.specs.System.{System, system, numbers_of, row_of, acts, waiting, kth, has_started, is_go}
 use Rattle.sc_ledger.specs.Pending.{upto, kth_pending}
 use Rattle.sc_exchange.specs.declared.ports.Port.{Port}
 use Rattle.sc_exchange.specs.Ports.{seen}
@@ -94,10 +94,10 @@ kth_nil zero = refl
 kth_nil (suc k) = refl
 
 -- who was told to go, after one row more
-pub gone_push : {M O : Type 0} (rows : List (Row M O)) (row : Row M O) (who : ℕ) → is_go row.event ≡ false → has_gone (rows ++ row ∷ []) who ≡ has_gone rows who
+pub gone_push : {M O : Type 0} (rows : List (Row M O)) (row : Row M O) (who : ℕ) → is_go row.event ≡ false → has_started (rows ++ row ∷ []) who ≡ has_started rows who
 gone_push rows row who none =
     list_any-append (λ r. eqb r.who who && is_go r.event) rows (row ∷ [])
-    ∙ (ap (λ b. has_gone rows who || ((eqb row.who who && b) || false)) none ∙ (ap (λ b. has_gone rows who || (b || false)) (and_false (eqb row.who who)) ∙ or-false (has_gone rows who)))
+    ∙ (ap (λ b. has_started rows who || ((eqb row.who who && b) || false)) none ∙ (ap (λ b. has_started rows who || (b || false)) (and_false (eqb row.who who)) ∙ or-false (has_started rows who)))
   where
     and_false : (b : Bool) → (b && false) ≡ false
     and_false true = refl

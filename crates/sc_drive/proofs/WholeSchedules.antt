@@ -9,7 +9,7 @@ use Rattle.sc_actor.specs.declared.rows.Row.{Row}
 use Rattle.sc_actor.specs.declared.schedules.Line.{Line}
 use Rattle.sc_actor.specs.Counted.{journal_bytes, IsFull}
 use Rattle.sc_actor.specs.Replay.{value, values}
-use Rattle.sc_actor.specs.System.{system, numbers_of, has_gone}
+use Rattle.sc_actor.specs.System.{system, numbers_of, has_started}
 use Rattle.sc_actor.specs.Walk.{IsLawful, IsWhole, tasks_of, skipped, unsettled, is_quiet}
 use Rattle.sc_actor.proofs.WalkLemmas.{Stands, Stands-begin, Stands-whole}
 use Rattle.sc_exchange.specs.declared.ports.Port.{Port}
@@ -42,8 +42,8 @@ module _ {A M O : Type 0} {g : Ghosts A M O} {h : MailGhosts M} where
 
   module _ (words : ℕ → ℕ → ℕ × ℕ) (births : List (Seat A)) (lines : List (Line O)) where
     -- before the first line
-    pub drive_begins : (net : Port M O h) (ss : List (Shell A M O g h)) (score : Score) → IsCompany births net ss → seen net ≡ [] → score.skipped ≡ 0 → score.unsettled ≡ false → score.gone.items ≡ [] → HasReached words births lines net ss score (flat_map (tasks_of words) (drop 0 lines))
-    drive_begins net ss score company none skips_ cut gone =
+    pub drive_begins : (net : Port M O h) (ss : List (Shell A M O g h)) (score : Score) → IsCompany births net ss → seen net ≡ [] → score.skipped ≡ 0 → score.unsettled ≡ false → score.started.items ≡ [] → HasReached words births lines net ss score (flat_map (tasks_of words) (drop 0 lines))
+    drive_begins net ss score company none skips_ cut started =
         let s = system g.table h.receiver words births in
         let there : Stands s lines (seen net) (flat_map (tasks_of words) lines) score.skipped score.unsettled =
         subst (λ (p : List (Row M O) × ℕ × Bool). Stands s lines p.0 (flat_map (tasks_of words) lines) p.1 p.2) (λ i. (sym none i, sym skips_ i, sym cut i)) (Stands-begin s lines) in
@@ -51,7 +51,7 @@ module _ {A M O : Type 0} {g : Ghosts A M O} {h : MailGhosts M} where
           lawful = there.lawful;
           place = there.place;
           company = company;
-          told = λ who. ap (is_in who) gone ∙ ap (λ l. has_gone l who) (sym none);
+          told = λ who. ap (is_in who) started ∙ ap (λ l. has_started l who) (sym none);
           within = omega (arith, bytes);
         }
 

@@ -28,8 +28,8 @@ use Rattle.sc_drive.specs.Changing.{Changes}
 use Rattle.sc_drive.specs.Goings.{IsOn}
 use Rattle.sc_drive.specs.Rows.{row_made}
 use Rattle.sc_drive.specs.Stepping.{IsNowhere, IsPlace, unless_crashed}
-use Rattle.sc_drive.specs.Working.{ActServed, ActTold, AreTogether, HasFound, HasRested, MayBeTold, NetworkActed, NetworkActs, RowEnds}
-use Rattle.sc_drive.proofs.ActorRows.{happens_nowhere, happens_did, happens_full, happens_spent, tells_nowhere, tells_did, tells_full, halted, delivers_nowhere, delivers_none, delivers_did, delivers_empty, delivers_full, delivers_spent}
+use Rattle.sc_drive.specs.Working.{ActedByTurn, ActedOnEvent, AreTogether, HasFound, HasRested, MayTakeEvent, NetworkActed, NetworkActs, RowEnds}
+use Rattle.sc_drive.proofs.ActorRows.{happens_nowhere, happens_did, happens_full, happens_spent, tells_nowhere, event_answers_did, full_text, halted, delivers_nowhere, delivers_none, delivers_did, delivers_empty, delivers_full, delivers_spent}
 use Rattle.sc_drive.proofs.Companies.{company_still}
 use Rattle.sc_drive.proofs.Kept.{on_gathered, on_same, on_then, together_on}
 use Rattle.sc_drive.proofs.NetworkKept.{change_on, stays_looked}
@@ -74,7 +74,7 @@ module _ {A M O : Type 0} {g : Ghosts A M O} {h : MailGhosts M} where
   })
 
   -- an event of an actor at its place
-  pub happens_so : (c d : Company A M O g h) (who place : ℕ) (event : Event O) (t : Turn) → IsPlace c.shells.items who place → ActTold place event t c d → RowEnds (λ s rows. unless_crashed s rows who event) c d (row_made t)
+  pub happens_so : (c d : Company A M O g h) (who place : ℕ) (event : Event O) (t : Turn) → IsPlace c.shells.items who place → ActedOnEvent place event t c d → RowEnds (λ s rows. unless_crashed s rows who event) c d (row_made t)
   happens_so c d who place event (turn.Did at) is act = record {
     on = record { kept = act.kept; sound = act.sound };
     row = λ words births company. happens_did words births c.net d.net c.shells.items d.shells.items company who place is event at (act.told births company);
@@ -94,16 +94,16 @@ module _ {A M O : Type 0} {g : Ghosts A M O} {h : MailGhosts M} where
   happens_so c d who place event turn.OutOfMemory is act = tt
 
   -- a Go of one that has not crashed
-  pub goes_so : (c d : Company A M O g h) (who place : ℕ) (t : Turn) → IsPlace c.shells.items who place → MayBeTold who c → ActTold place GoEvent t c d → RowEnds (λ s rows. acts s rows who GoEvent) c d (row_made t)
+  pub goes_so : (c d : Company A M O g h) (who place : ℕ) (t : Turn) → IsPlace c.shells.items who place → MayTakeEvent who c → ActedOnEvent place GoEvent t c d → RowEnds (λ s rows. acts s rows who GoEvent) c d (row_made t)
   goes_so c d who place (turn.Did at) is may act = record {
     on = record { kept = act.kept; sound = act.sound };
-    row = λ words births company. tells_did words births c.net d.net c.shells.items d.shells.items company who place is GoEvent at (act.told births company);
+    row = λ words births company. event_answers_did words births c.net d.net c.shells.items d.shells.items company who place is GoEvent at (act.told births company);
     score = act.score;
   }
   goes_so c d who place (turn.Empty told) is may act = absurd act.answer
   goes_so c d who place (turn.Full bytes) is may act = record {
     kept = act.kept;
-    row = λ words births company. tells_full words births c.net d.net c.shells.items d.shells.items company who place is GoEvent bytes (act.told births company);
+    row = λ words births company. full_text words births c.net d.net c.shells.items d.shells.items company who place is GoEvent bytes (act.told births company);
     score = act.score;
   }
   goes_so c d who place turn.Spent is may act =
@@ -111,7 +111,7 @@ module _ {A M O : Type 0} {g : Ghosts A M O} {h : MailGhosts M} where
   goes_so c d who place turn.OutOfMemory is may act = tt
 
   -- a turn of an actor at its place
-  pub delivers_so : (c d : Company A M O g h) (who place k : ℕ) (t : Turn) → IsPlace c.shells.items who place → ActServed place k t c d → RowEnds (λ s rows. line_row s rows (DeliverLine who k)) c d (row_made t)
+  pub delivers_so : (c d : Company A M O g h) (who place k : ℕ) (t : Turn) → IsPlace c.shells.items who place → ActedByTurn place k t c d → RowEnds (λ s rows. line_row s rows (DeliverLine who k)) c d (row_made t)
   delivers_so c d who place k (turn.Did at) is act = record {
     on = record { kept = act.kept; sound = act.sound };
     row = λ words births company. delivers_did words births c.net d.net c.shells.items d.shells.items company who place is k at (act.served births company);

@@ -28,19 +28,19 @@ module _ {A M O : Type 0} {h : MailGhosts M} where
   RowPasses table births place event net = (e : Seat A) → net.limit < journal_bytes h.weighs (seen net) + row_bytes h.weighs (row_of table (slice_index_or births place e) (seen net) event)
 
 module _ {A M O : Type 0} {g : Ghosts A M O} {h : MailGhosts M} where
-  -- The shell met the port, and then did what `does` says of it.
-  pub record MetAndDid (does : Shell A M O g h → Type 0) (s t : Shell A M O g h) (net next : Port M O h) : Type 0 where
+  -- The shell met the port, and then did what `effect` says of it.
+  pub record MetAndDid (effect : Shell A M O g h → Type 0) (s t : Shell A M O g h) (net next : Port M O h) : Type 0 where
     pub met : Shell A M O g h
     pub still : Still s met
     pub ahead : IsAhead net met
     pub looked : Looked net next
     pub stays : Stays met.port t.port
     pub keeps : KeepsReplay met t
-    pub does_ : does met
+    pub effect_holds : effect met
 
   -- The shell met the port, and then the event happened to its actor, with the answer `turn`.
-  abbrev pub MetAndTold : Event O → Turn → Shell A M O g h → Shell A M O g h → Port M O h → Port M O h → Type 0
-  MetAndTold event turn s t net next = MetAndDid (λ met. Happens (state met) (state t) event turn) s t net next
+  abbrev pub MetAndHappened : Event O → Turn → Shell A M O g h → Shell A M O g h → Port M O h → Port M O h → Type 0
+  MetAndHappened event turn s t net next = MetAndDid (λ met. Happens (state met) (state t) event turn) s t net next
 
   -- The shell met the port, and then took a turn for its k-th pending mail, with the answer `turn`.
   abbrev pub MetAndTook : ℕ → Turn → Shell A M O g h → Shell A M O g h → Port M O h → Port M O h → Type 0
@@ -51,32 +51,32 @@ module _ {A M O : Type 0} {g : Ghosts A M O} {h : MailGhosts M} where
   HasHalted ss place halted = (d : Shell A M O g h) → (slice_index_or ss place d).port.crashed ≡ halted
 
   -- What an event of the actor at this place leaves, by the answer: one more row, within the limit; or no row, since it would pass the limit or the actor has crashed.
-  abbrev pub Told : List (Seat A) → ℕ → Event O → Port M O h → Port M O h → List (Shell A M O g h) → List (Shell A M O g h) → Turn → Type 0
-  Told births place event net next ss after (Did at) = IsCompany births next after × RowAdded g.table births place event net next × (journal_bytes h.weighs (seen next) ≤ net.limit) × HasHalted ss place false
-  Told births place event net next ss after (Full bytes) = (seen next ≡ seen net) × RowPasses g.table births place event net × HasHalted ss place false
-  Told births place event net next ss after Spent = IsCompany births next after × (seen next ≡ seen net) × HasHalted ss place true
-  Told births place event net next ss after (Empty told) = ⊥
-  Told births place event net next ss after OutOfMemory = ⊤
+  abbrev pub AfterEvent : List (Seat A) → ℕ → Event O → Port M O h → Port M O h → List (Shell A M O g h) → List (Shell A M O g h) → Turn → Type 0
+  AfterEvent births place event net next ss after (Did at) = IsCompany births next after × RowAdded g.table births place event net next × (journal_bytes h.weighs (seen next) ≤ net.limit) × HasHalted ss place false
+  AfterEvent births place event net next ss after (Full bytes) = (seen next ≡ seen net) × RowPasses g.table births place event net × HasHalted ss place false
+  AfterEvent births place event net next ss after Spent = IsCompany births next after × (seen next ≡ seen net) × HasHalted ss place true
+  AfterEvent births place event net next ss after (Empty told) = ⊥
+  AfterEvent births place event net next ss after OutOfMemory = ⊤
 
   -- The k-th pending mail of the actor at this place has this number.
   abbrev pub KthIs : List (Shell A M O g h) → ℕ → ℕ → Port M O h → ℕ → Type 0
   KthIs ss place k net number = (d : Shell A M O g h) → kth_pending h.receiver net.actors (seen net) (slice_index_or ss place d).port.who k ≡ Some number
 
   -- What a turn of the actor at this place leaves, by the answer: one more row, that of the delivery of the k-th pending mail; or no row, since it would pass the limit, no such mail is pending, or the actor has crashed.
-  abbrev pub Served : List (Seat A) → ℕ → ℕ → Port M O h → Port M O h → List (Shell A M O g h) → List (Shell A M O g h) → Turn → Type 0
-  Served births place k net next ss after (Did at) = IsCompany births next after × ((number : ℕ) × KthIs ss place k net number × RowAdded g.table births place (Deliver number) net next) × (journal_bytes h.weighs (seen next) ≤ net.limit)
-  Served births place k net next ss after (Full bytes) = (seen next ≡ seen net) × ((number : ℕ) × KthIs ss place k net number × RowPasses g.table births place (Deliver number) net)
-  Served births place k net next ss after (Empty told) = IsCompany births next after × (seen next ≡ seen net) × ((d : Shell A M O g h) → kth_pending h.receiver net.actors (seen net) (slice_index_or ss place d).port.who k ≡ None)
-  Served births place k net next ss after Spent = IsCompany births next after × (seen next ≡ seen net) × HasHalted ss place true
-  Served births place k net next ss after OutOfMemory = ⊤
+  abbrev pub AfterTurn : List (Seat A) → ℕ → ℕ → Port M O h → Port M O h → List (Shell A M O g h) → List (Shell A M O g h) → Turn → Type 0
+  AfterTurn births place k net next ss after (Did at) = IsCompany births next after × ((number : ℕ) × KthIs ss place k net number × RowAdded g.table births place (Deliver number) net next) × (journal_bytes h.weighs (seen next) ≤ net.limit)
+  AfterTurn births place k net next ss after (Full bytes) = (seen next ≡ seen net) × ((number : ℕ) × KthIs ss place k net number × RowPasses g.table births place (Deliver number) net)
+  AfterTurn births place k net next ss after (Empty told) = IsCompany births next after × (seen next ≡ seen net) × ((d : Shell A M O g h) → kth_pending h.receiver net.actors (seen net) (slice_index_or ss place d).port.who k ≡ None)
+  AfterTurn births place k net next ss after Spent = IsCompany births next after × (seen next ≡ seen net) × HasHalted ss place true
+  AfterTurn births place k net next ss after OutOfMemory = ⊤
 
-  -- What an event of the actor at this place leaves (`Told`), for all births of which the shells are those.
-  abbrev pub ToldAll : ℕ → Event O → Port M O h → Port M O h → List (Shell A M O g h) → List (Shell A M O g h) → Turn → Type 0
-  ToldAll place event net next ss after turn = (births : List (Seat A)) → IsCompany births net ss → Told births place event net next ss after turn
+  -- What an event of the actor at this place leaves (`AfterEvent`), for all births of which the shells are those.
+  abbrev pub AfterEventAll : ℕ → Event O → Port M O h → Port M O h → List (Shell A M O g h) → List (Shell A M O g h) → Turn → Type 0
+  AfterEventAll place event net next ss after turn = (births : List (Seat A)) → IsCompany births net ss → AfterEvent births place event net next ss after turn
 
-  -- What a turn of the actor at this place leaves (`Served`), for all births of which the shells are those.
-  abbrev pub ServedAll : ℕ → ℕ → Port M O h → Port M O h → List (Shell A M O g h) → List (Shell A M O g h) → Turn → Type 0
-  ServedAll place k net next ss after turn = (births : List (Seat A)) → IsCompany births net ss → Served births place k net next ss after turn
+  -- What a turn of the actor at this place leaves (`AfterTurn`), for all births of which the shells are those.
+  abbrev pub AfterTurnAll : ℕ → ℕ → Port M O h → Port M O h → List (Shell A M O g h) → List (Shell A M O g h) → Turn → Type 0
+  AfterTurnAll place k net next ss after turn = (births : List (Seat A)) → IsCompany births net ss → AfterTurn births place k net next ss after turn
 
   -- Each shell that is spent has posted a Crash, where the answer is no refusal.
   abbrev pub SoundAfter : Turn → List (Shell A M O g h) → Type 0
@@ -87,9 +87,9 @@ module _ {A M O : Type 0} {g : Ghosts A M O} {h : MailGhosts M} where
   SoundAfter OutOfMemory ss = ⊤
 
 -- The answer is one to an event: any but `Empty`.
-abbrev pub IsTold : Turn → Type 0
-IsTold (Did at) = ⊤
-IsTold (Empty told) = ⊥
-IsTold (Full bytes) = ⊤
-IsTold Spent = ⊤
-IsTold OutOfMemory = ⊤
+abbrev pub IsEventAnswer : Turn → Type 0
+IsEventAnswer (Did at) = ⊤
+IsEventAnswer (Empty told) = ⊥
+IsEventAnswer (Full bytes) = ⊤
+IsEventAnswer Spent = ⊤
+IsEventAnswer OutOfMemory = ⊤

@@ -11,7 +11,7 @@ use Rattle.sc_actor.specs.declared.schedules.Line.TheVariants.{Go, Crash, Settle
 use Rattle.sc_actor.specs.Counted.{journal_bytes, IsFull}
 use Rattle.sc_actor.specs.Mail.{has_crashed}
 use Rattle.sc_actor.specs.Replay.{values}
-use Rattle.sc_actor.specs.System.{System, system, acts, has_gone}
+use Rattle.sc_actor.specs.System.{System, system, acts, has_started}
 use Rattle.sc_actor.specs.Walk.{Task, IsLawful, IsWhole, place_after, onward, line_row, skipped, unsettled, is_quiet}
 use Rattle.sc_exchange.specs.declared.ports.Port.{Port}
 use Rattle.sc_exchange.specs.Ports.{seen, Stays, IsTrue}
@@ -65,14 +65,14 @@ module _ {A M O : Type 0} {g : Ghosts A M O} {h : MailGhosts M} where
   -- The outcome of a line of one row, where the score has the actors that have a Go row.
   abbrev pub StepsSo : Line O → Port M O h → List (Shell A M O g h) → Score → Port M O h → List (Shell A M O g h) → Result Bool Stop → Type 0
   StepsSo line net ss score next after step =
-      (words : ℕ → ℕ → ℕ × ℕ) (births : List (Seat A)) → IsCompany births net ss → ((who : ℕ) → has_gone (seen net) who ≡ is_in who score.gone.items) → Stepped (system g.table h.receiver words births) (line_row (system g.table h.receiver words births) (seen net) line) net next after step
+      (words : ℕ → ℕ → ℕ × ℕ) (births : List (Seat A)) → IsCompany births net ss → ((who : ℕ) → has_started (seen net) who ≡ is_in who score.started.items) → Stepped (system g.table h.receiver words births) (line_row (system g.table h.receiver words births) (seen net) line) net next after step
 
   -- What the network's port has seen is a lawful journal within the limit; after it the walk has these tasks left, with the counts of the score; and all shells have gathered.
   pub record HasReached (words : ℕ → ℕ → ℕ × ℕ) (births : List (Seat A)) (lines : List (Line O)) (net : Port M O h) (ss : List (Shell A M O g h)) (score : Score) (tasks : List (Task O)) : Type 0 where
     pub lawful : IsLawful (system g.table h.receiver words births) lines (seen net)
     pub place : place_after (system g.table h.receiver words births) lines (seen net) ≡ onward (system g.table h.receiver words births) (seen net) tasks score.skipped score.unsettled
     pub company : IsCompany births net ss
-    pub told : (who : ℕ) → is_in who score.gone.items ≡ has_gone (seen net) who
+    pub told : (who : ℕ) → is_in who score.started.items ≡ has_started (seen net) who
     pub within : journal_bytes h.weighs (seen net) ≤ net.limit
 
   -- The driver has gone on from the tasks `before` to the tasks `left`: wherever it had reached `before` and any further tasks, it has reached `left` and the same further tasks.

@@ -1,14 +1,14 @@
 -- Whether a row was made, or why none could be.
 use Rattle.std.specs.Prelude.{Bool, true, false, Result, Ok, Err}
-use Rattle.sc_ledger.specs.declared.faults.PostFault.{PostFault}
-use Rattle.sc_ledger.specs.declared.faults.PostFault.TheVariants as post
+use Rattle.sc_ledger.specs.declared.errors.PostError.{PostError}
+use Rattle.sc_ledger.specs.declared.errors.PostError.TheVariants as post
 use Rattle.sc_shell.specs.declared.turns.Turn.{Turn}
 use Rattle.sc_shell.specs.declared.turns.Turn.TheVariants as turn
 use Rattle.sc_drive.specs.declared.company.Stop.{Stop}
 use Rattle.sc_drive.specs.declared.company.Stop.TheVariants.{Full, OutOfMemory}
 
 -- Why a schedule stops where a row could not be posted for this cause.
-abbrev pub stop_by : PostFault → Stop
+abbrev pub stop_by : PostError → Stop
 stop_by (post.JournalFull bytes) = Full
 stop_by post.OutOfMemory = OutOfMemory
 

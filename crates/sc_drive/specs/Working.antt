@@ -17,7 +17,7 @@ use Rattle.sc_shell.specs.declared.turns.Turn.{Turn}
 use Rattle.sc_drive.specs.declared.company.Company.{Company}
 use Rattle.sc_drive.specs.declared.company.Stop.{Stop}
 use Rattle.sc_drive.specs.declared.company.Stop.TheVariants.{Full, OutOfMemory}
-use Rattle.sc_drive.specs.Acts.{IsTold, ServedAll, SoundAfter, ToldAll}
+use Rattle.sc_drive.specs.Acts.{IsEventAnswer, AfterTurnAll, SoundAfter, AfterEventAll}
 use Rattle.sc_drive.specs.Changing.{ChangesAll}
 use Rattle.sc_drive.specs.Companies.{AtBirth, IsCompany}
 use Rattle.sc_drive.specs.Goings.{Fills, Goes, HasEnded, IsKept, IsOn, IsTogether, MakesSo, MayGo, StaysSo}
@@ -33,15 +33,15 @@ module _ {A M O : Type 0} {g : Ghosts A M O} {h : MailGhosts M} where
   IsStaffed c = (births : List (Seat A)) × IsCompany births c.net c.shells.items
 
   -- The shells of the company are those of all actors of some births, and the actor `who` has not crashed.
-  abbrev pub MayBeTold : ℕ → Company A M O g h → Type 0
-  MayBeTold who c = MayGo who c.net c.shells.items
+  abbrev pub MayTakeEvent : ℕ → Company A M O g h → Type 0
+  MayTakeEvent who c = MayGo who c.net c.shells.items
 
   -- The company at the beginning: its actors are at their births, no row was made, and the score is empty.
   pub record HasOpened (births : List (Seat A)) (c : Company A M O g h) : Type 0 where
     pub birth : AtBirth births c.net c.shells.items
     pub none_skipped : c.score.skipped ≡ 0
     pub settled : c.score.unsettled ≡ false
-    pub none_gone : c.score.gone.items ≡ []
+    pub none_started : c.score.started.items ≡ []
 
   -- The company `d` has the actors of `c` in the same order, and all have gathered.
   abbrev pub StaysWhole : Company A M O g h → Company A M O g h → Type 0
@@ -76,18 +76,18 @@ module _ {A M O : Type 0} {g : Ghosts A M O} {h : MailGhosts M} where
     pub fills : Fills c.net c.shells.items c.score tasks d.net
 
   -- An event happened to the actor at this place, and all gathered.
-  pub record ActTold (place : ℕ) (event : Event O) (turn : Turn) (c d : Company A M O g h) : Type 0 where
+  pub record ActedOnEvent (place : ℕ) (event : Event O) (turn : Turn) (c d : Company A M O g h) : Type 0 where
     pub kept : StaysWhole c d
     pub sound : SoundAfter turn d.shells.items
-    pub answer : IsTold turn
-    pub told : ToldAll place event c.net d.net c.shells.items d.shells.items turn
+    pub answer : IsEventAnswer turn
+    pub told : AfterEventAll place event c.net d.net c.shells.items d.shells.items turn
     pub score : d.score ≡ c.score
 
   -- The actor at this place took a turn, and all gathered.
-  pub record ActServed (place k : ℕ) (turn : Turn) (c d : Company A M O g h) : Type 0 where
+  pub record ActedByTurn (place k : ℕ) (turn : Turn) (c d : Company A M O g h) : Type 0 where
     pub kept : StaysWhole c d
     pub sound : SoundAfter turn d.shells.items
-    pub served : ServedAll place k c.net d.net c.shells.items d.shells.items turn
+    pub served : AfterTurnAll place k c.net d.net c.shells.items d.shells.items turn
     pub score : d.score ≡ c.score
 
   -- The network's port lost or repeated the mail, or not, by the result, and all gathered.

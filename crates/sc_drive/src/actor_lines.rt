@@ -4,9 +4,9 @@ ghost use Rattle.sc_actor.specs.System.{acts};
 ghost use Rattle.sc_actor.specs.Walk.{line_row};
 ghost use Rattle.sc_shell.specs.Answers.{MayHappen};
 ghost use Rattle.sc_drive.specs.Stepping.{IsPlace, IsNowhere, unless_crashed};
-ghost use Rattle.sc_drive.specs.Working.{AreTogether, MayBeTold, RowEnds};
+ghost use Rattle.sc_drive.specs.Working.{AreTogether, MayTakeEvent, RowEnds};
 
-use crate::acts::{serve, tell};
+use crate::acts::{act_by_turn, act_on_event};
 use crate::company::{Company, Stop, row_made};
 use sc_actor::{Actor, Event, Gate, Line};
 use sc_shell::Shell;
@@ -42,7 +42,7 @@ pub(crate) fn happen<A: Actor, R: Wait>(
     let Some(place) = place_of(company.shells.as_slice(), who) else {
         return Ok(false);
     };
-    let turn = tell(rt, alloc, company, place, event)?;
+    let turn = act_on_event(rt, alloc, company, place, event)?;
     row_made(turn)
 }
 
@@ -54,13 +54,13 @@ pub(crate) fn go<A: Actor, R: Wait>(
     who: u32,
 ) -> Result<bool, Stop>
     requires together { AreTogether company.old }
-    requires runs { MayBeTold who company.old }
+    requires runs { MayTakeEvent who company.old }
     ensures { RowEnds (λ s rows. acts s rows who Event.Go) company.old company.new result }
 {
     let Some(place) = place_of(company.shells.as_slice(), who) else {
         return Ok(false);
     };
-    let turn = tell(rt, alloc, company, place, Event::Go)?;
+    let turn = act_on_event(rt, alloc, company, place, Event::Go)?;
     row_made(turn)
 }
 
@@ -83,6 +83,6 @@ pub(crate) fn deliver<A: Actor, G: Gate, R: Wait>(
     let Some(place) = place_of(company.shells.as_slice(), who) else {
         return Ok(false);
     };
-    let (turn, _) = serve(rt, alloc, company, place, k, gate)?;
+    let (turn, _) = act_by_turn(rt, alloc, company, place, k, gate)?;
     row_made(turn)
 }

@@ -4,8 +4,8 @@ ghost use Rattle.sc_exchange.specs.Ports.{SameExchange};
 ghost use Rattle.sc_shell.specs.Answers.{MayHappen};
 ghost use Rattle.sc_shell.specs.Shells.{port_of};
 ghost use Rattle.sc_workers.specs.Ends.{IsFirst};
-ghost use Rattle.sc_drive.specs.Acts.{MetAndTold, MetAndTook};
-ghost use Rattle.sc_drive.specs.Working.{ActServed, ActTold, AreTogether};
+ghost use Rattle.sc_drive.specs.Acts.{MetAndHappened, MetAndTook};
+ghost use Rattle.sc_drive.specs.Working.{ActedByTurn, ActedOnEvent, AreTogether};
 
 use crate::company::Company;
 use crate::gathering::gather_after;
@@ -16,7 +16,7 @@ use sc_shell::{Shell, Turn};
 use std::alloc::Global;
 use std::sync::Wait;
 
-fn tell_one<A: Actor, R: Wait>(
+fn meet_then_event<A: Actor, R: Wait>(
     rt: &R,
     alloc: Global,
     net: &mut Port<A::Mail, A::Order>,
@@ -25,13 +25,13 @@ fn tell_one<A: Actor, R: Wait>(
 ) -> Result<Turn, OutOfMemory>
     requires exchange { SameExchange (port_of shell.old) net.old }
     requires event { MayHappen event }
-    ensures { IfOk result (λ turn. MetAndTold event turn shell.old shell.new net.old net.new) }
+    ensures { IfOk result (λ turn. MetAndHappened event turn shell.old shell.new net.old net.new) }
 {
     shell.meet(rt, net)?;
     Ok(shell.event(rt, alloc, event))
 }
 
-fn serve_one<A: Actor, G: Gate, R: Wait>(
+fn meet_then_turn<A: Actor, G: Gate, R: Wait>(
     rt: &R,
     alloc: Global,
     net: &mut Port<A::Mail, A::Order>,
@@ -48,7 +48,7 @@ fn serve_one<A: Actor, G: Gate, R: Wait>(
 }
 
 /// Lets an event happen to the actor at a place, and then all gather.
-pub(crate) fn tell<A: Actor, R: Wait>(
+pub(crate) fn act_on_event<A: Actor, R: Wait>(
     rt: &R,
     alloc: Global,
     company: &mut Company<A>,
@@ -58,9 +58,9 @@ pub(crate) fn tell<A: Actor, R: Wait>(
     requires together { AreTogether company.old }
     requires inside { place < length company.old.shells.items }
     requires event { MayHappen event }
-    ensures { IfOk result (λ turn. ActTold place event turn company.old company.new) }
+    ensures { IfOk result (λ turn. ActedOnEvent place event turn company.old company.new) }
 {
-    let turn = tell_one(
+    let turn = meet_then_event(
         rt,
         alloc,
         &mut company.net,
@@ -73,7 +73,7 @@ pub(crate) fn tell<A: Actor, R: Wait>(
 
 /// Lets the actor at a place take a turn for its k-th pending mail, and then all gather. Returns
 /// the answer, and the receiver of the first pending mail of all then.
-pub(crate) fn serve<A: Actor, G: Gate, R: Wait>(
+pub(crate) fn act_by_turn<A: Actor, G: Gate, R: Wait>(
     rt: &R,
     alloc: Global,
     company: &mut Company<A>,
@@ -85,9 +85,9 @@ pub(crate) fn serve<A: Actor, G: Gate, R: Wait>(
     requires inside { place < length company.old.shells.items }
     requires first { 0 < k }
     ensures found { IfOk result (λ served. IsFirst company.new.net served.1) }
-    ensures served { IfOk result (λ served. ActServed place k served.0 company.old company.new) }
+    ensures served { IfOk result (λ served. ActedByTurn place k served.0 company.old company.new) }
 {
-    let turn = serve_one(
+    let turn = meet_then_turn(
         rt,
         alloc,
         &mut company.net,

@@ -5,7 +5,7 @@ ghost use Rattle.sc_drive.specs.declared.company.Stop.TheVariants.{OutOfMemory a
 
 use sc_actor::Actor;
 use sc_base::OutOfMemory;
-use sc_exchange::{Port, PostFault};
+use sc_exchange::{Port, PostError};
 use sc_shell::{Shell, Turn};
 
 /// What the walk has counted.
@@ -16,7 +16,7 @@ pub struct Score {
     /// Whether a line of many deliveries ended with mail pending.
     pub unsettled: bool,
     /// The actors that have started by a `go` line.
-    pub gone: Vec<u32>,
+    pub started: Vec<u32>,
 }
 
 /// All that a schedule is driven through.
@@ -42,18 +42,18 @@ pub enum Stop {
 impl From<OutOfMemory> for Stop {
     ghost from_gives = { λ _ stop. stop ≡ NoRoom };
 
-    fn from(_fault: OutOfMemory) -> Stop {
+    fn from(_error: OutOfMemory) -> Stop {
         Stop::OutOfMemory
     }
 }
 
-impl From<PostFault> for Stop {
-    ghost from_gives = { λ fault stop. stop ≡ stop_by fault };
+impl From<PostError> for Stop {
+    ghost from_gives = { λ error stop. stop ≡ stop_by error };
 
-    fn from(fault: PostFault) -> Stop {
-        match fault {
-            PostFault::JournalFull { .. } => Stop::Full,
-            PostFault::OutOfMemory => Stop::OutOfMemory,
+    fn from(error: PostError) -> Stop {
+        match error {
+            PostError::JournalFull { .. } => Stop::Full,
+            PostError::OutOfMemory => Stop::OutOfMemory,
         }
     }
 }

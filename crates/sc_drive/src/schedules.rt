@@ -5,7 +5,7 @@ ghost use Rattle.sc_actor.specs.declared.schedules.Played.TheVariants.{OutOfMemo
 ghost use Rattle.sc_actor.specs.Walk.{tasks_of};
 ghost use Rattle.sc_chance.specs.Words.{two_words};
 ghost use Rattle.sc_drive.specs.Goings.{SparesGoers};
-ghost use Rattle.sc_drive.specs.Working.{AreTogether, HasOpened, IsDriven, IsStaffed, LineEnded, LineRefused, MayBeTold, StaysWhole};
+ghost use Rattle.sc_drive.specs.Working.{AreTogether, HasOpened, IsDriven, IsStaffed, LineEnded, LineRefused, MayTakeEvent, StaysWhole};
 
 use crate::company::{Company, Stop};
 use crate::free_lines::run_free;
@@ -29,7 +29,7 @@ fn run_line<A: Actor, G: Gate, R: Threads + Wait + Sync>(
 ) -> Result<(), Stop>
     requires together { AreTogether company.old }
     requires staffed { IsStaffed company.old }
-    requires runs { (who : ℕ) → line.now ≡ Line.Go who → MayBeTold who company.old }
+    requires runs { (who : ℕ) → line.now ≡ Line.Go who → MayTakeEvent who company.old }
     ensures goes { OnOk result
         (LineEnded (tasks_of two_words line.now) [] company.old company.new) }
     ensures fills { IsErrOf result Stop.Full →

@@ -6,7 +6,7 @@ ghost use Rattle.sc_drive.specs.Lowest.{FindsLowest, IsFirstPlaced};
 ghost use Rattle.sc_drive.specs.Working.{AreTogether, HasFound, HasSettledOne, IsStaffed, LineEnded, LineRefused};
 
 use crate::actor_lines::place_of;
-use crate::acts::serve;
+use crate::acts::act_by_turn;
 use crate::company::{Company, Stop};
 use sc_actor::{Actor, Gate};
 use sc_base::OutOfMemory;
@@ -95,7 +95,7 @@ fn settle_step<A: Actor, G: Gate, R: Wait>(
     ensures fills { IsErrOf result Stop.Full →
         LineRefused (Settles left ∷ []) company.old company.new }
 {
-    let (turn, found) = serve(rt, alloc, company, place, 1, gate)?;
+    let (turn, found) = act_by_turn(rt, alloc, company, place, 1, gate)?;
     match turn {
         Turn::Did { .. } => {
             let next = placed(rt, company, found)?;

@@ -3,7 +3,7 @@ ghost use Rattle.std.specs.Prelude.{◌≡◌, ◌+◌, [], ◌∷◌, OnOk, IsE
 ghost use Rattle.sc_actor.specs.Walk.{Once, line_row};
 ghost use Rattle.sc_drive.specs.Numbers.{is_in};
 ghost use Rattle.sc_drive.specs.Goings.{IsCalm};
-ghost use Rattle.sc_drive.specs.Working.{AreTogether, LineEnded, LineRefused, MayBeTold, RowEnds};
+ghost use Rattle.sc_drive.specs.Working.{AreTogether, LineEnded, LineRefused, MayTakeEvent, RowEnds};
 
 use crate::actor_lines::{deliver, go, happen};
 use crate::company::{Company, Score, Stop};
@@ -17,7 +17,7 @@ use std::sync::Wait;
 fn skip(score: &mut Score) -> Result<(), Stop>
     ensures skipped { OnOk result (score.new.skipped ≡ score.old.skipped + 1) }
     ensures kept { (score.new.unsettled ≡ score.old.unsettled)
-        × (score.new.gone.items ≡ score.old.gone.items) }
+        × (score.new.started.items ≡ score.old.started.items) }
     ensures why { IsErrOf result Stop.Full → ⊥ }
 {
     let Some(count) = score.skipped.checked_add(1) else {
@@ -89,17 +89,17 @@ pub(crate) fn run_go<A: Actor, R: Wait>(
     who: u32,
 ) -> Result<(), Stop>
     requires together { AreTogether company.old }
-    requires runs { MayBeTold who company.old }
+    requires runs { MayTakeEvent who company.old }
     ensures goes { OnOk result
         (LineEnded (Once (Line.Go who) ∷ []) [] company.old company.new) }
     ensures fills { IsErrOf result Stop.Full →
         LineRefused (Once (Line.Go who) ∷ []) company.old company.new }
 {
-    if is_listed(company.score.gone.as_slice(), who) {
+    if is_listed(company.score.started.as_slice(), who) {
         return skip(&mut company.score);
     }
     if go(rt, alloc, company, who)? {
-        let Ok(()) = company.score.gone.push(who) else {
+        let Ok(()) = company.score.started.push(who) else {
             return Err(Stop::OutOfMemory);
         };
         return Ok(());

@@ -54,7 +54,7 @@ pub fn open<A: Actor>(
     let score = Score {
         skipped: 0,
         unsettled: false,
-        gone: Vec::new(alloc),
+        started: Vec::new(alloc),
     };
     Ok(Company { net, shells, score })
 }

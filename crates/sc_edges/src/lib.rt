@@ -4,10 +4,10 @@
 mod memory;
 mod outside;
 mod reading;
-mod told;
+mod pieces;
 mod traits;
 
 pub use memory::{MemSink, MemSource};
 pub use outside::{StdSink, StdSource};
-pub use reading::{ReadFault, read_all};
+pub use reading::{ReadError, read_all};
 pub use traits::{Failed, Sink, Source};

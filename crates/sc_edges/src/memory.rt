@@ -4,7 +4,7 @@ ghost use Rattle.std.specs.Io.KnownBytes.{Appends};
 ghost use Rattle.sc_edges.specs.Causes.{HasCause};
 ghost use Rattle.sc_edges.specs.Bytes.{Gives, AppendsPart, IsHanded};
 
-use crate::told::Pieces;
+use crate::pieces::Pieces;
 use crate::traits::{Failed, Sink, Source};
 use sc_base::OutOfMemory;
 use std::alloc::Global;
@@ -18,7 +18,7 @@ pub struct MemSource {
     at: usize,
     failing: Vec<u64>,
     calls: u64,
-    faults: u64,
+    errors: u64,
 }
 
 impl Model for MemSource {
@@ -32,7 +32,7 @@ impl Model for MemSource {
           left = drop s.at s.bytes.items;
           failing = s.failing.items;
           calls = s.calls;
-          faults = s.faults;
+          errors = s.errors;
         } };
 
     ghost invariant = { λ s. s.at ≤ vec_len s.bytes };
@@ -43,14 +43,14 @@ impl MemSource {
     /// calls that fail.
     pub fn new(alloc: Global, bytes: &[u8], failing: &[u64]) -> Result<MemSource, OutOfMemory>
         ensures { IfOk result
-            (λ s. s ≡ record { left = bytes.now; failing = failing.now; calls = 0; faults = 0 }) }
+            (λ s. s ≡ record { left = bytes.now; failing = failing.now; calls = 0; errors = 0 }) }
     {
         Ok(MemSource {
             bytes: Vec::from_slice(alloc, bytes)?,
             at: 0,
             failing: Vec::from_slice(alloc, failing)?,
             calls: 0,
-            faults: 0,
+            errors: 0,
         })
     }
 }
@@ -58,24 +58,24 @@ impl MemSource {
 impl Source for MemSource {
     ghost left = { λ s. Some s.left };
 
-    ghost faults = { λ s. s.faults };
+    ghost errors = { λ s. s.errors };
 
     ghost calls = { λ s. s.calls };
 
     fn take(&mut self, buf: &mut [u8]) -> Result<usize, Failed>
         ensures taken { IfOk result
             (λ n. Gives (Some self.old.left) (Some self.new.left) n buf.new) }
-        ensures cause { HasCause self.old.faults self.new.faults result }
+        ensures cause { HasCause self.old.errors self.new.errors result }
         ensures call { self.new.calls ≤ self.old.calls + 1 }
         ensures fails { IsErr result ↔ Contains self.old.failing self.new.calls }
         ensures calls { self.new.calls ≡ min (self.old.calls + 1) u64.MAX }
         ensures failing { self.new.failing ≡ self.old.failing }
         ensures unchanged { OnErr result (self.new.left ≡ self.old.left) }
-        ensures count { OnOk result (self.new.faults ≡ self.old.faults) }
+        ensures count { OnOk result (self.new.errors ≡ self.old.errors) }
     {
         self.calls = self.calls.saturating_add(1);
         if self.failing.contains(&self.calls) {
-            self.faults = self.faults.saturating_add(1);
+            self.errors = self.errors.saturating_add(1);
             return Err(Failed);
         }
         let left = self.bytes.len() - self.at;
@@ -95,7 +95,7 @@ pub struct MemSink {
     room: usize,
     failing: Vec<u64>,
     calls: u64,
-    faults: u64,
+    errors: u64,
     pieces: Pieces,
 }
 
@@ -111,7 +111,7 @@ impl Model for MemSink {
           room = s.room;
           failing = s.failing.items;
           calls = s.calls;
-          faults = s.faults;
+          errors = s.errors;
           pieces = s.pieces.brought;
         } };
 
@@ -130,7 +130,7 @@ impl MemSink {
               room = room;
               failing = failing.now;
               calls = 0;
-              faults = 0;
+              errors = 0;
               pieces = [];
             }) }
     {
@@ -139,7 +139,7 @@ impl MemSink {
             room,
             failing: Vec::from_slice(alloc, failing)?,
             calls: 0,
-            faults: 0,
+            errors: 0,
             pieces: Pieces::new(),
         })
     }
@@ -155,7 +155,7 @@ impl MemSink {
 impl Sink for MemSink {
     ghost held = { λ s. Some s.held };
 
-    ghost faults = { λ s. s.faults };
+    ghost errors = { λ s. s.errors };
 
     ghost calls = { λ s. s.calls };
 
@@ -165,7 +165,7 @@ impl Sink for MemSink {
         ensures whole { OnOk result (Appends (Some self.old.held) (Some self.new.held) piece.now) }
         ensures part { OnErr result
             (AppendsPart (Some self.old.held) (Some self.new.held) piece.now) }
-        ensures cause { HasCause self.old.faults self.new.faults result }
+        ensures cause { HasCause self.old.errors self.new.errors result }
         ensures call { self.new.calls ≤ self.old.calls + 1 }
         ensures piece { IsHanded (Some self.old.pieces) (Some self.new.pieces) piece.now }
         ensures fails { IsErr result ↔
@@ -175,7 +175,7 @@ impl Sink for MemSink {
         ensures unchanged { OnErr result
             ((self.new.held ≡ self.old.held) × (self.new.room ≡ self.old.room)) }
         ensures room { OnOk result
-            ((self.new.faults ≡ self.old.faults)
+            ((self.new.errors ≡ self.old.errors)
             × (self.new.room + length piece.now ≡ self.old.room)) }
     {
         self.pieces.note(piece);
@@ -184,7 +184,7 @@ impl Sink for MemSink {
             || piece.len() > self.room
             || self.held.extend_from_slice(piece).is_err()
         {
-            self.faults = self.faults.saturating_add(1);
+            self.errors = self.errors.saturating_add(1);
             return Err(Failed);
         }
         self.room -= piece.len();

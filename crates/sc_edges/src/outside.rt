@@ -13,18 +13,18 @@ use std::io::{Read, Write};
 pub struct StdSource<R> {
     reader: R,
     calls: u64,
-    faults: u64,
+    errors: u64,
 }
 
 impl<R> StdSource<R> {
     /// Returns the source over a reader, before its first call. It takes no memory.
     pub fn new(reader: R) -> StdSource<R>
-        ensures { result ≡ record { reader = reader; calls = 0; faults = 0 } }
+        ensures { result ≡ record { reader = reader; calls = 0; errors = 0 } }
     {
         StdSource {
             reader,
             calls: 0,
-            faults: 0,
+            errors: 0,
         }
     }
 }
@@ -32,24 +32,24 @@ impl<R> StdSource<R> {
 impl<R: Read> Source for StdSource<R> {
     ghost left = { λ s. R.remaining s.reader };
 
-    ghost faults = { λ s. s.faults };
+    ghost errors = { λ s. s.errors };
 
     ghost calls = { λ s. s.calls };
 
     fn take(&mut self, buf: &mut [u8]) -> Result<usize, Failed>
         ensures taken { IfOk result
             (λ n. Gives (R.remaining self.old.reader) (R.remaining self.new.reader) n buf.new) }
-        ensures cause { HasCause self.old.faults self.new.faults result }
+        ensures cause { HasCause self.old.errors self.new.errors result }
         ensures call { self.new.calls ≤ self.old.calls + 1 }
         ensures counted { self.new.calls ≡ min (self.old.calls + 1) u64.MAX }
-        ensures same { OnOk result (self.new.faults ≡ self.old.faults) }
-        ensures risen { OnErr result (self.new.faults ≡ min (self.old.faults + 1) u64.MAX) }
+        ensures same { OnOk result (self.new.errors ≡ self.old.errors) }
+        ensures risen { OnErr result (self.new.errors ≡ min (self.old.errors + 1) u64.MAX) }
     {
         self.calls = self.calls.saturating_add(1);
         match self.reader.read(buf) {
             Ok(n) => Ok(n),
             Err(_) => {
-                self.faults = self.faults.saturating_add(1);
+                self.errors = self.errors.saturating_add(1);
                 Err(Failed)
             }
         }
@@ -61,18 +61,18 @@ impl<R: Read> Source for StdSource<R> {
 pub struct StdSink<W> {
     writer: W,
     calls: u64,
-    faults: u64,
+    errors: u64,
 }
 
 impl<W> StdSink<W> {
     /// Returns the sink over a writer, before its first call. It takes no memory.
     pub fn new(writer: W) -> StdSink<W>
-        ensures { result ≡ record { writer = writer; calls = 0; faults = 0 } }
+        ensures { result ≡ record { writer = writer; calls = 0; errors = 0 } }
     {
         StdSink {
             writer,
             calls: 0,
-            faults: 0,
+            errors: 0,
         }
     }
 }
@@ -80,7 +80,7 @@ impl<W> StdSink<W> {
 impl<W: Write> Sink for StdSink<W> {
     ghost held = { λ s. W.contents s.writer };
 
-    ghost faults = { λ s. s.faults };
+    ghost errors = { λ s. s.errors };
 
     ghost calls = { λ s. s.calls };
 
@@ -89,11 +89,11 @@ impl<W: Write> Sink for StdSink<W> {
             (Appends (W.contents self.old.writer) (W.contents self.new.writer) piece.now) }
         ensures part { OnErr result
             (AppendsPart (W.contents self.old.writer) (W.contents self.new.writer) piece.now) }
-        ensures cause { HasCause self.old.faults self.new.faults result }
+        ensures cause { HasCause self.old.errors self.new.errors result }
         ensures call { self.new.calls ≤ self.old.calls + 1 }
         ensures counted { self.new.calls ≡ min (self.old.calls + 1) u64.MAX }
-        ensures same { OnOk result (self.new.faults ≡ self.old.faults) }
-        ensures risen { OnErr result (self.new.faults ≡ min (self.old.faults + 1) u64.MAX) }
+        ensures same { OnOk result (self.new.errors ≡ self.old.errors) }
+        ensures risen { OnErr result (self.new.errors ≡ min (self.old.errors + 1) u64.MAX) }
     {
         self.calls = self.calls.saturating_add(1);
         let mut at = 0;
@@ -101,7 +101,7 @@ impl<W: Write> Sink for StdSink<W> {
             match self.writer.write(&piece[at..]) {
                 Ok(n) if n > 0 => at += n,
                 _ => {
-                    self.faults = self.faults.saturating_add(1);
+                    self.errors = self.errors.saturating_add(1);
                     return Err(Failed);
                 }
             }

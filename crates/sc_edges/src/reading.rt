@@ -8,7 +8,7 @@ use std::alloc::{AllocError, Global};
 
 /// The reason why nothing was read: a read error, or out of memory.
 #[derive(Clone, Copy, Debug, PartialEq, Eq)]
-pub enum ReadFault {
+pub enum ReadError {
     /// A call of the source failed.
     Failed,
     /// There was no memory left.
@@ -22,12 +22,12 @@ const PIECE: usize = 4096;
 /// calls of `take`.
 ///
 /// Returns `Failed` only where the source's count of read errors rose in this call.
-pub fn read_all<S: Source>(alloc: Global, source: &mut S, most: u64) -> Result<Vec<u8>, ReadFault>
+pub fn read_all<S: Source>(alloc: Global, source: &mut S, most: u64) -> Result<Vec<u8>, ReadError>
     ensures taken { IfOk result
         (λ bytes. TakesUpTo (S.left source.old) (S.left source.new) most bytes.items) }
-    ensures failed { IsErrOf result ReadFault.Failed →
-        Rose (S.faults source.old) (S.faults source.new) }
-    ensures later { S.faults source.old ≤ S.faults source.new }
+    ensures failed { IsErrOf result ReadError.Failed →
+        Rose (S.errors source.old) (S.errors source.new) }
+    ensures later { S.errors source.old ≤ S.errors source.new }
     ensures calls { S.calls source.new ≤ S.calls source.old + (most + 2) }
 {
     let mut bytes = Vec::new(alloc);
@@ -41,13 +41,13 @@ pub fn read_all<S: Source>(alloc: Global, source: &mut S, most: u64) -> Result<V
         };
         let n = match source.take(&mut buf[..want]) {
             Ok(n) => n,
-            Err(Failed) => return Err(ReadFault::Failed),
+            Err(Failed) => return Err(ReadError::Failed),
         };
         if n == 0 {
             break;
         }
         if let Err(AllocError) = bytes.extend_from_slice(&buf[..n]) {
-            return Err(ReadFault::OutOfMemory);
+            return Err(ReadError::OutOfMemory);
         }
     }
     Ok(bytes)

@@ -15,7 +15,7 @@ pub trait Source {
     ghost left: { Self → Option (List ℕ) };
 
     /// The number of read errors so far. It never falls. Where it is 2^64 - 1, it counts as risen.
-    ghost faults: { Self → ℕ };
+    ghost errors: { Self → ℕ };
 
     /// The number of calls so far, where the source counts them, or else 0.
     ghost calls: { Self → ℕ } = { λ _. 0 };
@@ -24,7 +24,7 @@ pub trait Source {
     /// for a buffer that is not empty means the end of the input, and is returned only there.
     fn take(&mut self, buf: &mut [u8]) -> Result<usize, Failed>
         ensures taken { IfOk result (λ n. Gives (left self.old) (left self.new) n buf.new) }
-        ensures cause { HasCause (faults self.old) (faults self.new) result }
+        ensures cause { HasCause (errors self.old) (errors self.new) result }
         ensures call { calls self.new ≤ calls self.old + 1 };
 }
 
@@ -35,7 +35,7 @@ pub trait Sink {
 
     /// The number of write errors so far. It never falls. Where it is 2^64 - 1, it counts as
     /// risen.
-    ghost faults: { Self → ℕ };
+    ghost errors: { Self → ℕ };
 
     /// The number of calls so far, where the sink counts them, or else 0.
     ghost calls: { Self → ℕ } = { λ _. 0 };
@@ -47,7 +47,7 @@ pub trait Sink {
     fn put(&mut self, piece: &[u8]) -> Result<(), Failed>
         ensures whole { OnOk result (Appends (held self.old) (held self.new) piece.now) }
         ensures part { OnErr result (AppendsPart (held self.old) (held self.new) piece.now) }
-        ensures cause { HasCause (faults self.old) (faults self.new) result }
+        ensures cause { HasCause (errors self.old) (errors self.new) result }
         ensures call { calls self.new ≤ calls self.old + 1 }
         ensures piece { IsHanded (pieces self.old) (pieces self.new) piece.now };
 }

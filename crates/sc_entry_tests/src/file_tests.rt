@@ -4,7 +4,7 @@ use sc_cmd::OrderLine;
 use sc_journal_file::read_file;
 use sc_lines::Reason;
 use sc_mail::Mail;
-use sc_scenario::{Scenario, ScenarioFault};
+use sc_scenario::{Scenario, ScenarioError};
 use std::alloc::Global;
 use std::mem::forget;
 
@@ -53,8 +53,8 @@ const BAD: &[(&[u8], u32, Reason)] = &[
 
 // Returns the number of rows of what was read, or why there is nothing.
 fn count_of(
-    read: Result<(Scenario, Journal<Mail, OrderLine>), ScenarioFault>,
-) -> Result<usize, ScenarioFault> {
+    read: Result<(Scenario, Journal<Mail, OrderLine>), ScenarioError>,
+) -> Result<usize, ScenarioError> {
     match read {
         Ok((scenario, rows)) => {
             let count = rows.len();
@@ -62,13 +62,13 @@ fn count_of(
             forget(rows);
             Ok(count)
         }
-        Err(fault) => Err(fault),
+        Err(error) => Err(error),
     }
 }
 
 // Returns whether a file is none, and its first bad line is this one for this reason.
 fn is_bad(alloc: Global, file: &[u8], line: u32, why: Reason) -> bool {
-    count_of(read_file(alloc, file)) == Err(ScenarioFault::Bad { line, why })
+    count_of(read_file(alloc, file)) == Err(ScenarioError::Bad { line, why })
 }
 
 #[test]

@@ -14,7 +14,7 @@ use sc_journal::row_text;
 use sc_mail::Mail;
 use sc_node::{NodeCore, are_in_order};
 use sc_scenario::Scenario;
-use sc_world::{Party, ReplayFault};
+use sc_world::{Party, ReplayError};
 use std::alloc::Global;
 use std::mem::forget;
 use std::process::Abort;
@@ -93,8 +93,8 @@ fn named(rt: &impl Abort, alloc: Global, hand: &Hand<Party>, scenario: &Scenario
             forget(world);
             0
         }
-        Err(ReplayFault::BadRow { at }) => at,
-        Err(ReplayFault::OutOfMemory) => panic!(rt; "memory"),
+        Err(ReplayError::BadRow { at }) => at,
+        Err(ReplayError::OutOfMemory) => panic!(rt; "memory"),
     }
 }
 

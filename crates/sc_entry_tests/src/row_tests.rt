@@ -1,5 +1,5 @@
 //! Texts of rows of every shape, and texts that are nearly one.
-use sc_journal::{RowFault, read_row};
+use sc_journal::{RowError, read_row};
 use sc_row_lines::common_row;
 use std::alloc::{AllocError, Global};
 use std::mem::forget;
@@ -264,8 +264,8 @@ fn answer_of(alloc: Global, first: &[u8], pieces: &[&[u8]], last: &[u8]) -> u8 {
             forget(row);
             1
         }
-        Err(RowFault::NoRow) => 0,
-        Err(RowFault::OutOfMemory) => 255,
+        Err(RowError::NoRow) => 0,
+        Err(RowError::OutOfMemory) => 255,
     }
 }
 

@@ -88,13 +88,13 @@ fn watched(rt: &impl Abort, alloc: Global) -> Command {
     }
 }
 
-fn tell(rt: &impl Abort, world: &mut StoreWorld, group: Draw, slot: u32, command: Command) {
+fn add_entry(rt: &impl Abort, world: &mut StoreWorld, group: Draw, slot: u32, command: Command) {
     let entry = LogEntry {
         group,
         slot,
         command,
     };
-    world.tell(&entry).expect(rt, "memory");
+    world.add_entry(&entry).expect(rt, "memory");
     forget(entry);
 }
 

@@ -7,7 +7,7 @@ use sc_base::Sequence;
 use sc_cmd::OrderLine;
 use sc_mail::Mail;
 use sc_scenario::Scenario;
-use sc_world::{ReplayFault, replay_rows};
+use sc_world::{ReplayError, replay_rows};
 use std::alloc::Global;
 use std::mem::forget;
 use std::process::Abort;
@@ -43,8 +43,8 @@ fn bad_row(
             forget(world);
             0
         }
-        Err(ReplayFault::BadRow { at }) => at,
-        Err(ReplayFault::OutOfMemory) => panic!(rt; "memory"),
+        Err(ReplayError::BadRow { at }) => at,
+        Err(ReplayError::OutOfMemory) => panic!(rt; "memory"),
     }
 }
 

@@ -7,7 +7,7 @@ use Rattle.sc_turn.proofs.Lemmas.{starts_trans}
 use Rattle.sc_actor.specs.declared.rows.Row.{Row}
 use Rattle.sc_actor.specs.declared.actors.Parcel.{Ghosts}
 use Rattle.sc_actor.specs.Definitions.{journal_bytes}
-use Rattle.sc_ledger.specs.declared.faults.PostFault.{PostFault}
+use Rattle.sc_ledger.specs.declared.errors.PostError.{PostError}
 use Rattle.sc_ledger.specs.Definitions.{IsCause}
 use Rattle.sc_exchange.specs.declared.shared.BareRow.{BareRow}
 use Rattle.sc_exchange.specs.declared.fates.Fate.{Fate}
@@ -96,7 +96,7 @@ joins {M} {O} p other v is =
     ∙ (λ i. joined_ports p ++ (other.number i, map (row_by (other.number i)) (known other.seat).made) ∷ []))
 
 -- the cause of the row that is handed back
-pub cause_back : (why other : PostFault) (bytes weight again limit : ℕ) → other ≡ why → again ≡ weight → IsCause why bytes weight limit → IsCause other bytes again limit
+pub cause_back : (why other : PostError) (bytes weight again limit : ℕ) → other ≡ why → again ≡ weight → IsCause why bytes weight limit → IsCause other bytes again limit
 cause_back why other bytes weight again limit same weighs cause = subst (λ n. IsCause other bytes n limit) (sym weighs) (subst (λ x. IsCause x bytes weight limit) (sym same) cause)
 
 -- at the end

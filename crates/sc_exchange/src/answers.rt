@@ -1,7 +1,7 @@
 //! The answers of a port.
 use sc_actor::Event;
 use sc_base::Sequence;
-use sc_ledger::PostFault;
+use sc_ledger::PostError;
 
 /// The answer of a fetch.
 #[derive(Drop)]
@@ -16,7 +16,7 @@ pub enum Fetched<M> {
 #[derive(Drop)]
 pub struct Unposted<M, O> {
     /// The cause for which it was not posted.
-    pub why: PostFault,
+    pub why: PostError,
     /// The event of the row.
     pub event: Event<O>,
     /// The mails that the row sends.

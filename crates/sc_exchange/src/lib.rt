@@ -12,5 +12,5 @@ pub use answers::{Fetched, Unposted};
 pub use fates::Fate;
 pub use ports::Port;
 pub use sc_actor::Journal;
-pub use sc_ledger::{Glance, Look, PostFault, Spot};
+pub use sc_ledger::{Glance, Look, PostError, Spot};
 pub use shared::{BareRow, Exchange};

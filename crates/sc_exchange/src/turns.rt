@@ -3,7 +3,7 @@ ghost use Rattle.std.specs.Prelude.{◌≡◌, ◌<◌, ◌≤◌, ◌+◌, ◌^
 ghost use Rattle.sc_turn.specs.Seats.{known, OfOneStart};
 ghost use Rattle.sc_turn.specs.Turn.{with_turn, with_row};
 ghost use Rattle.sc_actor.specs.Counted.{row_bytes, journal_bytes};
-ghost use Rattle.sc_ledger.specs.Fault.{IsCause};
+ghost use Rattle.sc_ledger.specs.PostErrors.{IsCause};
 ghost use Rattle.sc_ledger.specs.Pending.{kth_pending};
 ghost use Rattle.sc_exchange.specs.declared.shared.BareRow.{BareRow};
 ghost use Rattle.sc_exchange.specs.BareRows.{bare_rows, rows_from};

@@ -28,23 +28,23 @@ pub taken_next : (row : ℕ) (before : StoreWorld) (entries : List LogEntry) (i 
     → HasTaken row before (take (i + 1) entries) groups later more followed
 taken_next row before entries i entry groups after later lines more kept followed lt is taken told_is more_is follows =
     let one : i + 1 ≡ suc i = omega arith in
-    let front : take (i + 1) entries ≡ take i entries ++ entry ∷ [] = ap (λ (n : ℕ). take n entries) one ∙ take-suc entries i entry lt ∙ ap (λ (e : LogEntry). take i entries ++ e ∷ []) (sym is) in
+    let prefix : take (i + 1) entries ≡ take i entries ++ entry ∷ [] = ap (λ (n : ℕ). take n entries) one ∙ take-suc entries i entry lt ∙ ap (λ (e : LogEntry). take i entries ++ e ∷ []) (sym is) in
     record {
-      world = told_is ∙ ap (λ w. told w entry) taken.world ∙ sym (ap (world_after before) front ∙ world_append before (take i entries) (entry ∷ []));
+      world = told_is ∙ ap (λ w. told w entry) taken.world ∙ sym (ap (world_after before) prefix ∙ world_append before (take i entries) (entry ∷ []));
       lines_are =
           more_is ∙ ap (λ ls. ls ++ entry_line row entry (effect_in after entry) ∷ []) taken.lines_are
           ∙ ap (λ w. entry_lines row before (take i entries) ++ entry_line row entry (effect_in w entry) ∷ []) taken.world
-          ∙ sym (ap (entry_lines row before) front ∙ entry_lines-push row before (take i entries) entry);
+          ∙ sym (ap (entry_lines row before) prefix ∙ entry_lines-push row before (take i entries) entry);
       groups_are = λ g. follows (taken.groups_are g);
     }
 
 -- an entry that leaves no arc is none of entries that leave arcs throughout
-pub no_fault : (row : ℕ) (before : StoreWorld) (entries : List LogEntry) (i : ℕ) (entry : LogEntry) (groups : List RingGroup) (after : StoreWorld) (lines : List (List ℕ)) (kept : List RingGroup)
+pub no_error : (row : ℕ) (before : StoreWorld) (entries : List LogEntry) (i : ℕ) (entry : LogEntry) (groups : List RingGroup) (after : StoreWorld) (lines : List (List ℕ)) (kept : List RingGroup)
     → i < length entries → entry ≡ get_or entries i entry → HasTaken row before (take i entries) groups after lines kept → HaveArcsThroughout before entries → HaveArcs (told after entry).ring
-no_fault row before entries i entry groups after lines kept lt is taken arcs =
-    let front : take (suc i) entries ≡ take i entries ++ entry ∷ [] = take-suc entries i entry lt ∙ ap (λ (e : LogEntry). take i entries ++ e ∷ []) (sym is) in
+no_error row before entries i entry groups after lines kept lt is taken arcs =
+    let prefix : take (suc i) entries ≡ take i entries ++ entry ∷ [] = take-suc entries i entry lt ∙ ap (λ (e : LogEntry). take i entries ++ e ∷ []) (sym is) in
     let made : world_after before (take (suc i) entries) ≡ told after entry =
-    ap (world_after before) front ∙ world_append before (take i entries) (entry ∷ []) ∙ ap (λ w. told w entry) (sym taken.world) in
+    ap (world_after before) prefix ∙ world_append before (take i entries) (entry ∷ []) ∙ ap (λ w. told w entry) (sym taken.world) in
     subst (λ (w : StoreWorld). HaveArcs w.ring) made (arcs (take (suc i) entries) (drop (suc i) entries) (sym (take-append-drop (suc i) entries)))
 
 -- ---- the rows that decide

@@ -5,7 +5,7 @@ ghost use Rattle.sc_log_entries.specs.declared.LogEntry.{LogEntry};
 ghost use Rattle.sc_log_entries.specs.Worlds.{CoverThroughout, StoreWorld, first_world, world_after};
 ghost use Rattle.sc_sound.specs.GroupsOf.{entries_at};
 ghost use Rattle.sc_sound.specs.Players.{as_nodes};
-ghost use Rattle.sc_store_world.specs.declared.faults.TellFault.TheVariants.{NoArc};
+ghost use Rattle.sc_store_world.specs.declared.errors.EntryError.TheVariants.{NoArc};
 ghost use Rattle.sc_explain.specs.Explained.{entry_lines, explained, no_world, ring_groups_in, row_lines};
 ghost use Rattle.sc_explain.specs.Said.{HaveArcsThroughout, IsSaidOf, lines_by};
 
@@ -19,7 +19,7 @@ use sc_decided::{DecidingRow, deciding_rows};
 use sc_facts::RingGroup;
 use sc_mail::Mail;
 use sc_report::ReportLine;
-use sc_store_world::{StoreWorld, TellFault};
+use sc_store_world::{StoreWorld, EntryError};
 use std::alloc::Global;
 
 fn copy_of(alloc: Global, groups: &[RingGroup]) -> Result<Vec<RingGroup>, OutOfMemory>
@@ -56,12 +56,12 @@ fn say_taken(
     before: &Said,
     taken: Taken,
     world: &StoreWorld,
-) -> Result<Said, TellFault>
+) -> Result<Said, EntryError>
     ensures { MatchResult result (λ after. taken.groups.items ≡ ring_groups_in world.now →
         IsSaidOf world.now after × ((was : StoreWorld) (decided : List LogEntry) →
         IsSaidOf was before.now → taken.lines.items ≡ entry_lines row was decided →
         lines.new.items ≡ lines.old.items ++ row_lines row was decided world.now))
-        (λ fault. fault ≡ NoArc → ⊥) }
+        (λ error. error ≡ NoArc → ⊥) }
 {
     let Taken {
         lines: of_entries,
@@ -79,19 +79,19 @@ fn explain_row(
     world: &mut StoreWorld,
     before: &Said,
     deciding: &DecidingRow,
-) -> Result<Said, TellFault>
+) -> Result<Said, EntryError>
     ensures { MatchResult result (λ after. IsSaidOf world.old before.now →
         IsSaidOf world.new after ×
         (world.new ≡ world_after world.old deciding.now.entries) ×
         (lines.new.items ≡ lines.old.items ++
         row_lines deciding.now.row world.old deciding.now.entries world.new))
-        (λ fault. fault ≡ NoArc → HaveArcsThroughout world.old deciding.now.entries → ⊥) }
+        (λ error. error ≡ NoArc → HaveArcsThroughout world.old deciding.now.entries → ⊥) }
 {
     let entries = deciding.entries.as_slice();
     let copy = copy_of(alloc, before.groups.as_slice())?;
     match take_all(alloc, deciding.row, world, copy, entries) {
         Ok(taken) => say_taken(alloc, lines, deciding.row, before, taken, world),
-        Err(fault) => Err(fault),
+        Err(error) => Err(error),
     }
 }
 
@@ -127,8 +127,8 @@ fn explain_rows(
     for row in deciding {
         match explain_row(alloc, &mut lines, &mut world, &said, row) {
             Ok(after) => said = after,
-            Err(TellFault::OutOfMemory) => return Err(OutOfMemory),
-            Err(TellFault::NoArc) => unreachable!(),
+            Err(EntryError::OutOfMemory) => return Err(OutOfMemory),
+            Err(EntryError::NoArc) => unreachable!(),
         }
     }
     Ok(lines)

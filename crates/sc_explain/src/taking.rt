@@ -1,7 +1,7 @@
 //! The entries of a row, which a world takes one after another.
 ghost use Rattle.std.specs.Prelude.{◌≡◌, ◌∷◌, ◌++◌, [], MatchResult};
 ghost use Rattle.sc_explain.specs.Said.{HasTaken, HaveArcsThroughout};
-ghost use Rattle.sc_store_world.specs.declared.faults.TellFault.TheVariants.{NoArc};
+ghost use Rattle.sc_store_world.specs.declared.errors.EntryError.TheVariants.{NoArc};
 ghost use Rattle.sc_facts.specs.Facts.{entry_line};
 ghost use Rattle.sc_log_entries.specs.Rings.{HaveArcs};
 ghost use Rattle.sc_log_entries.specs.Worlds.{StoreWorld, told};
@@ -14,7 +14,7 @@ use sc_cmd::Effect;
 use sc_facts::{RingGroup, entry_line};
 use sc_log_entries::LogEntry;
 use sc_report::ReportLine;
-use sc_store_world::{StoreWorld, TellFault};
+use sc_store_world::{StoreWorld, EntryError};
 use std::alloc::Global;
 
 /// The lines of entries, and what is said of the groups of the ring after these entries.
@@ -32,14 +32,14 @@ fn after_entry(
     taken: Taken,
     entry: &LogEntry,
     effect: &Option<Effect>,
-) -> Result<Taken, TellFault>
+) -> Result<Taken, EntryError>
     ensures { MatchResult result (λ more.
         (more.lines.items ≡ taken.lines.items ++ entry_line row entry.now effect.now ∷ []) ×
         ((before : StoreWorld) → world.now ≡ told before entry.now →
         effect.now ≡ effect_in before entry.now →
         taken.groups.items ≡ ring_groups_in before →
         more.groups.items ≡ ring_groups_in world.now))
-        (λ fault. fault ≡ NoArc → ⊥) }
+        (λ error. error ≡ NoArc → ⊥) }
 {
     let Taken { mut lines, groups } = taken;
     let line = entry_line(alloc, row, entry, effect.as_ref())?;
@@ -55,17 +55,17 @@ fn take_one(
     world: &mut StoreWorld,
     taken: Taken,
     entry: &LogEntry,
-) -> Result<Taken, TellFault>
+) -> Result<Taken, EntryError>
     ensures { MatchResult result (λ more. (world.new ≡ told world.old entry.now) ×
         (more.lines.items ≡
         taken.lines.items ++ entry_line row entry.now (effect_in world.old entry.now) ∷ []) ×
         (taken.groups.items ≡ ring_groups_in world.old →
         more.groups.items ≡ ring_groups_in world.new))
-        (λ fault. fault ≡ NoArc → HaveArcs (told world.old entry.now).ring → ⊥) }
+        (λ error. error ≡ NoArc → HaveArcs (told world.old entry.now).ring → ⊥) }
 {
     match world.take(entry) {
         Ok(effect) => after_entry(alloc, row, world, taken, entry, &effect),
-        Err(fault) => Err(fault),
+        Err(error) => Err(error),
     }
 }
 
@@ -77,10 +77,10 @@ pub(crate) fn take_all(
     world: &mut StoreWorld,
     groups: Vec<RingGroup>,
     entries: &[LogEntry],
-) -> Result<Taken, TellFault>
+) -> Result<Taken, EntryError>
     ensures { MatchResult result (λ taken. HasTaken row world.old entries.now groups.items
         world.new taken.lines.items taken.groups.items)
-        (λ fault. fault ≡ NoArc → HaveArcsThroughout world.old entries.now → ⊥) }
+        (λ error. error ≡ NoArc → HaveArcsThroughout world.old entries.now → ⊥) }
 {
     let mut taken = Taken {
         lines: Vec::new(alloc),
@@ -89,7 +89,7 @@ pub(crate) fn take_all(
     for entry in entries {
         match take_one(alloc, row, world, taken, entry) {
             Ok(more) => taken = more,
-            Err(fault) => return Err(fault),
+            Err(error) => return Err(error),
         }
     }
     Ok(taken)

@@ -68,9 +68,9 @@ dot_after ds rest all =
     let within : nat_lt (length ds) (length (ds ++ 46 ∷ rest)) ≡ true = le-leb (suc (length ds)) (length (ds ++ 46 ∷ rest)) (omega (arith, length-append ds (46 ∷ rest))) in
     ap (λ n. cond (nat_lt n (length (ds ++ 46 ∷ rest))) (Some n) None) (reach ds rest all) ∙ ap (λ b. cond b (Some (length ds)) None) within
 
-take_front : (p r : List ℕ) → take (length p) (p ++ r) ≡ p
-take_front [] r = refl
-take_front (x ∷ xs) r = ap (λ l. x ∷ l) (take_front xs r)
+take_prefix : (p r : List ℕ) → take (length p) (p ++ r) ≡ p
+take_prefix [] r = refl
+take_prefix (x ∷ xs) r = ap (λ l. x ∷ l) (take_prefix xs r)
 
 drop_front : (p : List ℕ) (x : ℕ) (r : List ℕ) → drop (suc (length p)) (p ++ x ∷ r) ≡ r
 drop_front [] x r = refl
@@ -100,7 +100,7 @@ pub draw_node : (text : List ℕ) (draw : Draw) (dot : ℕ) → FitsDraw draw �
 unfolding FitsDraw
 draw_node text draw dot fits same found =
     ap₂ (λ n l. number_of (take n l) 65535) (dot_is text draw dot fits same found) (spelled text draw same)
-    ∙ (ap (λ l. number_of l 65535) (take_front (decimal draw.node) (46 ∷ decimal draw.count)) ∙ number_found draw.node 65535 (omega (arith, fits.0)) (omega (arith, fits.0)))
+    ∙ (ap (λ l. number_of l 65535) (take_prefix (decimal draw.node) (46 ∷ decimal draw.count)) ∙ number_found draw.node 65535 (omega (arith, fits.0)) (omega (arith, fits.0)))
 
 -- the count after the dot
 pub draw_count : (text : List ℕ) (draw : Draw) (dot : ℕ) → FitsDraw draw → string text ≡ draw_json draw → Some dot ≡ position (λ byte. byte == 46) text → number_of (take (length text - (dot + 1)) (drop (dot + 1) text)) 4294967295 ≡ Some draw.count
@@ -153,6 +153,6 @@ split_at text dot place =
 pub draw_back : (text : List ℕ) (draw : Draw) (dot node count : ℕ) → Some dot ≡ position (λ byte. byte == 46) text → Some node ≡ number_of (take dot text) 65535 → Some count ≡ number_of (take (length text - (dot + 1)) (drop (dot + 1) text)) 4294967295 → draw.node ≡ node → draw.count ≡ count → string text ≡ draw_json draw
 unfolding draw_json
 draw_back text draw dot node count place before behind first second =
-    let front : decimal draw.node ≡ take dot text = ap decimal first ∙ number_back (take dot text) 65535 node (omega arith) before in
+    let prefix : decimal draw.node ≡ take dot text = ap decimal first ∙ number_back (take dot text) 65535 node (omega arith) before in
     let rest : decimal draw.count ≡ drop (dot + 1) text = ap decimal second ∙ (number_back (take (length text - (dot + 1)) (drop (dot + 1) text)) 4294967295 count (omega arith) behind ∙ take_rest text (dot + 1)) in
-    ap string (split_at text dot place ∙ (sym (append_assoc (take dot text) (codes ".") (drop (dot + 1) text)) ∙ ap₂ (λ a b. (a ++ codes ".") ++ b) (sym front) (sym rest)))
+    ap string (split_at text dot place ∙ (sym (append_assoc (take dot text) (codes ".") (drop (dot + 1) text)) ∙ ap₂ (λ a b. (a ++ codes ".") ++ b) (sym prefix) (sym rest)))

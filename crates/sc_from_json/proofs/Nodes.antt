@@ -6,8 +6,8 @@ use Rattle.std.proofs.lemmas.Bool.Decides.{nat_tests}
 use Rattle.std.proofs.lemmas.List.{length-take-le, take_more}
 use Rattle.sc_base.specs.Among.{Each}
 use Rattle.sc_base.specs.Roster.{IsRoster, is_member, with_member}
-use Rattle.sc_base.specs.Faults.{add_fault}
-use Rattle.sc_base.specs.declared.sets.MemberFault.{MemberFault}
+use Rattle.sc_base.specs.Errors.{add_error}
+use Rattle.sc_base.specs.declared.sets.MemberError.{MemberError}
 
 is_below : (m n : ℕ) → m < n → nat_lt m n ≡ true
 is_below m n below = grind (arith, nat_tests)
@@ -50,22 +50,22 @@ earlier_below [] i up within = absurd (omega arith)
 earlier_below (x ∷ xs) zero up within = tt
 earlier_below (x ∷ xs) (suc i) up within = (above_first x xs i up (omega arith), earlier_below xs i (rising_rest x xs up) (omega arith))
 
-no_fault : (nodes : List ℕ) (i : ℕ) → IsRoster nodes → i < length nodes → add_fault (take i nodes) (get_or nodes i 0) ≡ None
-no_fault nodes i roster within =
+no_error : (nodes : List ℕ) (i : ℕ) → IsRoster nodes → i < length nodes → add_error (take i nodes) (get_or nodes i 0) ≡ None
+no_error nodes i roster within =
     let none = absent (get_or nodes i 0) (take i nodes) (earlier_below nodes i roster.ascending within) in
     let short : length (take i nodes) ≡ i = length-take-le i nodes (omega arith) in
     let few : (length (take i nodes) == 9) ≡ false = is_other (length (take i nodes)) 9 (omega (arith, roster.most)) in
     rw (none, few)
 
 -- what adding a node answered
-abbrev pub Added : List ℕ → List ℕ → ℕ → Result (Unit {0}) MemberFault → Type 0
-Added old new node result = MatchResult result (λ _. (add_fault old node ≡ None) × (new ≡ with_member old node)) (λ fault. (add_fault old node ≡ Some fault) × (new ≡ old))
+abbrev pub Added : List ℕ → List ℕ → ℕ → Result (Unit {0}) MemberError → Type 0
+Added old new node result = MatchResult result (λ _. (add_error old node ≡ None) × (new ≡ with_member old node)) (λ error. (add_error old node ≡ Some error) × (new ≡ old))
 
 -- the next node of ascending ones is added at the end
-pub adds_next : (nodes old new : List ℕ) (i : ℕ) (result : Result (Unit {0}) MemberFault) → IsRoster nodes → i < length nodes → old ≡ take i nodes → Added old new (get_or nodes i 0) result → (is_err result ≡ false) × (new ≡ take (i + 1) nodes)
+pub adds_next : (nodes old new : List ℕ) (i : ℕ) (result : Result (Unit {0}) MemberError) → IsRoster nodes → i < length nodes → old ≡ take i nodes → Added old new (get_or nodes i 0) result → (is_err result ≡ false) × (new ≡ take (i + 1) nodes)
 adds_next nodes old new i (Ok u) roster within is added =
     let last = placed_last (get_or nodes i 0) (take i nodes) (earlier_below nodes i roster.ascending within) in
     (refl, added.1 ∙ (ap (λ l. with_member l (get_or nodes i 0)) is ∙ (last ∙ sym (take_more nodes i 0 within))))
-adds_next nodes old new i (Err fault) roster within is added =
-    let none = ap (λ l. add_fault l (get_or nodes i 0)) is ∙ no_fault nodes i roster within in
-    absurd (let clash : Some fault ≡ None = sym added.0 ∙ none in cc)
+adds_next nodes old new i (Err error) roster within is added =
+    let none = ap (λ l. add_error l (get_or nodes i 0)) is ∙ no_error nodes i roster within in
+    absurd (let clash : Some error ≡ None = sym added.0 ∙ none in cc)

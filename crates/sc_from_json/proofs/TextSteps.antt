@@ -6,7 +6,7 @@ use Rattle.serde_json.specs.Find.{as_null, as_str}
 use Rattle.sc_base.specs.Refusal.{Refuses}
 
 -- what is refused without an error is out of memory
-pub short_of : {T E : Type 0} (fault : Option E) (short why : E) (P : T → Type 0) → fault ≡ None → Refuses fault short P (Err why) → why ≡ short
+pub short_of : {T E : Type 0} (error : Option E) (short why : E) (P : T → Type 0) → error ≡ None → Refuses error short P (Err why) → why ≡ short
 short_of None short why P none refused = refused
 short_of (Some f) short why P none refused = absurd (cc)
 

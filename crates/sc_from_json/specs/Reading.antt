@@ -3,15 +3,15 @@ use Rattle.std.specs.Prelude.{◌≡◌, ℕ, List, Result, MatchResult, IsSome,
 use Rattle.serde_json.specs.Find.{as_str}
 use Rattle.serde_json.specs.Data.{Data, null, boolean, number, string, array, object, Members, no_members, member}
 use Rattle.sc_row_text.specs.Shapes.{variant}
-use Rattle.sc_from_json.specs.declared.faults.RowFault.{RowFault}
-use Rattle.sc_from_json.specs.declared.faults.RowFault.TheVariants.{OutOfMemory}
+use Rattle.sc_from_json.specs.declared.errors.RowError.{RowError}
+use Rattle.sc_from_json.specs.declared.errors.RowError.TheVariants.{OutOfMemory}
 
 -- The parser returned this value, or memory ran out.
-abbrev pub Finds : {T : Type 0} → T → Result T RowFault → Type 0
+abbrev pub Finds : {T : Type 0} → T → Result T RowError → Type 0
 Finds value result = MatchResult result (λ found. found ≡ value) (λ why. why ≡ OutOfMemory)
 
 -- The parser returned a value that is seen as this one, or memory ran out.
-abbrev pub Shows : {T X : Type 0} → (T → X) → X → Result T RowFault → Type 0
+abbrev pub Shows : {T X : Type 0} → (T → X) → X → Result T RowError → Type 0
 Shows seen value result = MatchResult result (λ found. seen found ≡ value) (λ why. why ≡ OutOfMemory)
 
 -- The content of the first member, or null where there is none.

@@ -6,14 +6,14 @@ ghost use Rattle.sc_row_text.specs.Shapes.{variant as variant_json};
 ghost use Rattle.sc_from_json.specs.Reading.{Finds};
 ghost use Rattle.sc_row_text.specs.Answers.{answer_body_json, FitsAnswerBody};
 
-use crate::faults::RowFault;
+use crate::errors::RowError;
 use crate::from_json::FromJson;
 use crate::reading::{pair_of, single_of, variant_parts, whole};
 use sc_mail::AnswerBody;
 use serde_json::Value as Json;
 use std::alloc::Global;
 
-fn answer_body_value(alloc: Global, content: &Json) -> Result<AnswerBody, RowFault>
+fn answer_body_value(alloc: Global, content: &Json) -> Result<AnswerBody, RowError>
     ensures finds { (inner : _) → FitsAnswerBody (AnswerBody.Value inner)
         → variant_json (codes "Value") (view content.now)
         ≡ answer_body_json (AnswerBody.Value inner)
@@ -25,7 +25,7 @@ fn answer_body_value(alloc: Global, content: &Json) -> Result<AnswerBody, RowFau
     Ok(AnswerBody::Value(inner))
 }
 
-fn answer_body_not_leader(alloc: Global, content: &Json) -> Result<AnswerBody, RowFault>
+fn answer_body_not_leader(alloc: Global, content: &Json) -> Result<AnswerBody, RowError>
     ensures finds { (hint : _) → FitsAnswerBody (AnswerBody.NotLeader hint)
         → variant_json (codes "NotLeader") (view content.now)
         ≡ answer_body_json (AnswerBody.NotLeader hint)
@@ -37,7 +37,7 @@ fn answer_body_not_leader(alloc: Global, content: &Json) -> Result<AnswerBody, R
     Ok(AnswerBody::NotLeader { hint })
 }
 
-fn answer_body_not_mine(alloc: Global, content: &Json) -> Result<AnswerBody, RowFault>
+fn answer_body_not_mine(alloc: Global, content: &Json) -> Result<AnswerBody, RowError>
     ensures finds { (arc : _) (succ : _) → FitsAnswerBody (AnswerBody.NotMine arc succ)
         → variant_json (codes "NotMine") (view content.now)
         ≡ answer_body_json (AnswerBody.NotMine arc succ)
@@ -49,7 +49,7 @@ fn answer_body_not_mine(alloc: Global, content: &Json) -> Result<AnswerBody, Row
     Ok(AnswerBody::NotMine { arc, succ })
 }
 
-fn answer_body_gone(alloc: Global, content: &Json) -> Result<AnswerBody, RowFault>
+fn answer_body_gone(alloc: Global, content: &Json) -> Result<AnswerBody, RowError>
     ensures finds { (into : _) → FitsAnswerBody (AnswerBody.Gone into)
         → variant_json (codes "Gone") (view content.now) ≡ answer_body_json (AnswerBody.Gone into)
         → Finds (AnswerBody.Gone into) result }
@@ -60,7 +60,7 @@ fn answer_body_gone(alloc: Global, content: &Json) -> Result<AnswerBody, RowFaul
     Ok(AnswerBody::Gone { into })
 }
 
-fn answer_body_stale(alloc: Global, content: &Json) -> Result<AnswerBody, RowFault>
+fn answer_body_stale(alloc: Global, content: &Json) -> Result<AnswerBody, RowError>
     ensures finds { (last : _) → FitsAnswerBody (AnswerBody.Stale last)
         → variant_json (codes "Stale") (view content.now) ≡ answer_body_json (AnswerBody.Stale last)
         → Finds (AnswerBody.Stale last) result }
@@ -76,9 +76,9 @@ impl FromJson for AnswerBody {
 
     ghost Fits = { FitsAnswerBody };
 
-    fn from_json(alloc: Global, json: &Json) -> Result<AnswerBody, RowFault> {
+    fn from_json(alloc: Global, json: &Json) -> Result<AnswerBody, RowError> {
         let Some((name, content)) = variant_parts(json) else {
-            return Err(RowFault::NoRow);
+            return Err(RowError::NoRow);
         };
         match name {
             "Value" => answer_body_value(alloc, content),
@@ -86,7 +86,7 @@ impl FromJson for AnswerBody {
             "NotMine" => answer_body_not_mine(alloc, content),
             "Gone" => answer_body_gone(alloc, content),
             "Stale" => answer_body_stale(alloc, content),
-            _ => Err(RowFault::NoRow),
+            _ => Err(RowError::NoRow),
         }
     }
 }

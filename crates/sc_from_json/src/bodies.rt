@@ -8,14 +8,14 @@ ghost use Rattle.sc_row_text.specs.Bodies.{body_json, FitsBody};
 ghost use Rattle.sc_row_text.specs.Bodies.{offer_json, FitsOffer};
 ghost use Rattle.sc_row_text.specs.Bodies.{watch_json, FitsWatch};
 
-use crate::faults::RowFault;
+use crate::errors::RowError;
 use crate::from_json::FromJson;
 use crate::reading::{pair_of, single_of, six_of, variant_parts, word};
 use sc_cmd::{Body, Offer, Watch};
 use serde_json::Value as Json;
 use std::alloc::Global;
 
-fn body_repart(alloc: Global, content: &Json) -> Result<Body, RowFault>
+fn body_repart(alloc: Global, content: &Json) -> Result<Body, RowError>
     ensures finds { (at : _) → FitsBody (Body.Repart at)
         → variant_json (codes "Repart") (view content.now) ≡ body_json (Body.Repart at)
         → Finds (Body.Repart at) result }
@@ -26,7 +26,7 @@ fn body_repart(alloc: Global, content: &Json) -> Result<Body, RowFault>
     Ok(Body::Repart { at })
 }
 
-fn body_migrate(alloc: Global, content: &Json) -> Result<Body, RowFault>
+fn body_migrate(alloc: Global, content: &Json) -> Result<Body, RowError>
     ensures finds { (node : _) → FitsBody (Body.Migrate node)
         → variant_json (codes "Migrate") (view content.now) ≡ body_json (Body.Migrate node)
         → Finds (Body.Migrate node) result }
@@ -37,7 +37,7 @@ fn body_migrate(alloc: Global, content: &Json) -> Result<Body, RowFault>
     Ok(Body::Migrate { node })
 }
 
-fn body_split(alloc: Global, content: &Json) -> Result<Body, RowFault>
+fn body_split(alloc: Global, content: &Json) -> Result<Body, RowError>
     ensures finds { (at : _) (child : _) → FitsBody (Body.Split at child)
         → variant_json (codes "Split") (view content.now) ≡ body_json (Body.Split at child)
         → Finds (Body.Split at child) result }
@@ -53,16 +53,16 @@ impl FromJson for Body {
 
     ghost Fits = { FitsBody };
 
-    fn from_json(alloc: Global, json: &Json) -> Result<Body, RowFault> {
+    fn from_json(alloc: Global, json: &Json) -> Result<Body, RowError> {
         let Some((name, content)) = variant_parts(json) else {
-            return Err(RowFault::NoRow);
+            return Err(RowError::NoRow);
         };
         match name {
             "Merge" => word(json, Body::Merge),
             "Repart" => body_repart(alloc, content),
             "Migrate" => body_migrate(alloc, content),
             "Split" => body_split(alloc, content),
-            _ => Err(RowFault::NoRow),
+            _ => Err(RowError::NoRow),
         }
     }
 }
@@ -72,7 +72,7 @@ impl FromJson for Offer {
 
     ghost Fits = { FitsOffer };
 
-    fn from_json(alloc: Global, json: &Json) -> Result<Offer, RowFault> {
+    fn from_json(alloc: Global, json: &Json) -> Result<Offer, RowError> {
         let (arc, body, by, coord, members, part) = six_of(
             alloc, json, "arc", "body", "by", "coord", "members", "part",
         )?;
@@ -92,7 +92,7 @@ impl FromJson for Watch {
 
     ghost Fits = { FitsWatch };
 
-    fn from_json(alloc: Global, json: &Json) -> Result<Watch, RowFault> {
+    fn from_json(alloc: Global, json: &Json) -> Result<Watch, RowError> {
         let (by, coord, members, next, old, part) = six_of(
             alloc, json, "by", "coord", "members", "next", "old", "part",
         )?;

@@ -7,7 +7,7 @@ ghost use Rattle.sc_from_json.specs.Reading.{Finds};
 ghost use Rattle.sc_row_text.specs.Commands.{command_json, FitsCommand};
 ghost use Rattle.sc_row_text.specs.Commands.{report_json, FitsReport};
 
-use crate::faults::RowFault;
+use crate::errors::RowError;
 use crate::from_json::FromJson;
 use crate::reading::{pair_of, single_of, triple_of, variant_parts, word};
 use sc_cmd::Command;
@@ -15,7 +15,7 @@ use sc_paxos_words::Report;
 use serde_json::Value as Json;
 use std::alloc::Global;
 
-fn command_call(alloc: Global, content: &Json) -> Result<Command, RowFault>
+fn command_call(alloc: Global, content: &Json) -> Result<Command, RowError>
     ensures finds { (client : _) (seq : _) (op : _) → FitsCommand (Command.Call client seq op)
         → variant_json (codes "Call") (view content.now) ≡ command_json (Command.Call client seq op)
         → Finds (Command.Call client seq op) result }
@@ -26,7 +26,7 @@ fn command_call(alloc: Global, content: &Json) -> Result<Command, RowFault>
     Ok(Command::Call { client, seq, op })
 }
 
-fn command_join(alloc: Global, content: &Json) -> Result<Command, RowFault>
+fn command_join(alloc: Global, content: &Json) -> Result<Command, RowError>
     ensures finds { (node : _) (order : _) → FitsCommand (Command.Join node order)
         → variant_json (codes "Join") (view content.now) ≡ command_json (Command.Join node order)
         → Finds (Command.Join node order) result }
@@ -37,7 +37,7 @@ fn command_join(alloc: Global, content: &Json) -> Result<Command, RowFault>
     Ok(Command::Join { node, order })
 }
 
-fn command_leave(alloc: Global, content: &Json) -> Result<Command, RowFault>
+fn command_leave(alloc: Global, content: &Json) -> Result<Command, RowError>
     ensures finds { (node : _) (order : _) → FitsCommand (Command.Leave node order)
         → variant_json (codes "Leave") (view content.now) ≡ command_json (Command.Leave node order)
         → Finds (Command.Leave node order) result }
@@ -48,7 +48,7 @@ fn command_leave(alloc: Global, content: &Json) -> Result<Command, RowFault>
     Ok(Command::Leave { node, order })
 }
 
-fn command_split(alloc: Global, content: &Json) -> Result<Command, RowFault>
+fn command_split(alloc: Global, content: &Json) -> Result<Command, RowError>
     ensures finds { (at : _) (child : _) (order : _) → FitsCommand (Command.Split at child order)
         → variant_json (codes "Split") (view content.now)
         ≡ command_json (Command.Split at child order)
@@ -60,7 +60,7 @@ fn command_split(alloc: Global, content: &Json) -> Result<Command, RowFault>
     Ok(Command::Split { at, child, order })
 }
 
-fn command_begin(alloc: Global, content: &Json) -> Result<Command, RowFault>
+fn command_begin(alloc: Global, content: &Json) -> Result<Command, RowError>
     ensures finds { (tx : _) (body : _) (order : _) → FitsCommand (Command.Begin tx body order)
         → variant_json (codes "Begin") (view content.now)
         ≡ command_json (Command.Begin tx body order)
@@ -72,7 +72,7 @@ fn command_begin(alloc: Global, content: &Json) -> Result<Command, RowFault>
     Ok(Command::Begin { tx, body, order })
 }
 
-fn command_prepared(alloc: Global, content: &Json) -> Result<Command, RowFault>
+fn command_prepared(alloc: Global, content: &Json) -> Result<Command, RowError>
     ensures finds { (tx : _) (offer : _) → FitsCommand (Command.Prepared tx offer)
         → variant_json (codes "Prepared") (view content.now)
         ≡ command_json (Command.Prepared tx offer)
@@ -84,7 +84,7 @@ fn command_prepared(alloc: Global, content: &Json) -> Result<Command, RowFault>
     Ok(Command::Prepared { tx, offer })
 }
 
-fn command_record_vote(alloc: Global, content: &Json) -> Result<Command, RowFault>
+fn command_record_vote(alloc: Global, content: &Json) -> Result<Command, RowError>
     ensures finds { (tx : _) (vote : _) (by : _) → FitsCommand (Command.RecordVote tx vote by)
         → variant_json (codes "RecordVote") (view content.now)
         ≡ command_json (Command.RecordVote tx vote by)
@@ -96,7 +96,7 @@ fn command_record_vote(alloc: Global, content: &Json) -> Result<Command, RowFaul
     Ok(Command::RecordVote { tx, vote, by })
 }
 
-fn command_give_up(alloc: Global, content: &Json) -> Result<Command, RowFault>
+fn command_give_up(alloc: Global, content: &Json) -> Result<Command, RowError>
     ensures finds { (tx : _) → FitsCommand (Command.GiveUp tx)
         → variant_json (codes "GiveUp") (view content.now) ≡ command_json (Command.GiveUp tx)
         → Finds (Command.GiveUp tx) result }
@@ -107,7 +107,7 @@ fn command_give_up(alloc: Global, content: &Json) -> Result<Command, RowFault>
     Ok(Command::GiveUp { tx })
 }
 
-fn command_finish(alloc: Global, content: &Json) -> Result<Command, RowFault>
+fn command_finish(alloc: Global, content: &Json) -> Result<Command, RowError>
     ensures finds { (tx : _) (outcome : _) → FitsCommand (Command.Finish tx outcome)
         → variant_json (codes "Finish") (view content.now)
         ≡ command_json (Command.Finish tx outcome)
@@ -119,7 +119,7 @@ fn command_finish(alloc: Global, content: &Json) -> Result<Command, RowFault>
     Ok(Command::Finish { tx, outcome })
 }
 
-fn command_watched(alloc: Global, content: &Json) -> Result<Command, RowFault>
+fn command_watched(alloc: Global, content: &Json) -> Result<Command, RowError>
     ensures finds { (tx : _) (watch : _) → FitsCommand (Command.Watched tx watch)
         → variant_json (codes "Watched") (view content.now)
         ≡ command_json (Command.Watched tx watch)
@@ -131,7 +131,7 @@ fn command_watched(alloc: Global, content: &Json) -> Result<Command, RowFault>
     Ok(Command::Watched { tx, watch })
 }
 
-fn command_record_watch(alloc: Global, content: &Json) -> Result<Command, RowFault>
+fn command_record_watch(alloc: Global, content: &Json) -> Result<Command, RowError>
     ensures finds { (tx : _) (vote : _) (by : _) → FitsCommand (Command.RecordWatch tx vote by)
         → variant_json (codes "RecordWatch") (view content.now)
         ≡ command_json (Command.RecordWatch tx vote by)
@@ -148,9 +148,9 @@ impl FromJson for Command {
 
     ghost Fits = { FitsCommand };
 
-    fn from_json(alloc: Global, json: &Json) -> Result<Command, RowFault> {
+    fn from_json(alloc: Global, json: &Json) -> Result<Command, RowError> {
         let Some((name, content)) = variant_parts(json) else {
-            return Err(RowFault::NoRow);
+            return Err(RowError::NoRow);
         };
         match name {
             "Noop" => word(json, Command::Noop),
@@ -165,7 +165,7 @@ impl FromJson for Command {
             "Finish" => command_finish(alloc, content),
             "Watched" => command_watched(alloc, content),
             "RecordWatch" => command_record_watch(alloc, content),
-            _ => Err(RowFault::NoRow),
+            _ => Err(RowError::NoRow),
         }
     }
 }
@@ -175,7 +175,7 @@ impl FromJson for Report<Command> {
 
     ghost Fits = { FitsReport };
 
-    fn from_json(alloc: Global, json: &Json) -> Result<Report<Command>, RowFault> {
+    fn from_json(alloc: Global, json: &Json) -> Result<Report<Command>, RowError> {
         let (ballot, slot, value) = triple_of(alloc, json, "ballot", "slot", "value")?;
         Ok(Report {
             slot,

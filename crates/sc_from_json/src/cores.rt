@@ -8,14 +8,14 @@ ghost use Rattle.sc_row_text.specs.Cores.{lock_json, FitsLock};
 ghost use Rattle.sc_row_text.specs.Cores.{core_json, FitsCore};
 ghost use Rattle.sc_row_text.specs.Cores.{base_json, FitsBase};
 
-use crate::faults::RowFault;
+use crate::errors::RowError;
 use crate::from_json::FromJson;
 use crate::reading::{four_of, pair_of, triple_of, twelve_of, variant_parts, word};
 use sc_cmd::{Base, Core, Lock};
 use serde_json::Value as Json;
 use std::alloc::Global;
 
-fn lock_coordinating(alloc: Global, content: &Json) -> Result<Lock, RowFault>
+fn lock_coordinating(alloc: Global, content: &Json) -> Result<Lock, RowError>
     ensures finds { (tx : _) (body : _) (order : _) (heard : _)
         → FitsLock (Lock.Coordinating tx body order heard)
         → variant_json (codes "Coordinating") (view content.now)
@@ -33,7 +33,7 @@ fn lock_coordinating(alloc: Global, content: &Json) -> Result<Lock, RowFault>
     })
 }
 
-fn lock_promised(alloc: Global, content: &Json) -> Result<Lock, RowFault>
+fn lock_promised(alloc: Global, content: &Json) -> Result<Lock, RowError>
     ensures finds { (tx : _) (offer : _) → FitsLock (Lock.Promised tx offer)
         → variant_json (codes "Promised") (view content.now) ≡ lock_json (Lock.Promised tx offer)
         → Finds (Lock.Promised tx offer) result }
@@ -44,7 +44,7 @@ fn lock_promised(alloc: Global, content: &Json) -> Result<Lock, RowFault>
     Ok(Lock::Promised { tx, offer })
 }
 
-fn lock_watching(alloc: Global, content: &Json) -> Result<Lock, RowFault>
+fn lock_watching(alloc: Global, content: &Json) -> Result<Lock, RowError>
     ensures finds { (tx : _) (watch : _) → FitsLock (Lock.Watching tx watch)
         → variant_json (codes "Watching") (view content.now) ≡ lock_json (Lock.Watching tx watch)
         → Finds (Lock.Watching tx watch) result }
@@ -60,16 +60,16 @@ impl FromJson for Lock {
 
     ghost Fits = { FitsLock };
 
-    fn from_json(alloc: Global, json: &Json) -> Result<Lock, RowFault> {
+    fn from_json(alloc: Global, json: &Json) -> Result<Lock, RowError> {
         let Some((name, content)) = variant_parts(json) else {
-            return Err(RowFault::NoRow);
+            return Err(RowError::NoRow);
         };
         match name {
             "Free" => word(json, Lock::Free),
             "Coordinating" => lock_coordinating(alloc, content),
             "Promised" => lock_promised(alloc, content),
             "Watching" => lock_watching(alloc, content),
-            _ => Err(RowFault::NoRow),
+            _ => Err(RowError::NoRow),
         }
     }
 }
@@ -79,7 +79,7 @@ impl FromJson for Core {
 
     ghost Fits = { FitsCore };
 
-    fn from_json(alloc: Global, json: &Json) -> Result<Core, RowFault> {
+    fn from_json(alloc: Global, json: &Json) -> Result<Core, RowError> {
         let ((arc, begun, born, decided, first, gone), (id, lock, members, pred, succ, voted)) =
             twelve_of(
                 alloc,
@@ -109,7 +109,7 @@ impl FromJson for Base {
 
     ghost Fits = { FitsBase };
 
-    fn from_json(alloc: Global, json: &Json) -> Result<Base, RowFault> {
+    fn from_json(alloc: Global, json: &Json) -> Result<Base, RowError> {
         let (clients, core, pairs) = triple_of(alloc, json, "clients", "core", "pairs")?;
         Ok(Base {
             core,

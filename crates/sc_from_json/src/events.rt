@@ -5,7 +5,7 @@ ghost use Rattle.sc_row_text.specs.Shapes.{variant as variant_json};
 ghost use Rattle.sc_from_json.specs.Reading.{Finds};
 ghost use Rattle.sc_row_text.specs.Rows.{event_json, FitsEvent};
 
-use crate::faults::RowFault;
+use crate::errors::RowError;
 use crate::from_json::FromJson;
 use crate::reading::{variant_parts, whole, word};
 use sc_actor::Event;
@@ -13,7 +13,7 @@ use sc_cmd::OrderLine;
 use serde_json::Value as Json;
 use std::alloc::Global;
 
-fn event_deliver(alloc: Global, content: &Json) -> Result<Event<OrderLine>, RowFault>
+fn event_deliver(alloc: Global, content: &Json) -> Result<Event<OrderLine>, RowError>
     ensures finds { (inner : _) → FitsEvent (Event.Deliver inner)
         → variant_json (codes "Deliver") (view content.now) ≡ event_json (Event.Deliver inner)
         → Finds (Event.Deliver inner) result }
@@ -24,7 +24,7 @@ fn event_deliver(alloc: Global, content: &Json) -> Result<Event<OrderLine>, RowF
     Ok(Event::Deliver(inner))
 }
 
-fn event_told(alloc: Global, content: &Json) -> Result<Event<OrderLine>, RowFault>
+fn event_told(alloc: Global, content: &Json) -> Result<Event<OrderLine>, RowError>
     ensures finds { (inner : _) → FitsEvent (Event.Told inner)
         → variant_json (codes "Told") (view content.now) ≡ event_json (Event.Told inner)
         → Finds (Event.Told inner) result }
@@ -35,7 +35,7 @@ fn event_told(alloc: Global, content: &Json) -> Result<Event<OrderLine>, RowFaul
     Ok(Event::Told(inner))
 }
 
-fn event_drop(alloc: Global, content: &Json) -> Result<Event<OrderLine>, RowFault>
+fn event_drop(alloc: Global, content: &Json) -> Result<Event<OrderLine>, RowError>
     ensures finds { (inner : _) → FitsEvent (Event.Drop inner)
         → variant_json (codes "Drop") (view content.now) ≡ event_json (Event.Drop inner)
         → Finds (Event.Drop inner) result }
@@ -46,7 +46,7 @@ fn event_drop(alloc: Global, content: &Json) -> Result<Event<OrderLine>, RowFaul
     Ok(Event::Drop(inner))
 }
 
-fn event_again(alloc: Global, content: &Json) -> Result<Event<OrderLine>, RowFault>
+fn event_again(alloc: Global, content: &Json) -> Result<Event<OrderLine>, RowError>
     ensures finds { (inner : _) → FitsEvent (Event.Again inner)
         → variant_json (codes "Again") (view content.now) ≡ event_json (Event.Again inner)
         → Finds (Event.Again inner) result }
@@ -62,9 +62,9 @@ impl FromJson for Event<OrderLine> {
 
     ghost Fits = { FitsEvent };
 
-    fn from_json(alloc: Global, json: &Json) -> Result<Event<OrderLine>, RowFault> {
+    fn from_json(alloc: Global, json: &Json) -> Result<Event<OrderLine>, RowError> {
         let Some((name, content)) = variant_parts(json) else {
-            return Err(RowFault::NoRow);
+            return Err(RowError::NoRow);
         };
         match name {
             "Deliver" => event_deliver(alloc, content),
@@ -74,7 +74,7 @@ impl FromJson for Event<OrderLine> {
             "Crash" => word(json, Event::Crash),
             "Drop" => event_drop(alloc, content),
             "Again" => event_again(alloc, content),
-            _ => Err(RowFault::NoRow),
+            _ => Err(RowError::NoRow),
         }
     }
 }

@@ -4,7 +4,7 @@ ghost use Rattle.serde_json.specs.Data.{Data, null};
 ghost use Rattle.serde_json.specs.View.{view};
 ghost use Rattle.sc_from_json.specs.Reading.{Finds};
 
-use crate::faults::RowFault;
+use crate::errors::RowError;
 use serde_json::Value as Json;
 use std::alloc::Global;
 
@@ -20,7 +20,7 @@ pub trait FromJson: Sized {
     ///
     /// Each value is found in its JSON, and a value that is found has exactly this JSON.
     /// `Err(NoRow)`: no value has this JSON. `Err(OutOfMemory)`: memory ran out.
-    fn from_json(alloc: Global, json: &Json) -> Result<Self, RowFault>
+    fn from_json(alloc: Global, json: &Json) -> Result<Self, RowError>
         ensures finds { (value : Self) → Fits value → view json.now ≡ json_of value
             → Finds value result }
         ensures exact { IfOk result (λ value. view json.now ≡ json_of value) };

@@ -6,7 +6,7 @@ mod bodies;
 mod commands;
 mod cores;
 mod events;
-mod faults;
+mod errors;
 mod from_json;
 mod links;
 mod lists;
@@ -20,6 +20,6 @@ mod sets;
 mod texts;
 mod votes;
 
-pub use faults::RowFault;
+pub use errors::RowError;
 pub use from_json::FromJson;
 pub use reading::{four_of, pair_of, triple_of, variant_parts};

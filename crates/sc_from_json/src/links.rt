@@ -2,7 +2,7 @@
 ghost use Rattle.sc_row_text.specs.Links.{link_json, FitsLink};
 ghost use Rattle.sc_row_text.specs.Links.{route_json, FitsRoute};
 
-use crate::faults::RowFault;
+use crate::errors::RowError;
 use crate::from_json::{FromJson, Present};
 use crate::reading::{pair_of, triple_of};
 use sc_cmd::{Link, Route};
@@ -14,7 +14,7 @@ impl FromJson for Link {
 
     ghost Fits = { FitsLink };
 
-    fn from_json(alloc: Global, json: &Json) -> Result<Link, RowFault> {
+    fn from_json(alloc: Global, json: &Json) -> Result<Link, RowError> {
         let (group, members) = pair_of(alloc, json, "group", "members")?;
         Ok(Link { group, members })
     }
@@ -25,7 +25,7 @@ impl FromJson for Route {
 
     ghost Fits = { FitsRoute };
 
-    fn from_json(alloc: Global, json: &Json) -> Result<Route, RowFault> {
+    fn from_json(alloc: Global, json: &Json) -> Result<Route, RowError> {
         let (group, lo, members) = triple_of(alloc, json, "group", "lo", "members")?;
         Ok(Route { group, lo, members })
     }

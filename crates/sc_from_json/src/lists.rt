@@ -6,7 +6,7 @@ ghost use Rattle.sc_row_text.specs.Held.{OptionFits, PairFits};
 ghost use Rattle.sc_row_text.specs.Shapes.{items_json, list_json, option_json, pair_json};
 ghost use Rattle.sc_from_json.specs.Reading.{Shows};
 
-use crate::faults::RowFault;
+use crate::errors::RowError;
 use crate::from_json::{FromJson, Present};
 use crate::reading::pair_in;
 use sc_base::{Boxed, Sequence};
@@ -14,7 +14,7 @@ use serde_json::Value as Json;
 use std::alloc::Global;
 
 /// Returns the values that have these JSONs.
-fn values_of<T: FromJson + Drop>(alloc: Global, list: &[Json]) -> Result<Vec<T>, RowFault>
+fn values_of<T: FromJson + Drop>(alloc: Global, list: &[Json]) -> Result<Vec<T>, RowError>
     ensures finds { (values : List T) → Each T.Fits values
         → items_view list.now ≡ items_json T.json_of values
         → Shows (λ found. found.items) values result }
@@ -30,7 +30,7 @@ fn values_of<T: FromJson + Drop>(alloc: Global, list: &[Json]) -> Result<Vec<T>,
 
 /// Returns the values of which the JSON is an array.
 #[tactic(auto, using(crate::proofs::Arrays::is_array))]
-pub(crate) fn items_of<T: FromJson + Drop>(alloc: Global, json: &Json) -> Result<Vec<T>, RowFault>
+pub(crate) fn items_of<T: FromJson + Drop>(alloc: Global, json: &Json) -> Result<Vec<T>, RowError>
     ensures finds { (values : List T) → Each T.Fits values
         → view json.now ≡ list_json T.json_of values
         → Shows (λ found. found.items) values result }
@@ -38,7 +38,7 @@ pub(crate) fn items_of<T: FromJson + Drop>(alloc: Global, json: &Json) -> Result
 {
     match json.as_array() {
         Some(list) => values_of(alloc, list.as_slice()),
-        None => Err(RowFault::NoRow),
+        None => Err(RowError::NoRow),
     }
 }
 
@@ -47,7 +47,7 @@ impl<T: FromJson + Drop> FromJson for Sequence<T> {
 
     ghost Fits = { Each T.Fits };
 
-    fn from_json(alloc: Global, json: &Json) -> Result<Sequence<T>, RowFault> {
+    fn from_json(alloc: Global, json: &Json) -> Result<Sequence<T>, RowError> {
         let items = items_of(alloc, json)?;
         Ok(Sequence::from_vec(items))
     }
@@ -62,7 +62,7 @@ impl<A: FromJson + Drop, B: FromJson + Drop> FromJson for (A, B) {
 
     ghost Fits = { PairFits A.Fits B.Fits };
 
-    fn from_json(alloc: Global, json: &Json) -> Result<(A, B), RowFault> {
+    fn from_json(alloc: Global, json: &Json) -> Result<(A, B), RowError> {
         pair_in(alloc, json)
     }
 }
@@ -76,7 +76,7 @@ impl<T: FromJson + Drop> FromJson for Boxed<T> {
 
     ghost Fits = { T.Fits };
 
-    fn from_json(alloc: Global, json: &Json) -> Result<Boxed<T>, RowFault> {
+    fn from_json(alloc: Global, json: &Json) -> Result<Boxed<T>, RowError> {
         let value = T::from_json(alloc, json)?;
         Ok(Boxed::new(alloc, value)?)
     }
@@ -92,7 +92,7 @@ impl<T: Present> FromJson for Option<T> {
     ghost Fits = { OptionFits T.FromJson.Fits };
 
     #[tactic(auto, using(crate::proofs::TextSteps::is_null))]
-    fn from_json(alloc: Global, json: &Json) -> Result<Option<T>, RowFault> {
+    fn from_json(alloc: Global, json: &Json) -> Result<Option<T>, RowError> {
         if json.is_null() {
             Ok(None)
         } else {

@@ -4,7 +4,7 @@ ghost use Rattle.serde_json.specs.Data.{string};
 ghost use Rattle.sc_base.specs.declared.names.Draw.{Draw};
 ghost use Rattle.sc_row_text.specs.Names.{draw_json, FitsDraw, ballot_json, FitsBallot};
 
-use crate::faults::RowFault;
+use crate::errors::RowError;
 use crate::from_json::{FromJson, Present};
 use crate::reading::pair_in;
 use sc_base::{Ballot, Draw, read_number};
@@ -41,13 +41,13 @@ impl FromJson for Draw {
     ghost Fits = { FitsDraw };
 
     #[tactic(auto, using(crate::proofs::TextSteps::is_string), unfolding(sc_row_text::specs::Names::draw_json))]
-    fn from_json(_alloc: Global, json: &Json) -> Result<Draw, RowFault> {
+    fn from_json(_alloc: Global, json: &Json) -> Result<Draw, RowError> {
         match json.as_str() {
             Some(text) => match draw_of(text.as_bytes()) {
                 Some(draw) => Ok(draw),
-                None => Err(RowFault::NoRow),
+                None => Err(RowError::NoRow),
             },
-            None => Err(RowFault::NoRow),
+            None => Err(RowError::NoRow),
         }
     }
 }
@@ -64,7 +64,7 @@ impl FromJson for Ballot {
     ghost Fits = { FitsBallot };
 
     #[tactic(auto, unfolding(crate::specs::Json::ballot_json, crate::specs::Json::FitsBallot))]
-    fn from_json(alloc: Global, json: &Json) -> Result<Ballot, RowFault> {
+    fn from_json(alloc: Global, json: &Json) -> Result<Ballot, RowError> {
         let (round, node) = pair_in(alloc, json)?;
         Ok(Ballot { round, node })
     }

@@ -3,7 +3,7 @@
 ghost use Rattle.sc_row_text.specs.Shapes.{number_json};
 ghost use Rattle.sc_row_text.specs.Held.{FitsU8, FitsU16, FitsU32, FitsU64};
 
-use crate::faults::RowFault;
+use crate::errors::RowError;
 use crate::from_json::{FromJson, Present};
 use serde_json::Value as Json;
 use std::alloc::Global;
@@ -13,10 +13,10 @@ impl FromJson for u8 {
 
     ghost Fits = { FitsU8 };
 
-    fn from_json(_alloc: Global, json: &Json) -> Result<u8, RowFault> {
+    fn from_json(_alloc: Global, json: &Json) -> Result<u8, RowError> {
         match json.as_u64() {
             Some(n) if n <= u8::MAX as u64 => Ok(n as u8),
-            _ => Err(RowFault::NoRow),
+            _ => Err(RowError::NoRow),
         }
     }
 }
@@ -26,10 +26,10 @@ impl FromJson for u16 {
 
     ghost Fits = { FitsU16 };
 
-    fn from_json(_alloc: Global, json: &Json) -> Result<u16, RowFault> {
+    fn from_json(_alloc: Global, json: &Json) -> Result<u16, RowError> {
         match json.as_u64() {
             Some(n) if n <= u16::MAX as u64 => Ok(n as u16),
-            _ => Err(RowFault::NoRow),
+            _ => Err(RowError::NoRow),
         }
     }
 }
@@ -39,10 +39,10 @@ impl FromJson for u32 {
 
     ghost Fits = { FitsU32 };
 
-    fn from_json(_alloc: Global, json: &Json) -> Result<u32, RowFault> {
+    fn from_json(_alloc: Global, json: &Json) -> Result<u32, RowError> {
         match json.as_u64() {
             Some(n) if n <= u32::MAX as u64 => Ok(n as u32),
-            _ => Err(RowFault::NoRow),
+            _ => Err(RowError::NoRow),
         }
     }
 }
@@ -52,10 +52,10 @@ impl FromJson for u64 {
 
     ghost Fits = { FitsU64 };
 
-    fn from_json(_alloc: Global, json: &Json) -> Result<u64, RowFault> {
+    fn from_json(_alloc: Global, json: &Json) -> Result<u64, RowError> {
         match json.as_u64() {
             Some(n) => Ok(n),
-            None => Err(RowFault::NoRow),
+            None => Err(RowError::NoRow),
         }
     }
 }

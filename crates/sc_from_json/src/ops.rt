@@ -7,14 +7,14 @@ ghost use Rattle.sc_from_json.specs.Reading.{Finds};
 ghost use Rattle.sc_row_text.specs.Ops.{op_json, FitsOp};
 ghost use Rattle.sc_row_text.specs.Ops.{reply_json, FitsReply};
 
-use crate::faults::RowFault;
+use crate::errors::RowError;
 use crate::from_json::FromJson;
 use crate::reading::{pair_of, single_of, triple_of, variant_parts};
 use sc_base::{Op, Reply};
 use serde_json::Value as Json;
 use std::alloc::Global;
 
-fn op_get(alloc: Global, content: &Json) -> Result<Op, RowFault>
+fn op_get(alloc: Global, content: &Json) -> Result<Op, RowError>
     ensures finds { (key : _) → FitsOp (Op.Get key)
         → variant_json (codes "Get") (view content.now) ≡ op_json (Op.Get key)
         → Finds (Op.Get key) result }
@@ -25,7 +25,7 @@ fn op_get(alloc: Global, content: &Json) -> Result<Op, RowFault>
     Ok(Op::Get { key })
 }
 
-fn op_put(alloc: Global, content: &Json) -> Result<Op, RowFault>
+fn op_put(alloc: Global, content: &Json) -> Result<Op, RowError>
     ensures finds { (key : _) (value : _) → FitsOp (Op.Put key value)
         → variant_json (codes "Put") (view content.now) ≡ op_json (Op.Put key value)
         → Finds (Op.Put key value) result }
@@ -36,7 +36,7 @@ fn op_put(alloc: Global, content: &Json) -> Result<Op, RowFault>
     Ok(Op::Put { key, value })
 }
 
-fn op_del(alloc: Global, content: &Json) -> Result<Op, RowFault>
+fn op_del(alloc: Global, content: &Json) -> Result<Op, RowError>
     ensures finds { (key : _) → FitsOp (Op.Del key)
         → variant_json (codes "Del") (view content.now) ≡ op_json (Op.Del key)
         → Finds (Op.Del key) result }
@@ -47,7 +47,7 @@ fn op_del(alloc: Global, content: &Json) -> Result<Op, RowFault>
     Ok(Op::Del { key })
 }
 
-fn op_add(alloc: Global, content: &Json) -> Result<Op, RowFault>
+fn op_add(alloc: Global, content: &Json) -> Result<Op, RowError>
     ensures finds { (key : _) (value : _) → FitsOp (Op.Add key value)
         → variant_json (codes "Add") (view content.now) ≡ op_json (Op.Add key value)
         → Finds (Op.Add key value) result }
@@ -58,7 +58,7 @@ fn op_add(alloc: Global, content: &Json) -> Result<Op, RowFault>
     Ok(Op::Add { key, value })
 }
 
-fn op_cas(alloc: Global, content: &Json) -> Result<Op, RowFault>
+fn op_cas(alloc: Global, content: &Json) -> Result<Op, RowError>
     ensures finds { (key : _) (expect : _) (value : _) → FitsOp (Op.Cas key expect value)
         → variant_json (codes "Cas") (view content.now) ≡ op_json (Op.Cas key expect value)
         → Finds (Op.Cas key expect value) result }
@@ -74,9 +74,9 @@ impl FromJson for Op {
 
     ghost Fits = { FitsOp };
 
-    fn from_json(alloc: Global, json: &Json) -> Result<Op, RowFault> {
+    fn from_json(alloc: Global, json: &Json) -> Result<Op, RowError> {
         let Some((name, content)) = variant_parts(json) else {
-            return Err(RowFault::NoRow);
+            return Err(RowError::NoRow);
         };
         match name {
             "Get" => op_get(alloc, content),
@@ -84,7 +84,7 @@ impl FromJson for Op {
             "Del" => op_del(alloc, content),
             "Add" => op_add(alloc, content),
             "Cas" => op_cas(alloc, content),
-            _ => Err(RowFault::NoRow),
+            _ => Err(RowError::NoRow),
         }
     }
 }
@@ -94,7 +94,7 @@ impl FromJson for Reply {
 
     ghost Fits = { FitsReply };
 
-    fn from_json(alloc: Global, json: &Json) -> Result<Reply, RowFault> {
+    fn from_json(alloc: Global, json: &Json) -> Result<Reply, RowError> {
         let old = single_of(alloc, json, "old")?;
         Ok(Reply { old })
     }

@@ -3,22 +3,22 @@ ghost use Rattle.std.specs.Prelude.{◌≡◌, IfOk, codes};
 ghost use Rattle.serde_json.specs.View.{view};
 ghost use Rattle.sc_cmd.specs.declared.orders.Order.{Order};
 ghost use Rattle.sc_cmd.specs.declared.orders.OrderRefusal.{OrderRefusal};
-ghost use Rattle.sc_cmd.specs.declared.orders.ToldResult.{ToldResult};
+ghost use Rattle.sc_cmd.specs.declared.orders.OrderResult.{OrderResult};
 ghost use Rattle.sc_row_text.specs.Shapes.{variant as variant_json};
 ghost use Rattle.sc_from_json.specs.Reading.{Finds};
 ghost use Rattle.sc_row_text.specs.Orders.{order_json, FitsOrder};
 ghost use Rattle.sc_row_text.specs.Orders.{order_line_json, FitsOrderLine};
 ghost use Rattle.sc_row_text.specs.Orders.{order_refusal_json, FitsOrderRefusal};
-ghost use Rattle.sc_row_text.specs.Orders.{told_result_json, FitsToldResult};
+ghost use Rattle.sc_row_text.specs.Orders.{order_result_json, FitsOrderResult};
 
-use crate::faults::RowFault;
+use crate::errors::RowError;
 use crate::from_json::FromJson;
 use crate::reading::{pair_of, single_of, variant_parts, whole, word};
-use sc_cmd::{Order, OrderLine, OrderRefusal, ToldResult};
+use sc_cmd::{Order, OrderLine, OrderRefusal, OrderResult};
 use serde_json::Value as Json;
 use std::alloc::Global;
 
-fn order_join(alloc: Global, content: &Json) -> Result<Order, RowFault>
+fn order_join(alloc: Global, content: &Json) -> Result<Order, RowError>
     ensures finds { (node : _) (group : _) → FitsOrder (Order.Join node group)
         → variant_json (codes "Join") (view content.now) ≡ order_json (Order.Join node group)
         → Finds (Order.Join node group) result }
@@ -29,7 +29,7 @@ fn order_join(alloc: Global, content: &Json) -> Result<Order, RowFault>
     Ok(Order::Join { node, group })
 }
 
-fn order_leave(alloc: Global, content: &Json) -> Result<Order, RowFault>
+fn order_leave(alloc: Global, content: &Json) -> Result<Order, RowError>
     ensures finds { (node : _) (group : _) → FitsOrder (Order.Leave node group)
         → variant_json (codes "Leave") (view content.now) ≡ order_json (Order.Leave node group)
         → Finds (Order.Leave node group) result }
@@ -40,7 +40,7 @@ fn order_leave(alloc: Global, content: &Json) -> Result<Order, RowFault>
     Ok(Order::Leave { node, group })
 }
 
-fn order_split(alloc: Global, content: &Json) -> Result<Order, RowFault>
+fn order_split(alloc: Global, content: &Json) -> Result<Order, RowError>
     ensures finds { (group : _) (at : _) → FitsOrder (Order.Split group at)
         → variant_json (codes "Split") (view content.now) ≡ order_json (Order.Split group at)
         → Finds (Order.Split group at) result }
@@ -51,7 +51,7 @@ fn order_split(alloc: Global, content: &Json) -> Result<Order, RowFault>
     Ok(Order::Split { group, at })
 }
 
-fn order_merge(alloc: Global, content: &Json) -> Result<Order, RowFault>
+fn order_merge(alloc: Global, content: &Json) -> Result<Order, RowError>
     ensures finds { (group : _) → FitsOrder (Order.Merge group)
         → variant_json (codes "Merge") (view content.now) ≡ order_json (Order.Merge group)
         → Finds (Order.Merge group) result }
@@ -62,7 +62,7 @@ fn order_merge(alloc: Global, content: &Json) -> Result<Order, RowFault>
     Ok(Order::Merge { group })
 }
 
-fn order_repart(alloc: Global, content: &Json) -> Result<Order, RowFault>
+fn order_repart(alloc: Global, content: &Json) -> Result<Order, RowError>
     ensures finds { (group : _) (at : _) → FitsOrder (Order.Repart group at)
         → variant_json (codes "Repart") (view content.now) ≡ order_json (Order.Repart group at)
         → Finds (Order.Repart group at) result }
@@ -73,7 +73,7 @@ fn order_repart(alloc: Global, content: &Json) -> Result<Order, RowFault>
     Ok(Order::Repart { group, at })
 }
 
-fn order_migrate(alloc: Global, content: &Json) -> Result<Order, RowFault>
+fn order_migrate(alloc: Global, content: &Json) -> Result<Order, RowError>
     ensures finds { (group : _) (node : _) → FitsOrder (Order.Migrate group node)
         → variant_json (codes "Migrate") (view content.now) ≡ order_json (Order.Migrate group node)
         → Finds (Order.Migrate group node) result }
@@ -89,9 +89,9 @@ impl FromJson for Order {
 
     ghost Fits = { FitsOrder };
 
-    fn from_json(alloc: Global, json: &Json) -> Result<Order, RowFault> {
+    fn from_json(alloc: Global, json: &Json) -> Result<Order, RowError> {
         let Some((name, content)) = variant_parts(json) else {
-            return Err(RowFault::NoRow);
+            return Err(RowError::NoRow);
         };
         match name {
             "Join" => order_join(alloc, content),
@@ -100,7 +100,7 @@ impl FromJson for Order {
             "Merge" => order_merge(alloc, content),
             "Repart" => order_repart(alloc, content),
             "Migrate" => order_migrate(alloc, content),
-            _ => Err(RowFault::NoRow),
+            _ => Err(RowError::NoRow),
         }
     }
 }
@@ -110,13 +110,13 @@ impl FromJson for OrderLine {
 
     ghost Fits = { FitsOrderLine };
 
-    fn from_json(alloc: Global, json: &Json) -> Result<OrderLine, RowFault> {
+    fn from_json(alloc: Global, json: &Json) -> Result<OrderLine, RowError> {
         let (number, order) = pair_of(alloc, json, "number", "order")?;
         Ok(OrderLine { number, order })
     }
 }
 
-fn order_refusal_not_leader(alloc: Global, content: &Json) -> Result<OrderRefusal, RowFault>
+fn order_refusal_not_leader(alloc: Global, content: &Json) -> Result<OrderRefusal, RowError>
     ensures finds { (hint : _) → FitsOrderRefusal (OrderRefusal.NotLeader hint)
         → variant_json (codes "NotLeader") (view content.now)
         ≡ order_refusal_json (OrderRefusal.NotLeader hint)
@@ -128,7 +128,7 @@ fn order_refusal_not_leader(alloc: Global, content: &Json) -> Result<OrderRefusa
     Ok(OrderRefusal::NotLeader { hint })
 }
 
-fn order_refusal_in_transaction(alloc: Global, content: &Json) -> Result<OrderRefusal, RowFault>
+fn order_refusal_in_transaction(alloc: Global, content: &Json) -> Result<OrderRefusal, RowError>
     ensures finds { (tx : _) → FitsOrderRefusal (OrderRefusal.InTransaction tx)
         → variant_json (codes "InTransaction") (view content.now)
         ≡ order_refusal_json (OrderRefusal.InTransaction tx)
@@ -140,7 +140,7 @@ fn order_refusal_in_transaction(alloc: Global, content: &Json) -> Result<OrderRe
     Ok(OrderRefusal::InTransaction { tx })
 }
 
-fn order_refusal_too_many_members(alloc: Global, content: &Json) -> Result<OrderRefusal, RowFault>
+fn order_refusal_too_many_members(alloc: Global, content: &Json) -> Result<OrderRefusal, RowError>
     ensures finds { (n : _) → FitsOrderRefusal (OrderRefusal.TooManyMembers n)
         → variant_json (codes "TooManyMembers") (view content.now)
         ≡ order_refusal_json (OrderRefusal.TooManyMembers n)
@@ -157,9 +157,9 @@ impl FromJson for OrderRefusal {
 
     ghost Fits = { FitsOrderRefusal };
 
-    fn from_json(alloc: Global, json: &Json) -> Result<OrderRefusal, RowFault> {
+    fn from_json(alloc: Global, json: &Json) -> Result<OrderRefusal, RowError> {
         let Some((name, content)) = variant_parts(json) else {
-            return Err(RowFault::NoRow);
+            return Err(RowError::NoRow);
         };
         match name {
             "NotLeader" => order_refusal_not_leader(alloc, content),
@@ -171,38 +171,38 @@ impl FromJson for OrderRefusal {
             "LastMember" => word(json, OrderRefusal::LastMember),
             "TxLimit" => word(json, OrderRefusal::TxLimit),
             "IsMember" => word(json, OrderRefusal::IsMember),
-            _ => Err(RowFault::NoRow),
+            _ => Err(RowError::NoRow),
         }
     }
 }
 
-fn told_result_refused(alloc: Global, content: &Json) -> Result<ToldResult, RowFault>
-    ensures finds { (inner : _) → FitsToldResult (ToldResult.Refused inner)
+fn order_result_refused(alloc: Global, content: &Json) -> Result<OrderResult, RowError>
+    ensures finds { (inner : _) → FitsOrderResult (OrderResult.Refused inner)
         → variant_json (codes "Refused") (view content.now)
-        ≡ told_result_json (ToldResult.Refused inner)
-        → Finds (ToldResult.Refused inner) result }
+        ≡ order_result_json (OrderResult.Refused inner)
+        → Finds (OrderResult.Refused inner) result }
     ensures exact { IfOk result (λ value.
-        variant_json (codes "Refused") (view content.now) ≡ told_result_json value) }
+        variant_json (codes "Refused") (view content.now) ≡ order_result_json value) }
 {
     let inner = whole(alloc, content)?;
-    Ok(ToldResult::Refused(inner))
+    Ok(OrderResult::Refused(inner))
 }
 
-impl FromJson for ToldResult {
-    ghost json_of = { told_result_json };
+impl FromJson for OrderResult {
+    ghost json_of = { order_result_json };
 
-    ghost Fits = { FitsToldResult };
+    ghost Fits = { FitsOrderResult };
 
-    fn from_json(alloc: Global, json: &Json) -> Result<ToldResult, RowFault> {
+    fn from_json(alloc: Global, json: &Json) -> Result<OrderResult, RowError> {
         let Some((name, content)) = variant_parts(json) else {
-            return Err(RowFault::NoRow);
+            return Err(RowError::NoRow);
         };
         match name {
-            "Done" => word(json, ToldResult::Done),
-            "Committed" => word(json, ToldResult::Committed),
-            "Aborted" => word(json, ToldResult::Aborted),
-            "Refused" => told_result_refused(alloc, content),
-            _ => Err(RowFault::NoRow),
+            "Done" => word(json, OrderResult::Done),
+            "Committed" => word(json, OrderResult::Committed),
+            "Aborted" => word(json, OrderResult::Aborted),
+            "Refused" => order_result_refused(alloc, content),
+            _ => Err(RowError::NoRow),
         }
     }
 }

@@ -7,7 +7,7 @@ ghost use Rattle.sc_from_json.specs.Reading.{Finds};
 ghost use Rattle.sc_row_text.specs.Outcomes.{gift_json, FitsGift};
 ghost use Rattle.sc_row_text.specs.Outcomes.{outcome_json, FitsOutcome};
 
-use crate::faults::RowFault;
+use crate::errors::RowError;
 use crate::from_json::{FromJson, Present};
 use crate::reading::{pair_of, single_of, variant_parts, word};
 use sc_cmd::{Gift, Outcome};
@@ -19,13 +19,13 @@ impl FromJson for Gift {
 
     ghost Fits = { FitsGift };
 
-    fn from_json(alloc: Global, json: &Json) -> Result<Gift, RowFault> {
+    fn from_json(alloc: Global, json: &Json) -> Result<Gift, RowError> {
         let (clients, pairs) = pair_of(alloc, json, "clients", "pairs")?;
         Ok(Gift { pairs, clients })
     }
 }
 
-fn outcome_merged(alloc: Global, content: &Json) -> Result<Outcome, RowFault>
+fn outcome_merged(alloc: Global, content: &Json) -> Result<Outcome, RowError>
     ensures finds { (into : _) → FitsOutcome (Outcome.Merged into)
         → variant_json (codes "Merged") (view content.now) ≡ outcome_json (Outcome.Merged into)
         → Finds (Outcome.Merged into) result }
@@ -36,7 +36,7 @@ fn outcome_merged(alloc: Global, content: &Json) -> Result<Outcome, RowFault>
     Ok(Outcome::Merged { into })
 }
 
-fn outcome_moved(alloc: Global, content: &Json) -> Result<Outcome, RowFault>
+fn outcome_moved(alloc: Global, content: &Json) -> Result<Outcome, RowError>
     ensures finds { (at : _) (gift : _) → FitsOutcome (Outcome.Moved at gift)
         → variant_json (codes "Moved") (view content.now) ≡ outcome_json (Outcome.Moved at gift)
         → Finds (Outcome.Moved at gift) result }
@@ -47,7 +47,7 @@ fn outcome_moved(alloc: Global, content: &Json) -> Result<Outcome, RowFault>
     Ok(Outcome::Moved { at, gift })
 }
 
-fn outcome_migrated(alloc: Global, content: &Json) -> Result<Outcome, RowFault>
+fn outcome_migrated(alloc: Global, content: &Json) -> Result<Outcome, RowError>
     ensures finds { (node : _) → FitsOutcome (Outcome.Migrated node)
         → variant_json (codes "Migrated") (view content.now) ≡ outcome_json (Outcome.Migrated node)
         → Finds (Outcome.Migrated node) result }
@@ -63,9 +63,9 @@ impl FromJson for Outcome {
 
     ghost Fits = { FitsOutcome };
 
-    fn from_json(alloc: Global, json: &Json) -> Result<Outcome, RowFault> {
+    fn from_json(alloc: Global, json: &Json) -> Result<Outcome, RowError> {
         let Some((name, content)) = variant_parts(json) else {
-            return Err(RowFault::NoRow);
+            return Err(RowError::NoRow);
         };
         match name {
             "Abort" => word(json, Outcome::Abort),
@@ -73,7 +73,7 @@ impl FromJson for Outcome {
             "Moved" => outcome_moved(alloc, content),
             "Migrated" => outcome_migrated(alloc, content),
             "Divided" => word(json, Outcome::Divided),
-            _ => Err(RowFault::NoRow),
+            _ => Err(RowError::NoRow),
         }
     }
 }

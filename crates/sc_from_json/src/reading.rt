@@ -5,14 +5,14 @@ ghost use Rattle.serde_json.specs.View.{view, items_view, members_view};
 ghost use Rattle.sc_from_json.specs.Reading.{Finds, IsWord, MayBeVariant, Shows, Spells, content_of};
 ghost use Rattle.sc_row_text.specs.Shapes.{fields, pair_json, variant_name};
 
-use crate::faults::RowFault;
+use crate::errors::RowError;
 use crate::from_json::FromJson;
 use serde_json::Value as Json;
 use std::alloc::Global;
 use std::collections::btree_map::Iter;
 
 /// Returns the value that has this JSON as a whole.
-pub(crate) fn whole<T: FromJson>(alloc: Global, json: &Json) -> Result<T, RowFault>
+pub(crate) fn whole<T: FromJson>(alloc: Global, json: &Json) -> Result<T, RowError>
     ensures finds { (value : T) → T.Fits value → view json.now ≡ T.json_of value
         → Finds value result }
     ensures exact { IfOk result (λ value. view json.now ≡ T.json_of value) }
@@ -39,7 +39,7 @@ fn next_of<T: FromJson>(
     alloc: Global,
     members: &mut Iter<String, Json>,
     name: &str,
-) -> Result<T, RowFault>
+) -> Result<T, RowError>
     ensures finds { (value : T) (rest : Members) → T.Fits value
         → members_view members.old ≡ member name.now (T.json_of value) rest → Finds value result }
     ensures exact { IfOk result (λ value. members_view members.old
@@ -47,7 +47,7 @@ fn next_of<T: FromJson>(
 {
     match content_at(members, name) {
         Some(content) => T::from_json(alloc, content),
-        None => Err(RowFault::NoRow),
+        None => Err(RowError::NoRow),
     }
 }
 
@@ -57,7 +57,7 @@ fn two_next<A: FromJson + Drop, B: FromJson + Drop>(
     members: &mut Iter<String, Json>,
     first: &str,
     second: &str,
-) -> Result<(A, B), RowFault>
+) -> Result<(A, B), RowError>
     ensures finds { (a : A) (b : B) (rest : Members)
         → A.Fits a → B.Fits b
         → members_view members.old
@@ -79,7 +79,7 @@ fn three_next<A: FromJson + Drop, B: FromJson + Drop, C: FromJson + Drop>(
     first: &str,
     second: &str,
     third: &str,
-) -> Result<(A, B, C), RowFault>
+) -> Result<(A, B, C), RowError>
     ensures finds { (a : A) (b : B) (c : C) (rest : Members)
         → A.Fits a → B.Fits b → C.Fits c
         → members_view members.old
@@ -106,7 +106,7 @@ fn four_next<A: FromJson + Drop, B: FromJson + Drop, C: FromJson + Drop, D: From
     second: &str,
     third: &str,
     fourth: &str,
-) -> Result<(A, B, C, D), RowFault>
+) -> Result<(A, B, C, D), RowError>
     ensures finds { (a : A) (b : B) (c : C) (d : D) (rest : Members)
         → A.Fits a → B.Fits b → C.Fits c → D.Fits d
         → members_view members.old
@@ -141,7 +141,7 @@ fn five_next<
     third: &str,
     fourth: &str,
     fifth: &str,
-) -> Result<(A, B, C, D, E), RowFault>
+) -> Result<(A, B, C, D, E), RowError>
     ensures finds { (a : A) (b : B) (c : C) (d : D) (e : E) (rest : Members)
         → A.Fits a → B.Fits b → C.Fits c → D.Fits d → E.Fits e
         → members_view members.old
@@ -180,7 +180,7 @@ fn six_next<
     fourth: &str,
     fifth: &str,
     sixth: &str,
-) -> Result<(A, B, C, D, E, F), RowFault>
+) -> Result<(A, B, C, D, E, F), RowError>
     ensures finds { (a : A) (b : B) (c : C) (d : D) (e : E) (f : F) (rest : Members)
         → A.Fits a → B.Fits b → C.Fits c → D.Fits d → E.Fits e → F.Fits f
         → members_view members.old
@@ -205,24 +205,24 @@ fn six_next<
 }
 
 /// Returns the members of an object.
-fn members_of(json: &Json) -> Result<Iter<String, Json>, RowFault>
+fn members_of(json: &Json) -> Result<Iter<String, Json>, RowError>
     ensures finds { (ms : Members) → view json.now ≡ object ms → IsOk result }
     ensures exact { IfOk result (λ members. view json.now ≡ object (members_view members)) }
 {
     match json {
         Json::Object(members) => Ok(members.iter()),
-        _ => Err(RowFault::NoRow),
+        _ => Err(RowError::NoRow),
     }
 }
 
 /// Returns the value that was read, if no member is left.
-fn at_end<T: Drop>(members: &mut Iter<String, Json>, value: T) -> Result<T, RowFault>
+fn at_end<T: Drop>(members: &mut Iter<String, Json>, value: T) -> Result<T, RowError>
     ensures finds { members_view members.old ≡ no_members → result ≡ Ok value }
     ensures exact { IfOk result (λ found. (found ≡ value)
         × (members_view members.old ≡ no_members)) }
 {
     match members.next() {
-        Some(_) => Err(RowFault::NoRow),
+        Some(_) => Err(RowError::NoRow),
         None => Ok(value),
     }
 }
@@ -232,7 +232,7 @@ pub(crate) fn single_of<A: FromJson + Drop>(
     alloc: Global,
     json: &Json,
     name: &str,
-) -> Result<A, RowFault>
+) -> Result<A, RowError>
     ensures finds { (a : A)
         → A.Fits a
         → view json.now ≡ fields ((name.now, A.json_of a) ∷ [])
@@ -250,7 +250,7 @@ pub fn pair_of<A: FromJson + Drop, B: FromJson + Drop>(
     json: &Json,
     first: &str,
     second: &str,
-) -> Result<(A, B), RowFault>
+) -> Result<(A, B), RowError>
     ensures finds { (a : A) (b : B)
         → A.Fits a → B.Fits b
         → view json.now ≡ fields ((first.now, A.json_of a) ∷ (second.now, B.json_of b) ∷ [])
@@ -272,7 +272,7 @@ pub fn triple_of<A: FromJson + Drop, B: FromJson + Drop, C: FromJson + Drop>(
     first: &str,
     second: &str,
     third: &str,
-) -> Result<(A, B, C), RowFault>
+) -> Result<(A, B, C), RowError>
     ensures finds { (a : A) (b : B) (c : C)
         → A.Fits a → B.Fits b → C.Fits c
         → view json.now ≡ fields
@@ -300,7 +300,7 @@ pub fn four_of<A: FromJson + Drop, B: FromJson + Drop, C: FromJson + Drop, D: Fr
     second: &str,
     third: &str,
     fourth: &str,
-) -> Result<(A, B, C, D), RowFault>
+) -> Result<(A, B, C, D), RowError>
     ensures finds { (a : A) (b : B) (c : C) (d : D)
         → A.Fits a → B.Fits b → C.Fits c → D.Fits d
         → view json.now ≡ fields
@@ -337,7 +337,7 @@ pub(crate) fn five_of<
     third: &str,
     fourth: &str,
     fifth: &str,
-) -> Result<(A, B, C, D, E), RowFault>
+) -> Result<(A, B, C, D, E), RowError>
     ensures finds { (a : A) (b : B) (c : C) (d : D) (e : E)
         → A.Fits a → B.Fits b → C.Fits c → D.Fits d → E.Fits e
         → view json.now ≡ fields
@@ -378,7 +378,7 @@ pub(crate) fn six_of<
     fourth: &str,
     fifth: &str,
     sixth: &str,
-) -> Result<(A, B, C, D, E, F), RowFault>
+) -> Result<(A, B, C, D, E, F), RowError>
     ensures finds { (a : A) (b : B) (c : C) (d : D) (e : E) (f : F)
         → A.Fits a → B.Fits b → C.Fits c → D.Fits d → E.Fits e → F.Fits f
         → view json.now ≡ fields
@@ -433,7 +433,7 @@ pub(crate) fn twelve_of<
     json: &Json,
     firsts: (&str, &str, &str, &str, &str, &str),
     lasts: (&str, &str, &str, &str, &str, &str),
-) -> Result<((A, B, C, D, E, F), (G, H, I, J, K, L)), RowFault>
+) -> Result<((A, B, C, D, E, F), (G, H, I, J, K, L)), RowError>
     ensures finds { (a : A) (b : B) (c : C) (d : D) (e : E) (f : F)
         (g : G) (h : H) (i : I) (j : J) (k : K) (l : L)
         → A.Fits a → B.Fits b → C.Fits c → D.Fits d → E.Fits e → F.Fits f
@@ -498,7 +498,7 @@ pub(crate) fn twelve_of<
 fn first_of<'a, T: FromJson + Drop>(
     alloc: Global,
     items: &'a [Json],
-) -> Result<(T, &'a [Json]), RowFault>
+) -> Result<(T, &'a [Json]), RowError>
     ensures finds { (value : T) (rest : Items) → T.Fits value
         → items_view items.now ≡ item (T.json_of value) rest
         → Shows (λ found. found.0) value result }
@@ -510,29 +510,29 @@ fn first_of<'a, T: FromJson + Drop>(
             let value = T::from_json(alloc, first)?;
             Ok((value, rest))
         }
-        None => Err(RowFault::NoRow),
+        None => Err(RowError::NoRow),
     }
 }
 
 /// Returns the items of an array.
 #[tactic(auto, using(crate::proofs::Arrays::is_array))]
-fn items_in(json: &Json) -> Result<&[Json], RowFault>
+fn items_in(json: &Json) -> Result<&[Json], RowError>
     ensures finds { (ds : Items) → view json.now ≡ array ds → IsOk result }
     ensures exact { IfOk result (λ items. view json.now ≡ array (items_view items.now)) }
 {
     match json.as_array() {
         Some(list) => Ok(list.as_slice()),
-        None => Err(RowFault::NoRow),
+        None => Err(RowError::NoRow),
     }
 }
 
 /// Returns the value that was read, if no item is left.
-fn no_more<T: Drop>(items: &[Json], value: T) -> Result<T, RowFault>
+fn no_more<T: Drop>(items: &[Json], value: T) -> Result<T, RowError>
     ensures finds { items_view items.now ≡ no_items → result ≡ Ok value }
     ensures exact { IfOk result (λ found. (found ≡ value) × (items_view items.now ≡ no_items)) }
 {
     match items.split_first() {
-        Some(_) => Err(RowFault::NoRow),
+        Some(_) => Err(RowError::NoRow),
         None => Ok(value),
     }
 }
@@ -541,7 +541,7 @@ fn no_more<T: Drop>(items: &[Json], value: T) -> Result<T, RowFault>
 pub(crate) fn pair_in<A: FromJson + Drop, B: FromJson + Drop>(
     alloc: Global,
     json: &Json,
-) -> Result<(A, B), RowFault>
+) -> Result<(A, B), RowError>
     ensures finds { (a : A) (b : B) → A.Fits a → B.Fits b
         → view json.now ≡ pair_json A.json_of B.json_of (a, b) → Finds (a, b) result }
     ensures exact { IfOk result (λ p. view json.now ≡ pair_json A.json_of B.json_of p) }
@@ -556,7 +556,7 @@ pub(crate) fn pair_in<A: FromJson + Drop, B: FromJson + Drop>(
 pub(crate) fn triple_in<A: FromJson + Drop, B: FromJson + Drop, C: FromJson + Drop>(
     alloc: Global,
     json: &Json,
-) -> Result<(A, B, C), RowFault>
+) -> Result<(A, B, C), RowError>
     ensures finds { (a : A) (b : B) (c : C) → A.Fits a → B.Fits b → C.Fits c
         → view json.now
         ≡ array (item (A.json_of a) (item (B.json_of b) (item (C.json_of c) no_items)))
@@ -598,13 +598,13 @@ pub fn variant_parts(json: &Json) -> Option<(&str, &Json)>
 }
 
 /// Returns the value of a variant without content, if the JSON is a string.
-pub(crate) fn word<T: Drop>(json: &Json, value: T) -> Result<T, RowFault>
+pub(crate) fn word<T: Drop>(json: &Json, value: T) -> Result<T, RowError>
     ensures finds { IsWord (view json.now) → result ≡ Ok value }
     ensures exact { IfOk result (λ found. (found ≡ value) × IsWord (view json.now)) }
 {
     if json.is_string() {
         Ok(value)
     } else {
-        Err(RowFault::NoRow)
+        Err(RowError::NoRow)
     }
 }

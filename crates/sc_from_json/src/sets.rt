@@ -10,7 +10,7 @@ ghost use Rattle.sc_row_text.specs.Sets.{arc_json, nodes_json, pairs_json, FitsP
 ghost use Rattle.sc_row_text.specs.Shapes.{items_json};
 ghost use Rattle.sc_from_json.specs.Reading.{Finds, Shows};
 
-use crate::faults::RowFault;
+use crate::errors::RowError;
 use crate::from_json::{FromJson, Present};
 use crate::lists::items_of;
 use crate::reading::{pair_in, triple_in};
@@ -25,11 +25,11 @@ impl FromJson for RingArc {
     ghost Fits = { FitsArc };
 
     #[tactic(auto, unfolding(sc_row_text::specs::Sets::arc_json))]
-    fn from_json(alloc: Global, json: &Json) -> Result<RingArc, RowFault> {
+    fn from_json(alloc: Global, json: &Json) -> Result<RingArc, RowError> {
         let (lo, len) = pair_in(alloc, json)?;
         match RingArc::try_new(lo, len) {
             Ok(arc) => Ok(arc),
-            Err(_) => Err(RowFault::NoRow),
+            Err(_) => Err(RowError::NoRow),
         }
     }
 }
@@ -67,11 +67,11 @@ impl FromJson for Members {
     ghost Fits = { FitsMembers };
 
     #[tactic(auto, unfolding(sc_row_text::specs::Sets::nodes_json))]
-    fn from_json(alloc: Global, json: &Json) -> Result<Members, RowFault> {
+    fn from_json(alloc: Global, json: &Json) -> Result<Members, RowError> {
         let nodes = items_of::<u16>(alloc, json)?;
         match set_of(nodes.as_slice()) {
             Some(members) => Ok(members),
-            None => Err(RowFault::NoRow),
+            None => Err(RowError::NoRow),
         }
     }
 }
@@ -116,11 +116,11 @@ impl FromJson for Ordered<Key, Value> {
     ghost Fits = { FitsPairs };
 
     #[tactic(auto, unfolding(crate::specs::Json::pairs_json, crate::specs::Json::FitsPairs))]
-    fn from_json(alloc: Global, json: &Json) -> Result<Ordered<Key, Value>, RowFault> {
+    fn from_json(alloc: Global, json: &Json) -> Result<Ordered<Key, Value>, RowError> {
         let entries = items_of::<(Key, Value)>(alloc, json)?;
         match rising(alloc, entries)? {
             Some(list) => Ok(list),
-            None => Err(RowFault::NoRow),
+            None => Err(RowError::NoRow),
         }
     }
 }
@@ -133,7 +133,7 @@ impl Present for Ordered<Key, Value> {
 
 /// Returns the entry of a client table that has this JSON.
 #[tactic(auto, unfolding(crate::specs::Json::client_json, crate::specs::Json::FitsNoted))]
-fn client_from_json(alloc: Global, json: &Json) -> Result<(u16, Noted), RowFault>
+fn client_from_json(alloc: Global, json: &Json) -> Result<(u16, Noted), RowError>
     ensures finds { (entry : ℕ × Noted) → PairFits FitsU16 FitsNoted entry
         → view json.now ≡ client_json entry → Finds entry result }
     ensures exact { IfOk result (λ entry. view json.now ≡ client_json entry) }
@@ -143,7 +143,7 @@ fn client_from_json(alloc: Global, json: &Json) -> Result<(u16, Noted), RowFault
 }
 
 /// Returns the entries of a client table that have these JSONs.
-fn clients_of(alloc: Global, list: &[Json]) -> Result<Vec<(u16, Noted)>, RowFault>
+fn clients_of(alloc: Global, list: &[Json]) -> Result<Vec<(u16, Noted)>, RowError>
     ensures finds { (entries : List (ℕ × Noted)) → Each (PairFits FitsU16 FitsNoted) entries
         → items_view list.now ≡ items_json client_json entries
         → Shows (λ found. found.items) entries result }
@@ -163,14 +163,14 @@ impl FromJson for Ordered<u16, Noted> {
     ghost Fits = { FitsClients };
 
     #[tactic(auto, using(crate::proofs::Arrays::is_array), unfolding(crate::specs::Json::clients_json, crate::specs::Json::FitsClients))]
-    fn from_json(alloc: Global, json: &Json) -> Result<Ordered<u16, Noted>, RowFault> {
+    fn from_json(alloc: Global, json: &Json) -> Result<Ordered<u16, Noted>, RowError> {
         let Some(list) = json.as_array() else {
-            return Err(RowFault::NoRow);
+            return Err(RowError::NoRow);
         };
         let entries = clients_of(alloc, list.as_slice())?;
         match rising(alloc, entries)? {
             Some(list) => Ok(list),
-            None => Err(RowFault::NoRow),
+            None => Err(RowError::NoRow),
         }
     }
 }

@@ -2,7 +2,7 @@
 ghost use Rattle.serde_json.specs.Data.{string};
 ghost use Rattle.sc_row_text.specs.Held.{FitsKey, FitsValue};
 
-use crate::faults::RowFault;
+use crate::errors::RowError;
 use crate::from_json::{FromJson, Present};
 use sc_base::{Key, Value};
 use serde_json::Value as Json;
@@ -14,10 +14,10 @@ impl FromJson for Key {
     ghost Fits = { FitsKey };
 
     #[tactic(auto, using(crate::proofs::TextSteps::is_string))]
-    fn from_json(alloc: Global, json: &Json) -> Result<Key, RowFault> {
+    fn from_json(alloc: Global, json: &Json) -> Result<Key, RowError> {
         match json.as_str() {
             Some(text) => Ok(Key::try_new(alloc, text.as_bytes())?),
-            None => Err(RowFault::NoRow),
+            None => Err(RowError::NoRow),
         }
     }
 }
@@ -28,10 +28,10 @@ impl FromJson for Value {
     ghost Fits = { FitsValue };
 
     #[tactic(auto, using(crate::proofs::TextSteps::is_string))]
-    fn from_json(alloc: Global, json: &Json) -> Result<Value, RowFault> {
+    fn from_json(alloc: Global, json: &Json) -> Result<Value, RowError> {
         match json.as_str() {
             Some(text) => Ok(Value::try_new(alloc, text.as_bytes())?),
-            None => Err(RowFault::NoRow),
+            None => Err(RowError::NoRow),
         }
     }
 }

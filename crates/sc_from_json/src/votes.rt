@@ -12,14 +12,14 @@ ghost use Rattle.sc_row_text.specs.Votes.{heard_json, FitsHeard};
 ghost use Rattle.sc_row_text.specs.Votes.{vote_json, FitsVote};
 ghost use Rattle.sc_row_text.specs.Votes.{past_json, FitsPast};
 
-use crate::faults::RowFault;
+use crate::errors::RowError;
 use crate::from_json::{FromJson, Present};
 use crate::reading::{five_of, pair_of, single_of, variant_parts, whole, word};
 use sc_cmd::{Frozen, Heard, No, Past, Vote};
 use serde_json::Value as Json;
 use std::alloc::Global;
 
-fn no_busy(alloc: Global, content: &Json) -> Result<No, RowFault>
+fn no_busy(alloc: Global, content: &Json) -> Result<No, RowError>
     ensures finds { (tx : _) → FitsNo (No.Busy tx)
         → variant_json (codes "Busy") (view content.now) ≡ no_json (No.Busy tx)
         → Finds (No.Busy tx) result }
@@ -30,7 +30,7 @@ fn no_busy(alloc: Global, content: &Json) -> Result<No, RowFault>
     Ok(No::Busy { tx })
 }
 
-fn no_too_many(alloc: Global, content: &Json) -> Result<No, RowFault>
+fn no_too_many(alloc: Global, content: &Json) -> Result<No, RowError>
     ensures finds { (n : _) → FitsNo (No.TooMany n)
         → variant_json (codes "TooMany") (view content.now) ≡ no_json (No.TooMany n)
         → Finds (No.TooMany n) result }
@@ -46,16 +46,16 @@ impl FromJson for No {
 
     ghost Fits = { FitsNo };
 
-    fn from_json(alloc: Global, json: &Json) -> Result<No, RowFault> {
+    fn from_json(alloc: Global, json: &Json) -> Result<No, RowError> {
         let Some((name, content)) = variant_parts(json) else {
-            return Err(RowFault::NoRow);
+            return Err(RowError::NoRow);
         };
         match name {
             "Busy" => no_busy(alloc, content),
             "Gone" => word(json, No::Gone),
             "Apart" => word(json, No::Apart),
             "TooMany" => no_too_many(alloc, content),
-            _ => Err(RowFault::NoRow),
+            _ => Err(RowError::NoRow),
         }
     }
 }
@@ -65,7 +65,7 @@ impl FromJson for Frozen {
 
     ghost Fits = { FitsFrozen };
 
-    fn from_json(alloc: Global, json: &Json) -> Result<Frozen, RowFault> {
+    fn from_json(alloc: Global, json: &Json) -> Result<Frozen, RowError> {
         let (arc, clients, members, pairs, succ) = five_of(
             alloc, json, "arc", "clients", "members", "pairs", "succ",
         )?;
@@ -84,13 +84,13 @@ impl FromJson for Heard {
 
     ghost Fits = { FitsHeard };
 
-    fn from_json(alloc: Global, json: &Json) -> Result<Heard, RowFault> {
+    fn from_json(alloc: Global, json: &Json) -> Result<Heard, RowError> {
         let (by, frozen) = pair_of(alloc, json, "by", "frozen")?;
         Ok(Heard { frozen, by })
     }
 }
 
-fn vote_yes(alloc: Global, content: &Json) -> Result<Vote, RowFault>
+fn vote_yes(alloc: Global, content: &Json) -> Result<Vote, RowError>
     ensures finds { (inner : _) → FitsVote (Vote.Yes inner)
         → variant_json (codes "Yes") (view content.now) ≡ vote_json (Vote.Yes inner)
         → Finds (Vote.Yes inner) result }
@@ -101,7 +101,7 @@ fn vote_yes(alloc: Global, content: &Json) -> Result<Vote, RowFault>
     Ok(Vote::Yes(inner))
 }
 
-fn vote_no(alloc: Global, content: &Json) -> Result<Vote, RowFault>
+fn vote_no(alloc: Global, content: &Json) -> Result<Vote, RowError>
     ensures finds { (inner : _) → FitsVote (Vote.No inner)
         → variant_json (codes "No") (view content.now) ≡ vote_json (Vote.No inner)
         → Finds (Vote.No inner) result }
@@ -117,19 +117,19 @@ impl FromJson for Vote {
 
     ghost Fits = { FitsVote };
 
-    fn from_json(alloc: Global, json: &Json) -> Result<Vote, RowFault> {
+    fn from_json(alloc: Global, json: &Json) -> Result<Vote, RowError> {
         let Some((name, content)) = variant_parts(json) else {
-            return Err(RowFault::NoRow);
+            return Err(RowError::NoRow);
         };
         match name {
             "Yes" => vote_yes(alloc, content),
             "No" => vote_no(alloc, content),
-            _ => Err(RowFault::NoRow),
+            _ => Err(RowError::NoRow),
         }
     }
 }
 
-fn past_no(alloc: Global, content: &Json) -> Result<Past, RowFault>
+fn past_no(alloc: Global, content: &Json) -> Result<Past, RowError>
     ensures finds { (inner : _) → FitsPast (Past.No inner)
         → variant_json (codes "No") (view content.now) ≡ past_json (Past.No inner)
         → Finds (Past.No inner) result }
@@ -145,15 +145,15 @@ impl FromJson for Past {
 
     ghost Fits = { FitsPast };
 
-    fn from_json(alloc: Global, json: &Json) -> Result<Past, RowFault> {
+    fn from_json(alloc: Global, json: &Json) -> Result<Past, RowError> {
         let Some((name, content)) = variant_parts(json) else {
-            return Err(RowFault::NoRow);
+            return Err(RowError::NoRow);
         };
         match name {
             "Yes" => word(json, Past::Yes),
             "No" => past_no(alloc, content),
             "Ended" => word(json, Past::Ended),
-            _ => Err(RowFault::NoRow),
+            _ => Err(RowError::NoRow),
         }
     }
 }

@@ -8,8 +8,8 @@ use Rattle.serde_json.specs.Read.{read}
 use Rattle.sc_actor.specs.declared.rows.Row.{Row}
 use Rattle.sc_cmd.specs.declared.orders.OrderLine.{OrderLine}
 use Rattle.sc_mail.specs.declared.bodies.Mail.{Mail}
-use Rattle.sc_from_json.specs.declared.faults.RowFault.{RowFault}
-use Rattle.sc_from_json.specs.declared.faults.RowFault.TheVariants.{NoRow, OutOfMemory}
+use Rattle.sc_from_json.specs.declared.errors.RowError.{RowError}
+use Rattle.sc_from_json.specs.declared.errors.RowError.TheVariants.{NoRow, OutOfMemory}
 use Rattle.sc_row_text.specs.Rows.{row_json, FitsRow}
 use Rattle.sc_row_text.specs.RowText.{text_of, IsHeld}
 
@@ -23,7 +23,7 @@ pub found : (text : List ℕ) (json : Data) (row : Row Mail OrderLine) → ((one
 found text json row back is held same = same_Some json (row_json row) (sym is ∙ (ap read (sym same) ∙ back row held))
 
 -- what is out of memory fails for no other reason
-pub short : {T : Type 0} (result : Result T RowFault) (why : RowFault) → IsErr result × IsErrAnd result (λ e. e ≡ why) → why ≡ OutOfMemory → result ≡ Err NoRow → ⊥
+pub short : {T : Type 0} (result : Result T RowError) (why : RowError) → IsErr result × IsErrAnd result (λ e. e ≡ why) → why ≡ OutOfMemory → result ≡ Err NoRow → ⊥
 short result why is memory none = let clash : NoRow ≡ OutOfMemory = subst (λ r. IsErrAnd r (λ e. e ≡ why)) none is.1 ∙ memory in cc
 
 -- texts that differ are not the same

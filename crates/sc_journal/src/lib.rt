@@ -6,5 +6,5 @@ mod mails;
 mod rows;
 mod texts;
 
-pub use sc_from_json::RowFault;
+pub use sc_from_json::RowError;
 pub use texts::{read_row, row_text};

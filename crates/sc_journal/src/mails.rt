@@ -9,12 +9,12 @@ ghost use Rattle.sc_row_text.specs.Mails.{mail_body_json, FitsMailBody, mail_jso
 ghost use Rattle.sc_from_json.specs.Reading.{Finds, Shows};
 
 use sc_base::Sequence;
-use sc_from_json::{FromJson, RowFault, four_of, pair_of, triple_of, variant_parts};
+use sc_from_json::{FromJson, RowError, four_of, pair_of, triple_of, variant_parts};
 use sc_mail::{Mail, MailBody};
 use serde_json::Value as Json;
 use std::alloc::Global;
 
-fn mail_body_request(alloc: Global, content: &Json) -> Result<MailBody, RowFault>
+fn mail_body_request(alloc: Global, content: &Json) -> Result<MailBody, RowError>
     ensures finds { (group : _) (client : _) (seq : _) (op : _)
         → FitsMailBody (MailBody.Request group client seq op)
         → variant_json (codes "Request") (view content.now)
@@ -32,7 +32,7 @@ fn mail_body_request(alloc: Global, content: &Json) -> Result<MailBody, RowFault
     })
 }
 
-fn mail_body_answer(alloc: Global, content: &Json) -> Result<MailBody, RowFault>
+fn mail_body_answer(alloc: Global, content: &Json) -> Result<MailBody, RowError>
     ensures finds { (group : _) (seq : _) (answer : _) → FitsMailBody (MailBody.Answer group seq answer)
         → variant_json (codes "Answer") (view content.now)
         ≡ mail_body_json (MailBody.Answer group seq answer)
@@ -44,7 +44,7 @@ fn mail_body_answer(alloc: Global, content: &Json) -> Result<MailBody, RowFault>
     Ok(MailBody::Answer { group, seq, answer })
 }
 
-fn mail_body_prepare(alloc: Global, content: &Json) -> Result<MailBody, RowFault>
+fn mail_body_prepare(alloc: Global, content: &Json) -> Result<MailBody, RowError>
     ensures finds { (group : _) (ballot : _) (from_slot : _)
         → FitsMailBody (MailBody.Prepare group ballot from_slot)
         → variant_json (codes "Prepare") (view content.now)
@@ -61,7 +61,7 @@ fn mail_body_prepare(alloc: Global, content: &Json) -> Result<MailBody, RowFault
     })
 }
 
-fn mail_body_promise(alloc: Global, content: &Json) -> Result<MailBody, RowFault>
+fn mail_body_promise(alloc: Global, content: &Json) -> Result<MailBody, RowError>
     ensures finds { (group : _) (ballot : _) (reports : _)
         → FitsMailBody (MailBody.Promise group ballot reports)
         → variant_json (codes "Promise") (view content.now)
@@ -78,7 +78,7 @@ fn mail_body_promise(alloc: Global, content: &Json) -> Result<MailBody, RowFault
     })
 }
 
-fn mail_body_accept(alloc: Global, content: &Json) -> Result<MailBody, RowFault>
+fn mail_body_accept(alloc: Global, content: &Json) -> Result<MailBody, RowError>
     ensures finds { (group : _) (ballot : _) (slot : _) (command : _)
         → FitsMailBody (MailBody.Accept group ballot slot command)
         → variant_json (codes "Accept") (view content.now)
@@ -98,7 +98,7 @@ fn mail_body_accept(alloc: Global, content: &Json) -> Result<MailBody, RowFault>
     })
 }
 
-fn mail_body_accepted(alloc: Global, content: &Json) -> Result<MailBody, RowFault>
+fn mail_body_accepted(alloc: Global, content: &Json) -> Result<MailBody, RowError>
     ensures finds { (group : _) (ballot : _) (slot : _)
         → FitsMailBody (MailBody.Accepted group ballot slot)
         → variant_json (codes "Accepted") (view content.now)
@@ -115,7 +115,7 @@ fn mail_body_accepted(alloc: Global, content: &Json) -> Result<MailBody, RowFaul
     })
 }
 
-fn mail_body_nack(alloc: Global, content: &Json) -> Result<MailBody, RowFault>
+fn mail_body_nack(alloc: Global, content: &Json) -> Result<MailBody, RowError>
     ensures finds { (group : _) (promised : _) → FitsMailBody (MailBody.Nack group promised)
         → variant_json (codes "Nack") (view content.now)
         ≡ mail_body_json (MailBody.Nack group promised)
@@ -127,7 +127,7 @@ fn mail_body_nack(alloc: Global, content: &Json) -> Result<MailBody, RowFault>
     Ok(MailBody::Nack { group, promised })
 }
 
-fn mail_body_learn(alloc: Global, content: &Json) -> Result<MailBody, RowFault>
+fn mail_body_learn(alloc: Global, content: &Json) -> Result<MailBody, RowError>
     ensures finds { (group : _) (slot : _) (command : _)
         → FitsMailBody (MailBody.Learn group slot command)
         → variant_json (codes "Learn") (view content.now)
@@ -144,7 +144,7 @@ fn mail_body_learn(alloc: Global, content: &Json) -> Result<MailBody, RowFault>
     })
 }
 
-fn mail_body_ask(alloc: Global, content: &Json) -> Result<MailBody, RowFault>
+fn mail_body_ask(alloc: Global, content: &Json) -> Result<MailBody, RowError>
     ensures finds { (group : _) (from_slot : _) → FitsMailBody (MailBody.Ask group from_slot)
         → variant_json (codes "Ask") (view content.now)
         ≡ mail_body_json (MailBody.Ask group from_slot)
@@ -156,7 +156,7 @@ fn mail_body_ask(alloc: Global, content: &Json) -> Result<MailBody, RowFault>
     Ok(MailBody::Ask { group, from_slot })
 }
 
-fn mail_body_install(alloc: Global, content: &Json) -> Result<MailBody, RowFault>
+fn mail_body_install(alloc: Global, content: &Json) -> Result<MailBody, RowError>
     ensures finds { (group : _) (slot : _) (base : _) (sets : _)
         → FitsMailBody (MailBody.Install group slot base sets)
         → variant_json (codes "Install") (view content.now)
@@ -174,7 +174,7 @@ fn mail_body_install(alloc: Global, content: &Json) -> Result<MailBody, RowFault
     })
 }
 
-fn mail_body_tx_prepare(alloc: Global, content: &Json) -> Result<MailBody, RowFault>
+fn mail_body_tx_prepare(alloc: Global, content: &Json) -> Result<MailBody, RowError>
     ensures finds { (tx : _) (offer : _) → FitsMailBody (MailBody.TxPrepare tx offer)
         → variant_json (codes "TxPrepare") (view content.now)
         ≡ mail_body_json (MailBody.TxPrepare tx offer)
@@ -186,7 +186,7 @@ fn mail_body_tx_prepare(alloc: Global, content: &Json) -> Result<MailBody, RowFa
     Ok(MailBody::TxPrepare { tx, offer })
 }
 
-fn mail_body_tx_vote(alloc: Global, content: &Json) -> Result<MailBody, RowFault>
+fn mail_body_tx_vote(alloc: Global, content: &Json) -> Result<MailBody, RowError>
     ensures finds { (tx : _) (coord : _) (part : _) (vote : _)
         → FitsMailBody (MailBody.TxVote tx coord part vote)
         → variant_json (codes "TxVote") (view content.now)
@@ -204,7 +204,7 @@ fn mail_body_tx_vote(alloc: Global, content: &Json) -> Result<MailBody, RowFault
     })
 }
 
-fn mail_body_tx_outcome(alloc: Global, content: &Json) -> Result<MailBody, RowFault>
+fn mail_body_tx_outcome(alloc: Global, content: &Json) -> Result<MailBody, RowError>
     ensures finds { (tx : _) (part : _) (outcome : _) → FitsMailBody (MailBody.TxOutcome tx part outcome)
         → variant_json (codes "TxOutcome") (view content.now)
         ≡ mail_body_json (MailBody.TxOutcome tx part outcome)
@@ -216,7 +216,7 @@ fn mail_body_tx_outcome(alloc: Global, content: &Json) -> Result<MailBody, RowFa
     Ok(MailBody::TxOutcome { tx, part, outcome })
 }
 
-fn mail_body_tx_elsewhere(alloc: Global, content: &Json) -> Result<MailBody, RowFault>
+fn mail_body_tx_elsewhere(alloc: Global, content: &Json) -> Result<MailBody, RowError>
     ensures finds { (tx : _) (coord : _) (hint : _) → FitsMailBody (MailBody.TxElsewhere tx coord hint)
         → variant_json (codes "TxElsewhere") (view content.now)
         ≡ mail_body_json (MailBody.TxElsewhere tx coord hint)
@@ -228,7 +228,7 @@ fn mail_body_tx_elsewhere(alloc: Global, content: &Json) -> Result<MailBody, Row
     Ok(MailBody::TxElsewhere { tx, coord, hint })
 }
 
-fn mail_body_tx_watch(alloc: Global, content: &Json) -> Result<MailBody, RowFault>
+fn mail_body_tx_watch(alloc: Global, content: &Json) -> Result<MailBody, RowError>
     ensures finds { (tx : _) (watch : _) → FitsMailBody (MailBody.TxWatch tx watch)
         → variant_json (codes "TxWatch") (view content.now)
         ≡ mail_body_json (MailBody.TxWatch tx watch)
@@ -240,7 +240,7 @@ fn mail_body_tx_watch(alloc: Global, content: &Json) -> Result<MailBody, RowFaul
     Ok(MailBody::TxWatch { tx, watch })
 }
 
-fn mail_body_tx_watched(alloc: Global, content: &Json) -> Result<MailBody, RowFault>
+fn mail_body_tx_watched(alloc: Global, content: &Json) -> Result<MailBody, RowError>
     ensures finds { (tx : _) (coord : _) (part : _) (vote : _)
         → FitsMailBody (MailBody.TxWatched tx coord part vote)
         → variant_json (codes "TxWatched") (view content.now)
@@ -258,7 +258,7 @@ fn mail_body_tx_watched(alloc: Global, content: &Json) -> Result<MailBody, RowFa
     })
 }
 
-fn mail_body_told(alloc: Global, content: &Json) -> Result<MailBody, RowFault>
+fn mail_body_told(alloc: Global, content: &Json) -> Result<MailBody, RowError>
     ensures finds { (order : _) (outcome : _) → FitsMailBody (MailBody.Told order outcome)
         → variant_json (codes "Told") (view content.now)
         ≡ mail_body_json (MailBody.Told order outcome)
@@ -271,13 +271,13 @@ fn mail_body_told(alloc: Global, content: &Json) -> Result<MailBody, RowFault>
 }
 
 /// Returns the body of a mail that has this JSON.
-fn mail_body_from_json(alloc: Global, json: &Json) -> Result<MailBody, RowFault>
+fn mail_body_from_json(alloc: Global, json: &Json) -> Result<MailBody, RowError>
     ensures finds { (body : MailBody) → FitsMailBody body → view json.now ≡ mail_body_json body
         → Finds body result }
     ensures exact { IfOk result (λ body. view json.now ≡ mail_body_json body) }
 {
     let Some((name, content)) = variant_parts(json) else {
-        return Err(RowFault::NoRow);
+        return Err(RowError::NoRow);
     };
     match name {
         "Request" => mail_body_request(alloc, content),
@@ -297,7 +297,7 @@ fn mail_body_from_json(alloc: Global, json: &Json) -> Result<MailBody, RowFault>
         "TxWatch" => mail_body_tx_watch(alloc, content),
         "TxWatched" => mail_body_tx_watched(alloc, content),
         "Told" => mail_body_told(alloc, content),
-        _ => Err(RowFault::NoRow),
+        _ => Err(RowError::NoRow),
     }
 }
 
@@ -312,14 +312,14 @@ impl FromJson for Said {
 
     ghost Fits = { λ said. FitsMailBody said.body };
 
-    fn from_json(alloc: Global, json: &Json) -> Result<Said, RowFault> {
+    fn from_json(alloc: Global, json: &Json) -> Result<Said, RowError> {
         let body = mail_body_from_json(alloc, json)?;
         Ok(Said { body })
     }
 }
 
 /// Returns the mail that has this JSON.
-fn mail_from_json(alloc: Global, json: &Json) -> Result<Mail, RowFault>
+fn mail_from_json(alloc: Global, json: &Json) -> Result<Mail, RowError>
     ensures finds { (mail : Mail) → FitsMail mail → view json.now ≡ mail_json mail
         → Finds mail result }
     ensures exact { IfOk result (λ mail. view json.now ≡ mail_json mail) }
@@ -333,7 +333,7 @@ fn mail_from_json(alloc: Global, json: &Json) -> Result<Mail, RowFault>
 }
 
 /// Returns the mails that have these JSONs.
-fn mails_of(alloc: Global, list: &[Json]) -> Result<Vec<Mail>, RowFault>
+fn mails_of(alloc: Global, list: &[Json]) -> Result<Vec<Mail>, RowError>
     ensures finds { (mails : List Mail) → Each FitsMail mails
         → items_view list.now ≡ items_json mail_json mails
         → Shows (λ found. found.items) mails result }
@@ -349,7 +349,7 @@ fn mails_of(alloc: Global, list: &[Json]) -> Result<Vec<Mail>, RowFault>
 
 /// Returns the mails of which the JSON is an array.
 #[tactic(auto, using(sc_from_json::proofs::Arrays::is_array))]
-pub(crate) fn mails_from_json(alloc: Global, json: &Json) -> Result<Sequence<Mail>, RowFault>
+pub(crate) fn mails_from_json(alloc: Global, json: &Json) -> Result<Sequence<Mail>, RowError>
     ensures finds { (mails : List Mail) → Each FitsMail mails
         → view json.now ≡ list_json mail_json mails → Finds mails result }
     ensures exact { IfOk result (λ mails. view json.now ≡ list_json mail_json mails) }
@@ -359,6 +359,6 @@ pub(crate) fn mails_from_json(alloc: Global, json: &Json) -> Result<Sequence<Mai
             let mails = mails_of(alloc, list.as_slice())?;
             Ok(Sequence::from_vec(mails))
         }
-        None => Err(RowFault::NoRow),
+        None => Err(RowError::NoRow),
     }
 }

@@ -14,7 +14,7 @@ use crate::mails::mails_from_json;
 use sc_actor::Row;
 use sc_base::Sequence;
 use sc_cmd::OrderLine;
-use sc_from_json::{FromJson, RowFault, triple_of};
+use sc_from_json::{FromJson, RowError, triple_of};
 use sc_mail::Mail;
 use serde_json::Value as Json;
 use std::alloc::Global;
@@ -30,14 +30,14 @@ impl FromJson for Sent {
 
     ghost Fits = { λ sent. Each FitsMail sent.mails };
 
-    fn from_json(alloc: Global, json: &Json) -> Result<Sent, RowFault> {
+    fn from_json(alloc: Global, json: &Json) -> Result<Sent, RowError> {
         let mails = mails_from_json(alloc, json)?;
         Ok(Sent { mails })
     }
 }
 
 /// Returns the row that has this JSON.
-pub(crate) fn row_from_json(alloc: Global, json: &Json) -> Result<Row<Mail, OrderLine>, RowFault>
+pub(crate) fn row_from_json(alloc: Global, json: &Json) -> Result<Row<Mail, OrderLine>, RowError>
     ensures finds { (row : Row Mail OrderLine) → FitsRow row → view json.now ≡ row_json row
         → Finds row result }
     ensures exact { IfOk result (λ row. view json.now ≡ row_json row) }

@@ -7,13 +7,13 @@ ghost use Rattle.serde_json.specs.Read.{read};
 ghost use Rattle.serde_json.specs.View.{view};
 ghost use Rattle.std.specs.Prelude.{Some, None, IsUtf8, MatchResult};
 ghost use Rattle.sc_row_text.specs.RowText.{text_of, IsHeld};
-ghost use Rattle.sc_from_json.specs.declared.faults.RowFault.TheVariants as why;
+ghost use Rattle.sc_from_json.specs.declared.errors.RowError.TheVariants as why;
 
 use crate::rows::row_from_json;
 use sc_actor::Row;
 use sc_base::OutOfMemory;
 use sc_cmd::OrderLine;
-use sc_from_json::RowFault;
+use sc_from_json::RowError;
 use sc_mail::Mail;
 use sc_row_lines::common_row;
 use sc_row_text::row_texts_read_back;
@@ -34,29 +34,29 @@ pub fn row_text(alloc: Global, row: &Row<Mail, OrderLine>) -> Result<Vec<u8>, Ou
 }
 
 // Returns the JSON that a text is.
-fn json_of(alloc: Global, text: &[u8]) -> Result<Json, RowFault>
+fn json_of(alloc: Global, text: &[u8]) -> Result<Json, RowError>
     ensures { MatchResult result (λ json. read text.now ≡ Some (view json))
-        (λ fault. fault ≡ RowFault.NoRow → IsUtf8 text.now → read text.now ≡ None) }
+        (λ error. error ≡ RowError.NoRow → IsUtf8 text.now → read text.now ≡ None) }
 {
     match Json::from_slice(alloc, text) {
         Ok(json) => Ok(json),
         Err(error) => {
             if error.is_memory() {
-                Err(RowFault::OutOfMemory)
+                Err(RowError::OutOfMemory)
             } else {
-                Err(RowFault::NoRow)
+                Err(RowError::NoRow)
             }
         }
     }
 }
 
 // Returns the row with this text, by way of its JSON.
-fn row_by_json(alloc: Global, text: &[u8]) -> Result<Row<Mail, OrderLine>, RowFault>
+fn row_by_json(alloc: Global, text: &[u8]) -> Result<Row<Mail, OrderLine>, RowError>
     ensures text { IfOk result (λ row. text_of row ≡ text.now) }
     ensures held { IfOk result (λ row. IsHeld row) }
     ensures only { IfOk result (λ row. (other : Row Mail OrderLine) → IsHeld other
         → text_of other ≡ text.now → other ≡ row) }
-    ensures none { result ≡ Err RowFault.NoRow
+    ensures none { result ≡ Err RowError.NoRow
         → (row : Row Mail OrderLine) → IsHeld row → text_of row ≡ text.now → ⊥ }
 {
     row_texts_read_back();
@@ -65,7 +65,7 @@ fn row_by_json(alloc: Global, text: &[u8]) -> Result<Row<Mail, OrderLine>, RowFa
     if row_text(alloc, &row)?.as_slice() == text {
         Ok(row)
     } else {
-        Err(RowFault::NoRow)
+        Err(RowError::NoRow)
     }
 }
 
@@ -73,12 +73,12 @@ fn row_by_json(alloc: Global, text: &[u8]) -> Result<Row<Mail, OrderLine>, RowFa
 /// as one with a space, is no row's text. `Err(OutOfMemory)`: memory ran out.
 ///
 /// Rows of common shapes are read at once; JSON is read and written only for the others.
-pub fn read_row(alloc: Global, text: &[u8]) -> Result<Row<Mail, OrderLine>, RowFault>
+pub fn read_row(alloc: Global, text: &[u8]) -> Result<Row<Mail, OrderLine>, RowError>
     ensures text { IfOk result (λ row. text_of row ≡ text.now) }
     ensures held { IfOk result (λ row. IsHeld row) }
     ensures only { IfOk result (λ row. (other : Row Mail OrderLine) → IsHeld other
         → text_of other ≡ text.now → other ≡ row) }
-    ensures none { result ≡ Err RowFault.NoRow
+    ensures none { result ≡ Err RowError.NoRow
         → (row : Row Mail OrderLine) → IsHeld row → text_of row ≡ text.now → ⊥ }
 {
     match common_row(alloc, text) {

@@ -8,7 +8,7 @@ use Rattle.sc_cmd.specs.declared.orders.OrderLine.{OrderLine}
 use Rattle.sc_mail.specs.declared.bodies.Mail.{Mail}
 use Rattle.sc_scenario.specs.declared.scenarios.Scenario.{Scenario}
 use Rattle.sc_journal_file.specs.Stored.{most_file_bytes, IsFile, IsTooLarge, IsBadFile}
-use Rattle.sc_journal_file.specs.Laws.{first_bytes, FirstBytesDecideFiles, FirstBytesDecideFaults}
+use Rattle.sc_journal_file.specs.Laws.{first_bytes, FirstBytesDecideFiles, FirstBytesDecideErrors}
 use Rattle.sc_lines.specs.declared.reasons.Reason.{Reason}
 
 -- both ways, where two lists are one
@@ -54,5 +54,5 @@ pub files_decided : FirstBytesDecideFiles
 files_decided input scenario rows = files_by input scenario rows (cases_lt (most_file_bytes + 1) (length input))
 
 -- one byte more than the most is enough to know an error
-pub faults_decided : FirstBytesDecideFaults
-faults_decided input line why = bad_by input line why (cases_lt (most_file_bytes + 1) (length input))
+pub errors_decided : FirstBytesDecideErrors
+errors_decided input line why = bad_by input line why (cases_lt (most_file_bytes + 1) (length input))

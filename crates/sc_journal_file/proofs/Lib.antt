@@ -1,5 +1,5 @@
 mod FirstBytes
-mod Fronts
+mod Dividers
 mod NoDivider
 mod OneFile
 mod Plain

@@ -20,8 +20,8 @@ use Rattle.sc_scenario.specs.Places.{is_in_place}
 use Rattle.sc_scenario.specs.Taking.{taken_outside, taken_within}
 use Rattle.sc_scenario.specs.declared.drafts.Reading.{Reading}
 use Rattle.sc_scenario.specs.declared.drafts.Reading.TheVariants.{Fresh, Outside, Within}
-use Rattle.sc_scenario.specs.declared.reading.ScenarioFault.{ScenarioFault}
-use Rattle.sc_scenario.specs.declared.reading.ScenarioFault.TheVariants.{Bad}
+use Rattle.sc_scenario.specs.declared.reading.ScenarioError.{ScenarioError}
+use Rattle.sc_scenario.specs.declared.reading.ScenarioError.TheVariants.{Bad}
 use Rattle.sc_scenario.specs.declared.scenarios.Scenario.{Scenario}
 use Rattle.sc_scenario.proofs.Texts.{going_ok}
 use Rattle.sc_scenario.proofs.Verdicts.{verdict_all}
@@ -64,12 +64,12 @@ line_other reading more line e =
 
 -- ---- all lines
 
-no_scenario : (fault : ScenarioFault) (scenario : Scenario) (r : Result Scenario ScenarioFault) → r ≡ Err fault → r ≡ Ok scenario → ⊥
-no_scenario fault scenario r e f = cc
+no_scenario : (error : ScenarioError) (scenario : Scenario) (r : Result Scenario ScenarioError) → r ≡ Err error → r ≡ Ok scenario → ⊥
+no_scenario error scenario r e f = cc
 
-passed : (b : Bool) (fault : ScenarioFault) (r : Result Scenario ScenarioFault) (scenario : Scenario) → (if b then Err fault else r) ≡ Ok scenario → r ≡ Ok scenario
-passed true fault r scenario e = absurd (no_scenario fault scenario (Err fault) refl e)
-passed false fault r scenario e = e
+passed : (b : Bool) (error : ScenarioError) (r : Result Scenario ScenarioError) (scenario : Scenario) → (if b then Err error else r) ≡ Ok scenario → r ≡ Ok scenario
+passed true error r scenario e = absurd (no_scenario error scenario (Err error) refl e)
+passed false error r scenario e = e
 
 -- what a line and those behind it gave
 pub first_read : (is_long : Bool) (number : ℕ) (reading : Reading) (line : List ℕ) (lines : List (List ℕ)) (scenario : Scenario) → lines_read is_long number reading (line ∷ lines) ≡ Ok scenario

@@ -10,16 +10,16 @@ use Rattle.sc_cmd.specs.declared.orders.OrderLine.{OrderLine}
 use Rattle.sc_mail.specs.declared.bodies.Mail.{Mail}
 use Rattle.sc_scenario.specs.Grammar.{verdict_of}
 use Rattle.sc_scenario.specs.Valid.{IsValid}
-use Rattle.sc_scenario.specs.declared.reading.ScenarioFault.{ScenarioFault}
-use Rattle.sc_scenario.specs.declared.reading.ScenarioFault.TheVariants.{Bad, OutOfMemory}
+use Rattle.sc_scenario.specs.declared.reading.ScenarioError.{ScenarioError}
+use Rattle.sc_scenario.specs.declared.reading.ScenarioError.TheVariants.{Bad, OutOfMemory}
 use Rattle.sc_scenario.specs.declared.scenarios.Scenario.{Scenario}
 use Rattle.sc_journal_file.specs.Files.{scenario_text, rows_text, IsCut}
-use Rattle.sc_journal_file.specs.Stored.{most_file_bytes, rows_whole, IsFile, IsFileFault, IsRowFault, AreRows}
+use Rattle.sc_journal_file.specs.Stored.{most_file_bytes, rows_whole, IsFile, IsFileError, IsRowError, AreRows}
 use Rattle.sc_journal_file.specs.Laws.{IsFileOfOne}
 use Rattle.sc_journal_file.proofs.Rows.{AreLines, AreLong, few_rows, few_mails, same_rows}
 
 -- a verdict that a text is a scenario
-abbrev pub ok : Scenario → Result Scenario ScenarioFault
+abbrev pub ok : Scenario → Result Scenario ScenarioError
 ok scenario = Ok scenario
 
 -- equal values
@@ -34,11 +34,11 @@ pub record AreOneCut (text text' : List ℕ) (lines lines' : ℕ) (behind behind
 
 pub same_cut : (file text text' : List ℕ) (lines lines' : ℕ) (behind behind' : List ℕ) → IsCut file text lines behind → IsCut file text' lines' behind' → AreOneCut text text' lines lines' behind behind'
 same_cut file text text' lines lines' behind behind' c d =
-    let front : (c.0, lines) ≡ (d.0, lines') = same_Some (c.0, lines) (d.0, lines') (sym c.1 ∙ d.1) in
-    let bytes : c.0 ≡ d.0 = ap (λ (p : ℕ × ℕ). p.0) front in
+    let prefix : (c.0, lines) ≡ (d.0, lines') = same_Some (c.0, lines) (d.0, lines') (sym c.1 ∙ d.1) in
+    let bytes : c.0 ≡ d.0 = ap (λ (p : ℕ × ℕ). p.0) prefix in
     record {
       texts = c.2 ∙ ap (λ n. scenario_text (take n file)) bytes ∙ sym d.2;
-      counts = ap (λ (p : ℕ × ℕ). p.1) front;
+      counts = ap (λ (p : ℕ × ℕ). p.1) prefix;
       ends = c.3 ∙ ap (λ n. rows_text n file) bytes ∙ sym d.3;
     }
 
@@ -71,17 +71,17 @@ mails_few long file scenario rows is = omega (arith, behind_within file scenario
 -- ---- errors
 
 -- an error of the scenario is one of the file
-pub scenario_fault : (file text : List ℕ) (lines : ℕ) (behind : List ℕ) (fault : ScenarioFault) → length file ≤ most_file_bytes → IsCut file text lines behind
-    → (fault ≡ OutOfMemory) ⊎ (verdict_of text ≡ Err fault) → IsFileFault file fault
-scenario_fault file text lines behind OutOfMemory within cut h = tt
-scenario_fault file text lines behind (Bad line why) within cut (inl e) = cc
-scenario_fault file text lines behind (Bad line why) within cut (inr e) = inr (inr (inl (record { within = within; text = text; lines = lines; behind = behind; cut = cut; read = e })))
+pub scenario_error : (file text : List ℕ) (lines : ℕ) (behind : List ℕ) (error : ScenarioError) → length file ≤ most_file_bytes → IsCut file text lines behind
+    → (error ≡ OutOfMemory) ⊎ (verdict_of text ≡ Err error) → IsFileError file error
+scenario_error file text lines behind OutOfMemory within cut h = tt
+scenario_error file text lines behind (Bad line why) within cut (inl e) = cc
+scenario_error file text lines behind (Bad line why) within cut (inr e) = inr (inr (inl (record { within = within; text = text; lines = lines; behind = behind; cut = cut; read = e })))
 
 -- so is a bad row behind a scenario
-pub row_fault : (file text : List ℕ) (lines : ℕ) (behind : List ℕ) (scenario : Scenario) (fault : ScenarioFault) → length file ≤ most_file_bytes → IsCut file text lines behind
-    → verdict_of text ≡ Ok scenario → IsRowFault behind (lines + 2) fault → IsFileFault file fault
-row_fault file text lines behind scenario OutOfMemory within cut read h = tt
-row_fault file text lines behind scenario (Bad line why) within cut read h =
+pub row_error : (file text : List ℕ) (lines : ℕ) (behind : List ℕ) (scenario : Scenario) (error : ScenarioError) → length file ≤ most_file_bytes → IsCut file text lines behind
+    → verdict_of text ≡ Ok scenario → IsRowError behind (lines + 2) error → IsFileError file error
+row_error file text lines behind scenario OutOfMemory within cut read h = tt
+row_error file text lines behind scenario (Bad line why) within cut read h =
     inr (inr (inr (record { within = within; text = text; lines = lines; behind = behind; cut = cut; scenario = scenario; read = read; count = h.0; bad = h.1; line_is = h.2; why_is = h.3 })))
 
 -- ---- a file

@@ -6,7 +6,7 @@ use Rattle.std.proofs.lemmas.List.{take_at, drop_at, drop_more, take-append-drop
 use Rattle.std.proofs.lemmas.List.Quantifiers.{position-Some}
 use Rattle.std.proofs.lemmas.Option.{same_Some}
 use Rattle.sc_journal_file.specs.Files.{fed}
-use Rattle.sc_journal_file.proofs.Fronts.{is_feed}
+use Rattle.sc_journal_file.proofs.Dividers.{is_feed}
 
 -- whether a text has no line feed
 abbrev pub is_plain : List ℕ → Bool

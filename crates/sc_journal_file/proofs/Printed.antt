@@ -17,10 +17,10 @@ use Rattle.sc_scenario.specs.declared.drafts.Reading.TheVariants.{Fresh}
 use Rattle.sc_scenario.specs.declared.scenarios.Scenario.{Scenario}
 use Rattle.sc_paxos_words.proofs.ListLemmas.{Each-append}
 use Rattle.sc_scenario.proofs.Verdicts.{verdict_all}
-use Rattle.sc_journal_file.specs.Files.{divider, fed, whole, lines_before, front_of, has_empty_end, scenario_text, IsCut}
+use Rattle.sc_journal_file.specs.Files.{divider, fed, whole, lines_before, divider_at, has_empty_end, scenario_text, IsCut}
 use Rattle.sc_journal_file.specs.Stored.{rows_whole}
 use Rattle.sc_journal_file.specs.Laws.{PrintedFilesAreFiles}
-use Rattle.sc_journal_file.proofs.Fronts.{measure}
+use Rattle.sc_journal_file.proofs.Dividers.{measure}
 use Rattle.sc_journal_file.proofs.Plain.{length_fed}
 use Rattle.sc_journal_file.proofs.Rows.{AreLines}
 use Rattle.sc_journal_file.proofs.NoDivider.{IsOther, all_other, not_long}
@@ -49,16 +49,16 @@ last_feed (line ∷ lines) = inr (last_of line (whole lines) (last_feed lines))
 
 -- lines without line feeds within, with a last one
 pub record HasLast (lines : List (List ℕ)) : Type 0 where
-  pub front : List (List ℕ)
+  pub prefix : List (List ℕ)
   pub last : List ℕ
-  pub lines_are : lines ≡ front ++ last ∷ []
-  pub plain : Each IsPlain front
+  pub lines_are : lines ≡ prefix ++ last ∷ []
+  pub plain : Each IsPlain prefix
   pub plain_last : IsPlain last
 
 ends_on : (line : List ℕ) (lines : List (List ℕ)) → IsPlain line → (lines ≡ []) ⊎ HasLast lines → HasLast (line ∷ lines)
-ends_on line lines here (inl none) = record { front = []; last = line; lines_are = ap (λ more. line ∷ more) none; plain = tt; plain_last = here }
+ends_on line lines here (inl none) = record { prefix = []; last = line; lines_are = ap (λ more. line ∷ more) none; plain = tt; plain_last = here }
 ends_on line lines here (inr e) =
-    record { front = line ∷ e.front; last = e.last; lines_are = ap (λ more. line ∷ more) e.lines_are; plain = (here, e.plain); plain_last = e.plain_last }
+    record { prefix = line ∷ e.prefix; last = e.last; lines_are = ap (λ more. line ∷ more) e.lines_are; plain = (here, e.plain); plain_last = e.plain_last }
 
 -- lines are none, or some and a last one
 ends : (lines : List (List ℕ)) → Each IsPlain lines → (lines ≡ []) ⊎ HasLast lines
@@ -66,9 +66,9 @@ ends [] plain = inl refl
 ends (line ∷ lines) plain = inr (ends_on line lines plain.0 (ends lines plain.1))
 
 -- lines with a last one
-whole_push : (front : List (List ℕ)) (last : List ℕ) → whole (front ++ last ∷ []) ≡ whole front ++ fed last
+whole_push : (prefix : List (List ℕ)) (last : List ℕ) → whole (prefix ++ last ∷ []) ≡ whole prefix ++ fed last
 whole_push [] last = append-nil (fed last)
-whole_push (line ∷ front) last = ap (λ rest. fed line ++ rest) (whole_push front last) ∙ sym (append_assoc (fed line) (whole front) (fed last))
+whole_push (line ∷ prefix) last = ap (λ rest. fed line ++ rest) (whole_push prefix last) ∙ sym (append_assoc (fed line) (whole prefix) (fed last))
 
 -- ---- the scenario's text, of whole lines
 
@@ -103,37 +103,37 @@ plain_last last plain some e =
     eqb-false (get_or last (length last - 1) 0) 10 (not-true (eqb (get_or last (length last - 1) 0) 10) here) e
 
 -- a text whose last line has no line feed comes back from its whole lines
-bare_back : (front : List (List ℕ)) (last : List ℕ) → IsPlain last → 0 < length last → scenario_text (whole (front ++ last ∷ [])) ≡ whole front ++ last
-bare_back front last plain some =
-    let text : List ℕ = whole front ++ last in
-    let len : length (whole front ++ last) ≡ length (whole front) + length last = length-append (whole front) last in
-    let at : get_or (whole front ++ last) (length (whole front ++ last) - 1) 0 ≡ get_or last (length last - 1) 0 =
-    get_or-append_right (whole front) last (length (whole front)) (length (whole front ++ last) - 1) 0 refl (omega (arith, len, some))
-    ∙ ap (λ n. get_or last n 0) (let k : length (whole front ++ last) - 1 - length (whole front) ≡ length last - 1 = omega (arith, len, some) in k) in
-    let full = full_by (whole front ++ last) (omega (arith, len, some)) (λ e. plain_last last plain some (sym at ∙ e)) in
-    ap scenario_text (whole_push front last ∙ sym (append_assoc (whole front) last (10 ∷ [])))
-    ∙ cond-false (has_empty_end ((whole front ++ last) ++ 10 ∷ [])) ((whole front ++ last) ++ 10 ∷ []) (take (length ((whole front ++ last) ++ 10 ∷ []) - 1) ((whole front ++ last) ++ 10 ∷ [])) full
-    ∙ cut_feed (whole front ++ last)
+bare_back : (prefix : List (List ℕ)) (last : List ℕ) → IsPlain last → 0 < length last → scenario_text (whole (prefix ++ last ∷ [])) ≡ whole prefix ++ last
+bare_back prefix last plain some =
+    let text : List ℕ = whole prefix ++ last in
+    let len : length (whole prefix ++ last) ≡ length (whole prefix) + length last = length-append (whole prefix) last in
+    let at : get_or (whole prefix ++ last) (length (whole prefix ++ last) - 1) 0 ≡ get_or last (length last - 1) 0 =
+    get_or-append_right (whole prefix) last (length (whole prefix)) (length (whole prefix ++ last) - 1) 0 refl (omega (arith, len, some))
+    ∙ ap (λ n. get_or last n 0) (let k : length (whole prefix ++ last) - 1 - length (whole prefix) ≡ length last - 1 = omega (arith, len, some) in k) in
+    let full = full_by (whole prefix ++ last) (omega (arith, len, some)) (λ e. plain_last last plain some (sym at ∙ e)) in
+    ap scenario_text (whole_push prefix last ∙ sym (append_assoc (whole prefix) last (10 ∷ [])))
+    ∙ cond-false (has_empty_end ((whole prefix ++ last) ++ 10 ∷ [])) ((whole prefix ++ last) ++ 10 ∷ []) (take (length ((whole prefix ++ last) ++ 10 ∷ []) - 1) ((whole prefix ++ last) ++ 10 ∷ [])) full
+    ∙ cut_feed (whole prefix ++ last)
 
 -- ---- the same lines
 
-lines_kept : (front : List (List ℕ)) (last : List ℕ) → Each IsPlain front → IsPlain last → lines_in false (scenario_text (whole (front ++ last ∷ []))) ≡ front ++ last ∷ []
-lines_kept front [] plain plain_last =
-    let empty : has_empty_end (whole (front ++ [] ∷ [])) ≡ true = ap has_empty_end (whole_push front []) ∙ empty_by (whole front) (last_feed front) in
-    ap (lines_in false) (cond-true (has_empty_end (whole (front ++ [] ∷ []))) (whole (front ++ [] ∷ [])) (take (length (whole (front ++ [] ∷ [])) - 1) (whole (front ++ [] ∷ []))) empty)
-    ∙ lines_ended false (front ++ [] ∷ []) (Each-append IsPlain front ([] ∷ []) plain (plain_last, tt)) refl
-lines_kept front (byte ∷ last) plain plain_last =
+lines_kept : (prefix : List (List ℕ)) (last : List ℕ) → Each IsPlain prefix → IsPlain last → lines_in false (scenario_text (whole (prefix ++ last ∷ []))) ≡ prefix ++ last ∷ []
+lines_kept prefix [] plain plain_last =
+    let empty : has_empty_end (whole (prefix ++ [] ∷ [])) ≡ true = ap has_empty_end (whole_push prefix []) ∙ empty_by (whole prefix) (last_feed prefix) in
+    ap (lines_in false) (cond-true (has_empty_end (whole (prefix ++ [] ∷ []))) (whole (prefix ++ [] ∷ [])) (take (length (whole (prefix ++ [] ∷ [])) - 1) (whole (prefix ++ [] ∷ []))) empty)
+    ∙ lines_ended false (prefix ++ [] ∷ []) (Each-append IsPlain prefix ([] ∷ []) plain (plain_last, tt)) refl
+lines_kept prefix (byte ∷ last) plain plain_last =
     let some : 0 < length (byte ∷ last) = omega arith in
-    ap (lines_in false) (bare_back front (byte ∷ last) plain_last some) ∙ lines_bare front (byte ∷ last) plain plain_last some
+    ap (lines_in false) (bare_back prefix (byte ∷ last) plain_last some) ∙ lines_bare prefix (byte ∷ last) plain plain_last some
 
 kept_by : (lines : List (List ℕ)) → (lines ≡ []) ⊎ HasLast lines → lines_in false (scenario_text (whole lines)) ≡ lines
 kept_by lines (inl none) = subst (λ lines. lines_in false (scenario_text (whole lines)) ≡ lines) (sym none) refl
-kept_by lines (inr e) = subst (λ lines. lines_in false (scenario_text (whole lines)) ≡ lines) (sym e.lines_are) (lines_kept e.front e.last e.plain e.plain_last)
+kept_by lines (inr e) = subst (λ lines. lines_in false (scenario_text (whole lines)) ≡ lines) (sym e.lines_are) (lines_kept e.prefix e.last e.plain e.plain_last)
 
 -- the scenario's text is no longer than its whole lines
-no_longer : (front : List ℕ) → length (scenario_text front) ≤ length front
-no_longer front =
-    cond_both (has_empty_end front) front (take (length front - 1) front) (λ text. length text ≤ length front) (λ e. omega arith) (λ e. omega (arith, length-take (length front - 1) front))
+no_longer : (prefix : List ℕ) → length (scenario_text prefix) ≤ length prefix
+no_longer prefix =
+    cond_both (has_empty_end prefix) prefix (take (length prefix - 1) prefix) (λ text. length text ≤ length prefix) (λ e. omega arith) (λ e. omega (arith, length-take (length prefix - 1) prefix))
 
 same_lines : (bytes text : List ℕ) (lines : List (List ℕ)) (scenario : Scenario) → lines_in false bytes ≡ lines → lines_in false text ≡ lines → length text ≤ length bytes → verdict_of bytes ≡ Ok scenario → verdict_of text ≡ Ok scenario
 same_lines bytes text lines scenario e f le read =
@@ -147,7 +147,7 @@ verdict_by : (bytes : List ℕ) (lines : List (List ℕ)) (scenario : Scenario) 
 verdict_by bytes lines scenario e plain (inl is) read =
     same_lines bytes (scenario_text (whole lines)) lines scenario e (kept_by lines (ends lines plain)) (omega (arith, no_longer (whole lines), ap length is)) read
 verdict_by bytes lines scenario e plain (inr bare) read =
-    ap verdict_of (ap (λ all. scenario_text (whole all)) bare.lines_are ∙ bare_back bare.front bare.last bare.plain bare.some ∙ sym bare.text_is) ∙ read
+    ap verdict_of (ap (λ all. scenario_text (whole all)) bare.lines_are ∙ bare_back bare.prefix bare.last bare.plain bare.some ∙ sym bare.text_is) ∙ read
 
 -- the scenario's text that is cut from whole lines is the same scenario
 verdict_back : (bytes : List ℕ) (scenario : Scenario) → verdict_of bytes ≡ Ok scenario → verdict_of (scenario_text (whole (lines_in false bytes))) ≡ Ok scenario
@@ -169,8 +169,8 @@ before_divider (line ∷ lines) more other =
     cond-false (same line divider) (Some []) (option_map (λ rest. line ∷ rest) (lines_before (lines ++ divider ∷ more))) other.0
     ∙ ap (option_map (λ (rest : List (List ℕ)). line ∷ rest)) (before_divider lines more other.1)
 
-front_is : (lines more : List (List ℕ)) → Each IsPlain lines → Each IsPlain more → Each IsOther lines → front_of (whole (lines ++ divider ∷ more)) ≡ Some (length (whole lines), length lines)
-front_is lines more plain plains other =
+prefix_is : (lines more : List (List ℕ)) → Each IsPlain lines → Each IsPlain more → Each IsOther lines → divider_at (whole (lines ++ divider ∷ more)) ≡ Some (length (whole lines), length lines)
+prefix_is lines more plain plains other =
     ap (λ all. option_map measure (lines_before all)) (lines_ended true (lines ++ divider ∷ more) (Each-append IsPlain lines (divider ∷ more) plain (refl, plains)) refl)
     ∙ ap (option_map measure) (before_divider lines more other)
 
@@ -178,7 +178,7 @@ cut_is : (lines more : List (List ℕ)) → Each IsPlain lines → Each IsPlain 
 cut_is lines more plain plains other =
     let all : whole (lines ++ divider ∷ more) ≡ whole lines ++ (fed divider ++ whole more) = whole_append lines (divider ∷ more) in (
       length (whole lines),
-      front_is lines more plain plains other,
+      prefix_is lines more plain plains other,
       ap scenario_text (sym (ap (take (length (whole lines))) all ∙ take_at (whole lines) (fed divider ++ whole more) (length (whole lines)) refl)),
       sym (ap (drop (length (whole lines) + 8)) (all ∙ sym (append_assoc (whole lines) (fed divider) (whole more))) ∙ drop_at (whole lines ++ fed divider) (whole more) (length (whole lines) + 8) (length-append (whole lines) (fed divider))),
     )

@@ -11,7 +11,7 @@ use Rattle.sc_mail.specs.declared.bodies.Mail.{Mail}
 use Rattle.sc_row_text.specs.RowText.{text_of, IsHeld}
 use Rattle.sc_journal_file.specs.Files.{fed}
 use Rattle.sc_journal_file.specs.Stored.{rows_whole, BeginsBadly, IsSole, GoesOn}
-use Rattle.sc_journal_file.proofs.Fronts.{is_feed}
+use Rattle.sc_journal_file.proofs.Dividers.{is_feed}
 use Rattle.sc_journal_file.proofs.Plain.{plain_feed, line_taken, fed_apart, cut_at}
 
 -- the text of a row is one line

@@ -8,10 +8,10 @@ use Rattle.sc_cmd.specs.declared.orders.OrderLine.{OrderLine}
 use Rattle.sc_mail.specs.declared.bodies.Mail.{Mail}
 use Rattle.sc_row_text.specs.RowText.{text_of, IsHeld}
 use Rattle.sc_scenario.specs.Grammar.{verdict_of}
-use Rattle.sc_scenario.specs.declared.reading.ScenarioFault.{ScenarioFault}
-use Rattle.sc_scenario.specs.declared.reading.ScenarioFault.TheVariants.{Bad}
+use Rattle.sc_scenario.specs.declared.reading.ScenarioError.{ScenarioError}
+use Rattle.sc_scenario.specs.declared.reading.ScenarioError.TheVariants.{Bad}
 use Rattle.sc_scenario.specs.declared.scenarios.Scenario.{Scenario}
-use Rattle.sc_journal_file.specs.Files.{fed, front_of, IsCut}
+use Rattle.sc_journal_file.specs.Files.{fed, divider_at, IsCut}
 use Rattle.sc_journal_file.specs.Stored.{most_file_bytes, rows_whole, IsFile, BeginsBadly, LacksScenario, LacksRow, IsBadFile}
 use Rattle.sc_journal_file.specs.Laws.{TextsAreApart, FilesHaveOneVerdict}
 use Rattle.sc_journal_file.proofs.Plain.{fed_apart}
@@ -63,18 +63,18 @@ same_count are (row ∷ rows) (other ∷ others) rest end held helds bad bads e 
 
 -- ---- verdicts
 
-clash : (scenario : Scenario) (fault : ScenarioFault) (r : Result Scenario ScenarioFault) → r ≡ Ok scenario → r ≡ Err fault → ⊥
-clash scenario fault r e f = cc
+clash : (scenario : Scenario) (error : ScenarioError) (r : Result Scenario ScenarioError) → r ≡ Ok scenario → r ≡ Err error → ⊥
+clash scenario error r e f = cc
 
 -- a scenario is no error
-not_ok : (scenario : Scenario) (fault : ScenarioFault) (text text' : List ℕ) → text ≡ text' → verdict_of text ≡ Ok scenario → verdict_of text' ≡ Err fault → ⊥
-not_ok scenario fault text text' e read bad = clash scenario fault (verdict_of text) read (ap verdict_of e ∙ bad)
+not_ok : (scenario : Scenario) (error : ScenarioError) (text text' : List ℕ) → text ≡ text' → verdict_of text ≡ Ok scenario → verdict_of text' ≡ Err error → ⊥
+not_ok scenario error text text' e read bad = clash scenario error (verdict_of text) read (ap verdict_of e ∙ bad)
 
-same_fault : (line line' : ℕ) (why why' : Reason) (r : Result Scenario ScenarioFault) → r ≡ Err (Bad line why) → r ≡ Err (Bad line' why') → (line ≡ line') × (why ≡ why')
-same_fault line line' why why' r e f = (cc, cc)
+same_error : (line line' : ℕ) (why why' : Reason) (r : Result Scenario ScenarioError) → r ≡ Err (Bad line why) → r ≡ Err (Bad line' why') → (line ≡ line') × (why ≡ why')
+same_error line line' why why' r e f = (cc, cc)
 
 -- a file with a line `journal` does not lack it
-no_cut : (file text : List ℕ) (lines : ℕ) (behind : List ℕ) → IsCut file text lines behind → front_of file ≡ None → ⊥
+no_cut : (file text : List ℕ) (lines : ℕ) (behind : List ℕ) → IsCut file text lines behind → divider_at file ≡ None → ⊥
 no_cut file text lines behind cut none = none-some (cut.0, lines) (sym none ∙ cut.1)
 
 within_over : (file : List ℕ) → length file ≤ most_file_bytes → most_file_bytes < length file → ⊥
@@ -101,7 +101,7 @@ not_both_ways file line line' why why' a b =
 
 one_scenario : (file : List ℕ) (line line' : ℕ) (why why' : Reason) → LacksScenario file line why → LacksScenario file line' why' → (line ≡ line') × (why ≡ why')
 one_scenario file line line' why why' a b =
-    same_fault line line' why why' (verdict_of a.text) a.read (ap verdict_of (same_cut file a.text b.text a.lines b.lines a.behind b.behind a.cut b.cut).texts ∙ b.read)
+    same_error line line' why why' (verdict_of a.text) a.read (ap verdict_of (same_cut file a.text b.text a.lines b.lines a.behind b.behind a.cut b.cut).texts ∙ b.read)
 
 one_row : AreLines → (file : List ℕ) (line line' : ℕ) (why why' : Reason) → LacksRow file line why → LacksRow file line' why' → (line ≡ line') × (why ≡ why')
 one_row are file line line' why why' a b =

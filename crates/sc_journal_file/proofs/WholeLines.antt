@@ -11,7 +11,7 @@ use Rattle.sc_base.specs.Among.{Each}
 use Rattle.sc_lines.proofs.Cuts.{lines_first, lines_last}
 use Rattle.sc_lines.specs.Lines.{lines_in}
 use Rattle.sc_journal_file.specs.Files.{fed, whole}
-use Rattle.sc_journal_file.proofs.Fronts.{is_feed}
+use Rattle.sc_journal_file.proofs.Dividers.{is_feed}
 use Rattle.sc_journal_file.proofs.Plain.{is_plain, plain_feed, line_taken, line_dropped, cut_at}
 
 -- a text without a line feed
@@ -59,20 +59,20 @@ lines_bare lines last plain p some = lines_whole false lines last plain ∙ ap (
 
 -- the last line of a text has no line feed
 pub record EndsBare (text : List ℕ) (lines : List (List ℕ)) : Type 0 where
-  pub front : List (List ℕ)
+  pub prefix : List (List ℕ)
   pub last : List ℕ
-  pub lines_are : lines ≡ front ++ last ∷ []
+  pub lines_are : lines ≡ prefix ++ last ∷ []
   pub some : 0 < length last
   pub plain : IsPlain last
-  pub text_is : text ≡ whole front ++ last
+  pub text_is : text ≡ whole prefix ++ last
 
 -- the lines of a text have no line feeds in them, and make the text; only the last may lack its line feed
 pub record AreLinesOf (text : List ℕ) (lines : List (List ℕ)) : Type 0 where
   pub plain : Each IsPlain lines
   pub make : (whole lines ≡ text) ⊎ EndsBare text lines
 
-front_plain : (text : List ℕ) (at : ℕ) → position is_feed text ≡ Some at → IsPlain (take at text)
-front_plain text at e =
+divider_after_plain : (text : List ℕ) (at : ℕ) → position is_feed text ≡ Some at → IsPlain (take at text)
+divider_after_plain text at e =
     let found = position-Some is_feed text at 0 e in
     let long : length (take at text) ≡ at = length-take-le at text (omega (arith, found.0)) in
     list_all-from_AllPass (λ (byte : ℕ). not (eqb byte 10)) (take at text)
@@ -94,18 +94,18 @@ make_on : (text : List ℕ) (at : ℕ) (lines : List (List ℕ)) → position is
     → (whole (take at text ∷ lines) ≡ text) ⊎ EndsBare text (take at text ∷ lines)
 make_on text at lines e (inl is) = inl (ap (λ rest. fed (take at text) ++ rest) is ∙ sym (cut_at text at e))
 make_on text at lines e (inr bare) = inr (record {
-  front = take at text ∷ bare.front;
+  prefix = take at text ∷ bare.prefix;
   last = bare.last;
   lines_are = ap (λ more. take at text ∷ more) bare.lines_are;
   some = bare.some;
   plain = bare.plain;
-  text_is = cut_at text at e ∙ ap (λ rest. fed (take at text) ++ rest) bare.text_is ∙ sym (append_assoc (fed (take at text)) (whole bare.front) bare.last);
+  text_is = cut_at text at e ∙ ap (λ rest. fed (take at text) ++ rest) bare.text_is ∙ sym (append_assoc (fed (take at text)) (whole bare.prefix) bare.last);
 })
 
 lines_on : (text : List ℕ) (at : ℕ) → position is_feed text ≡ Some at → AreLinesOf (drop (at + 1) text) (lines_in false (drop (at + 1) text)) → AreLinesOf text (lines_in false text)
 lines_on text at e rest =
     subst (AreLinesOf text) (sym (lines_first false text at e))
-    (record { plain = (front_plain text at e, rest.plain); make = make_on text at (lines_in false (drop (at + 1) text)) e rest.make })
+    (record { plain = (divider_after_plain text at e, rest.plain); make = make_on text at (lines_in false (drop (at + 1) text)) e rest.make })
 
 no_bytes : AreLinesOf [] (lines_in false [])
 no_bytes = record { plain = tt; make = inl refl }
@@ -114,7 +114,7 @@ lines_none : (text : List ℕ) → position is_feed text ≡ None → 0 < length
 lines_none text e some =
     let plain = none_plain text e in
     subst (AreLinesOf text) (sym (lines_last text some e))
-    (record { plain = (plain, tt); make = inr (record { front = []; last = text; lines_are = refl; some = some; plain = plain; text_is = refl }) })
+    (record { plain = (plain, tt); make = inr (record { prefix = []; last = text; lines_are = refl; some = some; plain = plain; text_is = refl }) })
 
 found_by : (n : ℕ) → ((rest : List ℕ) → length rest ≤ n → AreLinesOf rest (lines_in false rest)) → (text : List ℕ) (o : Option ℕ) → position is_feed text ≡ o → 0 < length text → length text ≤ suc n
     → AreLinesOf text (lines_in false text)

@@ -23,16 +23,16 @@ lines_before [] = None
 lines_before (line ∷ lines) = if same line divider then Some [] else option_map (λ more. line ∷ more) (lines_before lines)
 
 -- The numbers of bytes and lines before a file's first line `journal`, if it has one. Only lines that a line feed ends count.
-abbrev pub front_of : List ℕ → Option (ℕ × ℕ)
-front_of file = option_map (λ (lines : List (List ℕ)). (length (whole lines), length lines)) (lines_before (lines_in true file))
+abbrev pub divider_at : List ℕ → Option (ℕ × ℕ)
+divider_at file = option_map (λ (lines : List (List ℕ)). (length (whole lines), length lines)) (lines_before (lines_in true file))
 
 -- Whether the last line of these bytes is empty, or there are fewer than two bytes. The bytes are lines with their line feeds.
 abbrev pub has_empty_end : List ℕ → Bool
-has_empty_end front = nat_lt (length front) 2 || (get_or front (length front - 2) 0 == 10)
+has_empty_end prefix = nat_lt (length prefix) 2 || (get_or prefix (length prefix - 2) 0 == 10)
 
 -- The scenario's text: the bytes before the line `journal`, without the last line feed where the last line is not empty.
 abbrev pub scenario_text : List ℕ → List ℕ
-scenario_text front = if has_empty_end front then front else take (length front - 1) front
+scenario_text prefix = if has_empty_end prefix then prefix else take (length prefix - 1) prefix
 
 -- The bytes behind the first `bytes` bytes and the line `journal`.
 abbrev pub rows_text : ℕ → List ℕ → List ℕ
@@ -40,4 +40,4 @@ rows_text bytes file = drop (bytes + length (fed divider)) file
 
 -- The file is divided at its first line `journal` into the text of the scenario, with its number of lines, and the bytes behind that line.
 abbrev pub IsCut : List ℕ → List ℕ → ℕ → List ℕ → Type 0
-IsCut file scenario lines rows = (bytes : ℕ) × (front_of file ≡ Some (bytes, lines)) × (scenario ≡ scenario_text (take bytes file)) × (rows ≡ rows_text bytes file)
+IsCut file scenario lines rows = (bytes : ℕ) × (divider_at file ≡ Some (bytes, lines)) × (scenario ≡ scenario_text (take bytes file)) × (rows ≡ rows_text bytes file)

@@ -29,8 +29,8 @@ abbrev pub FirstBytesDecideFiles : Type 0
 FirstBytesDecideFiles = (input : List ℕ) (scenario : Scenario) (rows : List (Row Mail OrderLine)) → IsFile (first_bytes input) scenario rows ↔ IsFile input scenario rows
 
 -- An input is bad at this line for this reason exactly where the bytes that are read of it are.
-abbrev pub FirstBytesDecideFaults : Type 0
-FirstBytesDecideFaults = (input : List ℕ) (line : ℕ) (why : Reason) → IsBadFile (first_bytes input) line why ↔ IsBadFile input line why
+abbrev pub FirstBytesDecideErrors : Type 0
+FirstBytesDecideErrors = (input : List ℕ) (line : ℕ) (why : Reason) → IsBadFile (first_bytes input) line why ↔ IsBadFile input line why
 
 -- No two rows that the program's types can hold have the same text.
 abbrev pub TextsAreApart : Type 0

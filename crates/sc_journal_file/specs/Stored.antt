@@ -8,10 +8,10 @@ use Rattle.sc_lines.specs.Lines.{lines_in}
 use Rattle.sc_mail.specs.declared.bodies.Mail.{Mail}
 use Rattle.sc_row_text.specs.RowText.{text_of, IsHeld}
 use Rattle.sc_scenario.specs.Grammar.{verdict_of}
-use Rattle.sc_scenario.specs.declared.reading.ScenarioFault.{ScenarioFault}
-use Rattle.sc_scenario.specs.declared.reading.ScenarioFault.TheVariants.{Bad, OutOfMemory}
+use Rattle.sc_scenario.specs.declared.reading.ScenarioError.{ScenarioError}
+use Rattle.sc_scenario.specs.declared.reading.ScenarioError.TheVariants.{Bad, OutOfMemory}
 use Rattle.sc_scenario.specs.declared.scenarios.Scenario.{Scenario}
-use Rattle.sc_journal_file.specs.Files.{divider, fed, whole, front_of, IsCut}
+use Rattle.sc_journal_file.specs.Files.{divider, fed, whole, divider_at, IsCut}
 use Rattle.sc_lines.specs.declared.reasons.Reason.{Reason}
 use Rattle.sc_lines.specs.declared.reasons.Reason.TheVariants.{MissingJournal, BadRow, FileTooLarge}
 
@@ -68,7 +68,7 @@ pub record IsTooLarge (file : List ℕ) (line : ℕ) (why : Reason) : Type 0 whe
 -- No line of the file that a line feed ends is `journal`: the line after the last, `MissingJournal`.
 pub record LacksJournal (file : List ℕ) (line : ℕ) (why : Reason) : Type 0 where
   pub within : length file ≤ most_file_bytes
-  pub nowhere : front_of file ≡ None
+  pub nowhere : divider_at file ≡ None
   pub line_is : line ≡ length (lines_in false file) + 1
   pub why_is : why ≡ MissingJournal
 
@@ -100,9 +100,9 @@ abbrev pub IsBadFile : List ℕ → ℕ → Reason → Type 0
 IsBadFile file line why = IsTooLarge file line why ⊎ LacksJournal file line why ⊎ LacksScenario file line why ⊎ LacksRow file line why
 
 -- What an error says of a file: it is bad at this line for this reason. `OutOfMemory` says nothing.
-abbrev pub IsFileFault : List ℕ → ScenarioFault → Type 0
-IsFileFault file (Bad line why) = IsBadFile file line why
-IsFileFault file OutOfMemory = ⊤
+abbrev pub IsFileError : List ℕ → ScenarioError → Type 0
+IsFileError file (Bad line why) = IsBadFile file line why
+IsFileError file OutOfMemory = ⊤
 
 -- ---- row by row
 
@@ -123,6 +123,6 @@ pub record AreRows (bytes : List ℕ) (rows : List (Row Mail OrderLine)) : Type 
   pub bytes_are : bytes ≡ rows_whole rows
 
 -- What an error says of the lines of rows, of which the first has the number `first`: this line is the first that is bad. `OutOfMemory` says nothing.
-abbrev pub IsRowFault : List ℕ → ℕ → ScenarioFault → Type 0
-IsRowFault bytes first (Bad line why) = (count : ℕ) × HasBadRow bytes count × (line ≡ first + count) × (why ≡ BadRow)
-IsRowFault bytes first OutOfMemory = ⊤
+abbrev pub IsRowError : List ℕ → ℕ → ScenarioError → Type 0
+IsRowError bytes first (Bad line why) = (count : ℕ) × HasBadRow bytes count × (line ≡ first + count) × (why ≡ BadRow)
+IsRowError bytes first OutOfMemory = ⊤

@@ -1,6 +1,6 @@
 //! A file, divided at its line `journal`.
 ghost use Rattle.std.specs.Prelude.{◌≡◌, ◌≤◌, ◌==◌, ◌+◌, ◌<◌, ◌^◌, length, position, MatchOption, IfSome, None};
-ghost use Rattle.sc_journal_file.specs.Files.{front_of, has_empty_end, scenario_text, IsCut};
+ghost use Rattle.sc_journal_file.specs.Files.{divider_at, has_empty_end, scenario_text, IsCut};
 
 use memchr::memchr;
 use sc_lines::is_text;
@@ -25,11 +25,11 @@ pub(crate) fn feed_at(text: &[u8]) -> Option<usize>
 }
 
 // Returns the numbers of bytes and lines before the line `journal`, if there is one.
-fn front_of(file: &[u8]) -> Option<(usize, u32)>
+fn divider_at(file: &[u8]) -> Option<(usize, u32)>
     requires { length file.now < 2 ^ 32 }
-    ensures front { result ≡ front_of file.now }
+    ensures prefix { result ≡ divider_at file.now }
     ensures within { IfSome result
-        (λ front. (front.0 + 8 ≤ length file.now) × (front.1 ≤ front.0)) }
+        (λ prefix. (prefix.0 + 8 ≤ length file.now) × (prefix.1 ≤ prefix.0)) }
 {
     let mut at = 0usize;
     let mut lines = 0u32;
@@ -44,20 +44,20 @@ fn front_of(file: &[u8]) -> Option<(usize, u32)>
 }
 
 // Returns whether the last line is empty, or there are fewer than two bytes.
-fn has_empty_end(front: &[u8]) -> bool
-    ensures { result ≡ has_empty_end front.now }
+fn has_empty_end(prefix: &[u8]) -> bool
+    ensures { result ≡ has_empty_end prefix.now }
 {
-    front.len() < 2 || front[front.len() - 2] == b'\n'
+    prefix.len() < 2 || prefix[prefix.len() - 2] == b'\n'
 }
 
 // Returns the lines without the last line feed where the last line is not empty.
-fn scenario_text(front: &[u8]) -> &[u8]
-    ensures { result.now ≡ scenario_text front.now }
+fn scenario_text(prefix: &[u8]) -> &[u8]
+    ensures { result.now ≡ scenario_text prefix.now }
 {
-    if has_empty_end(front) {
-        front
+    if has_empty_end(prefix) {
+        prefix
     } else {
-        &front[..front.len() - 1]
+        &prefix[..prefix.len() - 1]
     }
 }
 
@@ -65,12 +65,12 @@ fn scenario_text(front: &[u8]) -> &[u8]
 /// feed ends is `journal`.
 pub fn cut(file: &[u8]) -> Option<StoredText<'_>>
     requires { length file.now < 2 ^ 32 }
-    ensures cut { MatchOption result (front_of file.now ≡ None)
+    ensures cut { MatchOption result (divider_at file.now ≡ None)
         (λ cut. IsCut file.now cut.scenario.now cut.lines cut.rows.now) }
     ensures within { IfSome result
         (λ cut. cut.lines + length cut.rows.now + 8 ≤ length file.now) }
 {
-    let (bytes, lines) = front_of(file)?;
+    let (bytes, lines) = divider_at(file)?;
     Some(StoredText {
         scenario: scenario_text(&file[..bytes]),
         lines,

@@ -1,5 +1,5 @@
 //! Laws of stored journals.
-ghost use Rattle.sc_journal_file.specs.Laws.{FilesHaveOneVerdict, FirstBytesDecideFaults, FirstBytesDecideFiles, PrintedFilesAreFiles, ScenariosAreShort};
+ghost use Rattle.sc_journal_file.specs.Laws.{FilesHaveOneVerdict, FirstBytesDecideErrors, FirstBytesDecideFiles, PrintedFilesAreFiles, ScenariosAreShort};
 
 use sc_row_text::row_texts_are_lines;
 
@@ -15,7 +15,7 @@ pub fn printed_files_are_files()
 /// one more than the most that a file may have.
 pub fn first_file_bytes_decide()
     ensures files { FirstBytesDecideFiles }
-    ensures faults { FirstBytesDecideFaults }
+    ensures errors { FirstBytesDecideErrors }
 {}
 
 /// Shows that a file has one scenario and one list of texts of rows, and one list of rows where no

@@ -3,18 +3,18 @@ ghost use Rattle.std.specs.Prelude.{◌≡◌, ◌≤◌, ◌+◌, ◌<◌, ◌^
 ghost use Rattle.sc_actor.specs.Mail.{mails};
 ghost use Rattle.sc_lines.specs.Lines.{lines_in};
 ghost use Rattle.sc_scenario.specs.Valid.{IsValid};
-ghost use Rattle.sc_journal_file.specs.Stored.{BeginsBadly, GoesOn, AreRows, IsRowFault, IsFile, IsFileFault};
+ghost use Rattle.sc_journal_file.specs.Stored.{BeginsBadly, GoesOn, AreRows, IsRowError, IsFile, IsFileError};
 ghost use Rattle.sc_journal_file.specs.Laws.{IsFileOfOne};
 
 use crate::cuts::{cut, feed_at};
 use sc_actor::{Journal, Row};
 use sc_base::{OutOfMemory, Sequence};
 use sc_cmd::OrderLine;
-use sc_journal::{RowFault, read_row};
+use sc_journal::{RowError, read_row};
 use sc_lines::{Reason, next_line};
 use sc_mail::Mail;
 use sc_row_text::row_texts_are_lines;
-use sc_scenario::{Scenario, ScenarioFault, read_scenario};
+use sc_scenario::{Scenario, ScenarioError, read_scenario};
 use std::alloc::Global;
 
 /// The most bytes that a file may have.
@@ -54,8 +54,8 @@ fn next_row(
     };
     match read_row(alloc, &bytes[..at]) {
         Ok(row) => Ok(Some((row, &bytes[at + 1..]))),
-        Err(RowFault::NoRow) => Ok(None),
-        Err(RowFault::OutOfMemory) => Err(OutOfMemory),
+        Err(RowError::NoRow) => Ok(None),
+        Err(RowError::OutOfMemory) => Err(OutOfMemory),
     }
 }
 
@@ -64,17 +64,17 @@ fn read_rows(
     alloc: Global,
     bytes: &[u8],
     first: u32,
-) -> Result<Journal<Mail, OrderLine>, ScenarioFault>
+) -> Result<Journal<Mail, OrderLine>, ScenarioError>
     requires { first + length bytes.now < 2 ^ 31 }
     ensures { MatchResult result (λ rows. AreRows bytes.now rows)
-        (λ fault. IsRowFault bytes.now first fault) }
+        (λ error. IsRowError bytes.now first error) }
 {
     let mut rows = Sequence::new(alloc);
     let mut rest = bytes;
     let mut line = first;
     while !rest.is_empty() {
         let Some((row, more)) = next_row(alloc, rest)? else {
-            return Err(ScenarioFault::Bad {
+            return Err(ScenarioError::Bad {
                 line,
                 why: Reason::BadRow,
             });
@@ -97,9 +97,9 @@ fn read_rows(
 pub fn read_file(
     alloc: Global,
     file: &[u8],
-) -> Result<(Scenario, Journal<Mail, OrderLine>), ScenarioFault>
+) -> Result<(Scenario, Journal<Mail, OrderLine>), ScenarioError>
     ensures file { MatchResult result (λ read. IsFile file.now read.0 read.1)
-        (λ fault. IsFileFault file.now fault) }
+        (λ error. IsFileError file.now error) }
     ensures one { IfOk result (λ read. IsFileOfOne file.now read.0 read.1) }
     ensures valid { IfOk result (λ read. IsValid read.0) }
     ensures few_rows { IfOk result (λ read. length read.1 < 2 ^ 31) }
@@ -107,13 +107,13 @@ pub fn read_file(
 {
     row_texts_are_lines();
     if file.len() as u64 > FILE_LIMIT {
-        return Err(ScenarioFault::Bad {
+        return Err(ScenarioError::Bad {
             line: 0,
             why: Reason::FileTooLarge,
         });
     }
     let Some(parts) = cut(file) else {
-        return Err(ScenarioFault::Bad {
+        return Err(ScenarioError::Bad {
             line: line_count(file) + 1,
             why: Reason::MissingJournal,
         });

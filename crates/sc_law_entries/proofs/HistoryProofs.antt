@@ -9,7 +9,7 @@ pub mod Entries
 pub mod EntriesExample
 pub mod Finishing
 pub mod Found
-pub mod Fronts
+pub mod HistoryPrefixes
 pub mod Holdings
 pub mod Kept
 pub mod Logs

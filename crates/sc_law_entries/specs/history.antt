@@ -1,5 +1,5 @@
 pub mod Example
-pub mod Fronts
+pub mod HistoryPrefixes
 pub mod Laws
 pub mod Moves
 pub mod PlanMoves

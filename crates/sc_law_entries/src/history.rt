@@ -2,7 +2,7 @@
 //! what they hold (arcs, pairs and client tables) keep one legal history, and the map after it is
 //! the groups' pairs. No mail is in it. Definitions and laws; no code that runs.
 ghost use Rattle.sc_law_entries.specs.history.Example.{ExampleOfEntries, ExampleOfMoves};
-ghost use Rattle.sc_law_entries.specs.history.Fronts.{PrefixesAnswerByHistory, LogsMakeStates};
+ghost use Rattle.sc_law_entries.specs.history.HistoryPrefixes.{PrefixesAnswerByHistory, LogsMakeStates};
 ghost use Rattle.sc_law_entries.specs.history.Laws.{LogsMakeHistories};
 ghost use Rattle.sc_law_entries.specs.history.Moves.{MovesKeepHistories, MovesMakeHistories};
 ghost use Rattle.sc_law_entries.specs.history.PlanMoves.{PlansAreMoves};

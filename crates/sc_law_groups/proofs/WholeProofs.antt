@@ -5,7 +5,7 @@ pub mod Coming
 pub mod Distinct
 pub mod Examples
 pub mod Fitting
-pub mod Fronts
+pub mod WholePrefixes
 pub mod Granting
 pub mod Growing
 pub mod Journals

@@ -5,7 +5,7 @@ use Rattle.sc_cmd.specs.declared.cores.Base.{Base}
 use Rattle.sc_cmd.specs.declared.commands.Command.TheVariants.{Call, Join as Joins}
 use Rattle.sc_cmd.specs.declared.orders.Order.TheVariants.{Join}
 use Rattle.sc_cmd.specs.declared.orders.OrderLine.{OrderLine}
-use Rattle.sc_cmd.specs.declared.orders.ToldResult.TheVariants.{Done}
+use Rattle.sc_cmd.specs.declared.orders.OrderResult.TheVariants.{Done}
 use Rattle.sc_mail.specs.declared.bodies.AnswerBody.TheVariants.{Value}
 use Rattle.sc_mail.specs.declared.bodies.Mail.{Mail}
 use Rattle.sc_mail.specs.declared.bodies.MailBody.TheVariants.{Request, Answer, Accept, Accepted, Learn, Install, Told as Tells}

@@ -36,7 +36,7 @@ any_state me = record {
   promised = λ ballot r top t k. tt;
   accepted = λ report r top t k. tt;
   flown = λ slot command r on near k. tt;
-  queues = λ r acts calls k. tt;
+  queues = λ r acts backlog k. tt;
   waited = λ waits r k. tt;
 }
 

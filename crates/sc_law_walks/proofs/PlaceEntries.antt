@@ -3,11 +3,11 @@ use Rattle.std.proofs.Common.{◌≡◌, ℕ, ◌-◌, Bool, true, false, cond, 
 use Rattle.std.specs.Option.{option_map}
 use Rattle.std.proofs.lemmas.Bool.{cond_both}
 use Rattle.sc_base.specs.Definitions.{is_member}
-use Rattle.sc_node_table.specs.Values.{Op, Command, Call, Effect, ToldResult, AnswerBody, Mail, Prepare, Learn, Install, Flight}
+use Rattle.sc_node_table.specs.Values.{Op, Command, Call, Effect, OrderResult, AnswerBody, Mail, Prepare, Learn, Install, Flight}
 use Rattle.sc_node_table.specs.declared.Before.{Before as Gone}
 use Rattle.sc_machine_table.specs.Definitions.{Group, base_of, applied}
 use Rattle.sc_paxos_words.specs.Definitions.{flight_at, without_flight, without_flight_at}
-use Rattle.sc_node_table.specs.Definitions.{slots_ahead, rest_of, without_slot, entered, answer_of, told_call, order_result, told_effect, announced, learnt_to, welcomed, install_to, asked_to_promise, welcomed_all, landed, sent, order_number, put_back, ReplicaState, Place, name_of, members, next, flying, forgotten, before_of, spoken}
+use Rattle.sc_node_table.specs.Definitions.{slots_ahead, rest_of, without_slot, entered, answer_of, answered_or_put_back, order_result, effect_reported, announced, learnt_to, welcomed, install_to, asked_to_promise, welcomed_all, landed, sent, order_number, put_back, ReplicaState, Place, name_of, members, next, flying, forgotten, before_of, spoken}
 use Rattle.sc_law_walks.specs.Definitions.{IsKept}
 use Rattle.sc_law_walks.proofs.Ways.{either_way}
 use Rattle.sc_law_walks.proofs.Places.{landed_place}
@@ -63,23 +63,23 @@ module _ (me : ℕ) (P : Place → Type 0) (Entry : ℕ → Command → Type 0) 
   back_at : (command : Command) (place : Place) → b ≡ true → Back command → At place → At (put_back command place.0, place.1)
   back_at command (r, mails) on good k = (back_kept me command r (k.2 ∙ on) k.0, p.back command r mails (k.2 ∙ on) good k.1, back_runs command r ∙ k.2)
 
-  call_at : (answer : Option AnswerBody) (command : Command) (place : Place) → b ≡ true → At place → At (told_call answer command place)
-  unfolding told_call
+  call_at : (answer : Option AnswerBody) (command : Command) (place : Place) → b ≡ true → At place → At (answered_or_put_back answer command place)
+  unfolding answered_or_put_back
   call_at (Some answer) (Call client seq op) (r, mails) on k = (k.0, client_reported r.me (λ ms. P (r, ms)) (p.talks r k.0.0) client (name_of r) seq answer mails k.1, k.2)
   call_at None (Call client seq op) place on k = back_at (Call client seq op) place on (p.asked client seq op) k
   call_at (Some answer) _ place on k = k
   call_at None _ place on k = k
 
-  effect_at : (result : Option ToldResult) (command : Command) (place : Place) → At place → At (told_effect result command place)
-  unfolding told_effect
+  effect_at : (result : Option OrderResult) (command : Command) (place : Place) → At place → At (effect_reported result command place)
+  unfolding effect_reported
   effect_at None command place k = k
   effect_at (Some result) command (r, mails) k = (k.0, desk_reported r.me (λ ms. P (r, ms)) (p.talks r k.0.0) (order_number command) result mails k.1, k.2)
 
   announced_at : (counted : Bool) (effect : Effect) (command : Command) (place : Place) → (counted ≡ true → b ≡ true) → At place → At (announced counted effect command place)
   unfolding announced
   announced_at counted effect command place on k =
-      effect_at (order_result command effect) command (cond counted (told_call (answer_of effect) command place) place)
-      (cond_both counted (told_call (answer_of effect) command place) place At (λ t. call_at (answer_of effect) command place (on t) k) (λ _. k))
+      effect_at (order_result command effect) command (cond counted (answered_or_put_back (answer_of effect) command place) place)
+      (cond_both counted (answered_or_put_back (answer_of effect) command place) place At (λ t. call_at (answer_of effect) command place (on t) k) (λ _. k))
 
   spoken_at : (counted : Bool) (before : Gone) (effect : Effect) (command : Command) (place : Place) → At place → At (spoken counted before effect command place)
   unfolding spoken

@@ -4,7 +4,7 @@ use Rattle.std.specs.Prelude.{is_some}
 use Rattle.sc_base.specs.Definitions.{Each, is_member, least_of}
 use Rattle.std.specs.List.{list_any}
 use Rattle.std.proofs.lemmas.Bool.{cond_both, and_parts}
-use Rattle.sc_node_table.specs.Definitions.{slots_ahead, at_slot, has_act, with_act, act_queued, elected, ended, stopped, saw, left_gone, left, is_among, looked_for, looked, executed_one, next_child, has_room, next_ready, ending, executed_ready, all_ready, executed, install_to, turned_down, answered, Found, is_act, from_calls, from_acts, from_queues, found_by, found_for, offered, pumped_from, pumped, ReplicaState, Place, next, members, settled, may_offer, first_set, childless, taken_at, under_way, is_idle, last_slot, next_call}
+use Rattle.sc_node_table.specs.Definitions.{slots_ahead, at_slot, has_act, with_act, act_queued, elected, ended, stopped, saw, left_gone, left, is_among, looked_for, looked, executed_one, next_child, has_room, next_ready, ending, executed_ready, all_ready, executed, install_to, turned_down, answered, Found, is_act, from_backlog, from_acts, from_queues, found_by, found_for, offered, pumped_from, pumped, ReplicaState, Place, next, members, settled, may_offer, first_set, childless, taken_at, under_way, is_idle, last_slot, next_queued}
 use Rattle.sc_node_table.specs.Values.{Ballot, Command, Route, AnswerBody, Mail, Must, Gap}
 use Rattle.sc_mail.specs.declared.bodies.AnswerBody.TheVariants as Says
 use Rattle.sc_paxos_words.specs.declared.answers.Must.TheVariants.{Value, Free as Open}
@@ -46,34 +46,34 @@ module _ (w : PlaceWalk) where
     -- the requests that are turned down are taken out one by one
     module _ (r : ReplicaState) where
       abbrev Left : List Command → List Mail → Type 0
-      Left calls mails = At (record r { calls = calls }, mails)
+      Left backlog mails = At (record r { backlog = backlog }, mails)
 
       abbrev Next : Option Command × List Command × List Mail → Type 0
-      Next found = Finds (found.0, (record r { calls = found.1 }, found.2))
+      Next found = Finds (found.0, (record r { backlog = found.1 }, found.2))
 
-      fewer : (command : Command) (calls : List Command) (mails : List Mail) → Left (command ∷ calls) mails → IsKept w.facts.me (record r { calls = calls })
-      fewer command calls mails k = waiting w.facts.me (record r { calls = command ∷ calls }) r.acts calls k.0.1 k.0.0.0.2.1 k.0.0.0.2.2.1 k.0.0.0
+      fewer : (command : Command) (backlog : List Command) (mails : List Mail) → Left (command ∷ backlog) mails → IsKept w.facts.me (record r { backlog = backlog })
+      fewer command backlog mails k = waiting w.facts.me (record r { backlog = command ∷ backlog }) r.acts backlog k.0.1 k.0.0.0.2.1 k.0.0.0.2.2.1 k.0.0.0
 
-      turned_out : (command : Command) (answer : AnswerBody) (calls : List Command) (mails : List Mail) → turned_down r.group.core command ≡ Some answer → Left (command ∷ calls) mails → Left calls (answered r.me r.group.core.id answer command mails)
-      turned_out command answer calls mails e k =
-          (((fewer command calls mails k, w.states.turned command answer calls (record r { calls = command ∷ calls }) mails k.0.0.0.0 k.0.1 refl e k.0.0.1), k.0.1, k.0.2), k.1, k.2)
+      turned_out : (command : Command) (answer : AnswerBody) (backlog : List Command) (mails : List Mail) → turned_down r.group.core command ≡ Some answer → Left (command ∷ backlog) mails → Left backlog (answered r.me r.group.core.id answer command mails)
+      turned_out command answer backlog mails e k =
+          (((fewer command backlog mails k, w.states.turned command answer backlog (record r { backlog = command ∷ backlog }) mails k.0.0.0.0 k.0.1 refl e k.0.0.1), k.0.1, k.0.2), k.1, k.2)
 
-      call_offered : (command : Command) (calls : List Command) (mails : List Mail) → Left (command ∷ calls) mails → Next (Some command, calls, mails)
-      call_offered command calls mails k =
-          offered_so command (record r { calls = calls }) mails (fewer command calls mails k) k.0.1 k.0.2 (w.states.offers_call slot set command calls (record r { calls = command ∷ calls }) mails k.0.0.0.0 k.0.1 k.1 k.2 refl k.0.0.1)
+      call_offered : (command : Command) (backlog : List Command) (mails : List Mail) → Left (command ∷ backlog) mails → Next (Some command, backlog, mails)
+      call_offered command backlog mails k =
+          offered_so command (record r { backlog = backlog }) mails (fewer command backlog mails k) k.0.1 k.0.2 (w.states.offers_call slot set command backlog (record r { backlog = command ∷ backlog }) mails k.0.0.0.0 k.0.1 k.1 k.2 refl k.0.0.1)
 
-      calls_left : (calls : List Command) (mails : List Mail) → Left calls mails → Next (next_call r.me (is_idle r) r.group.core calls mails)
-      calls_left calls mails k = next_found r.me (is_idle r) r.group.core Left Next (λ cs ms q. q.0) call_offered (λ command answer cs ms wait e q. turned_out command answer cs ms e q) calls mails k
+      calls_left : (backlog : List Command) (mails : List Mail) → Left backlog mails → Next (next_queued r.me (is_idle r) r.group.core backlog mails)
+      calls_left backlog mails k = next_found r.me (is_idle r) r.group.core Left Next (λ cs ms q. q.0) call_offered (λ command answer cs ms wait e q. turned_out command answer cs ms e q) backlog mails k
 
-    calls_find : (place : Place) → At place → Finds (from_calls place)
-    unfolding from_calls
-    calls_find (r, mails) k = calls_left r r.calls mails k
+    calls_find : (place : Place) → At place → Finds (from_backlog place)
+    unfolding from_backlog
+    calls_find (r, mails) k = calls_left r r.backlog mails k
 
     acts_find : (acts : List Command) (place : Place) → place.0.acts ≡ acts → At place → Finds (from_acts acts place)
     acts_find [] place e k = calls_find place k
     acts_find (act ∷ acts) (r, mails) e k =
         let filed : Each IsFiled (act ∷ acts) = subst (λ (cs : List Command). Each IsFiled cs) e k.0.0.0.2.1 in
-        let kept : IsKept w.facts.me (record r { acts = acts }) = waiting w.facts.me r acts r.calls k.0.1 filed.1 k.0.0.0.2.2 k.0.0.0 in
+        let kept : IsKept w.facts.me (record r { acts = acts }) = waiting w.facts.me r acts r.backlog k.0.1 filed.1 k.0.0.0.2.2 k.0.0.0 in
         either_way Finds (is_idle r) (Some act, (record r { acts = acts }, mails)) (None, (r, mails))
         (offered_so act (record r { acts = acts }) mails kept k.0.1 k.0.2 (w.states.offers_act slot set act acts r mails k.0.0.0.0 k.0.1 k.1 k.2 e k.0.0.1)) k.0
 
@@ -115,7 +115,7 @@ module _ (w : PlaceWalk) where
   act_waits : (act : Command) (r : ReplicaState) (mails : List Mail) → IsFiledOnMail act → r.running ≡ true → After w.facts (r, mails) → After w.facts (with_act act r, mails)
   act_waits act r mails good on k =
       cond_both (has_act act r) r (record r { acts = r.acts ++ act ∷ [] }) (λ (x : ReplicaState). After w.facts (x, mails)) (λ _. k)
-      (λ f. (waiting w.facts.me r (r.acts ++ act ∷ []) r.calls on (one_filed r.acts act (mail_files act good) k.0.2.1) k.0.2.2 k.0, w.states.filed act r mails on good f k.1))
+      (λ f. (waiting w.facts.me r (r.acts ++ act ∷ []) r.backlog on (one_filed r.acts act (mail_files act good) k.0.2.1) k.0.2.2 k.0, w.states.filed act r mails on good f k.1))
 
   pub acts_pump : (act : Command) (place : Place) → IsFiledOnMail act → place.0.running ≡ true → Before w.facts place → After w.facts (act_queued act place)
   unfolding act_queued

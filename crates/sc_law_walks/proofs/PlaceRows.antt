@@ -12,7 +12,7 @@ use Rattle.sc_mail.specs.declared.bodies.AnswerBody.TheVariants as Says
 use Rattle.sc_paxos_words.specs.declared.answers.PrepareAnswer.TheVariants as Prepared
 use Rattle.sc_paxos_words.specs.declared.answers.AcceptAnswer.TheVariants as Asked
 use Rattle.sc_paxos_words.specs.Definitions.{IsAtLeast, prepared, accepted as accepted_by, AcceptorState, reports_from, may_promise, may_accept, after_promise, after_accept, LeaderState, promise_counted, entry_at, counted}
-use Rattle.sc_node_table.specs.Definitions.{act_queued, ended, stopped, saw, looked, executed, has_room, named, jumped, sent, answer_to, ordered_command, untaken, taken_or_told, ordered_row, pumped, call_of, without_call, ReplicaState, Place, childless, name_of, next, members, settled, set_at, last_slot, forgotten, may_offer, first_set, born_replica, installed_replica, refused_at, queued, requested, request_row, learn_row, taught, most_taught, ask_row, looked_up, took_over, install_row, mailed, call_refusal, made_by, slots_ahead, at_slot, with_slot, asked_next, noted_outcome, standing_vote, sent_elsewhere, offered_by, offer_row, watched_by, watch_row, awaits_vote, awaits_watch, told_outcome, vote_met, vote_row, watch_met, watched_row, elsewhere_row, is_bound, outcome_row, hinted, promise_to, prepare_row, accepted_to, took, accept_row, leads, promise_row, readied, vote_tallied, voted, accepted_row, nack_row}
+use Rattle.sc_node_table.specs.Definitions.{act_queued, ended, stopped, saw, looked, executed, has_room, named, jumped, sent, answer_to, ordered_command, untaken, queued_or_refused, ordered_row, pumped, queued_number, without_request, ReplicaState, Place, childless, name_of, next, members, settled, set_at, last_slot, forgotten, may_offer, first_set, born_replica, installed_replica, refused_at, queued, requested, request_row, learn_row, taught, most_taught, ask_row, looked_up, took_over, install_row, mailed, request_refusal, made_by, slots_ahead, at_slot, with_slot, asked_next, noted_outcome, standing_vote, sent_elsewhere, offered_by, offer_row, watched_by, watch_row, awaits_vote, awaits_watch, outcome_sent, vote_met, vote_row, watch_met, watched_row, elsewhere_row, is_bound, outcome_row, hinted, promise_to, prepare_row, accepted_to, took, accept_row, leads, promise_row, readied, vote_tallied, voted, accepted_row, nack_row}
 use Rattle.sc_law_walks.proofs.Places.{promised_place, asked_place}
 use Rattle.sc_law_walks.proofs.Ways.{either_way}
 use Rattle.sc_law_walks.specs.Definitions.{IsFiledOnMail, IsAsked, IsOrder, IsKept}
@@ -47,20 +47,20 @@ module _ (w : PlaceWalk) where
   -- ---- Request
 
   -- what is not refused is taken by one that runs
-  taken_runs : (gone : Option Route) (core : Core) (running : Bool) (hint : Option ℕ) (op : Op) → call_refusal gone core running hint op ≡ None → running ≡ true
+  taken_runs : (gone : Option Route) (core : Core) (running : Bool) (hint : Option ℕ) (op : Op) → request_refusal gone core running hint op ≡ None → running ≡ true
   taken_runs (Some into) core running hint op e = cc
   taken_runs None core true hint op e = refl
   taken_runs None core false hint op e = cc
 
-  call_pumps : (calls : List Command) (place : Place) → place.0.running ≡ true → Each IsAsked calls → (w.facts.Late place → w.facts.Late (record place.0 { calls = calls }, place.1)) → Before w.facts place → After w.facts (pumped (record place.0 { calls = calls }, place.1))
-  call_pumps calls (r, mails) on asked keeps k = pumps w (record r { calls = calls }, mails) (waiting w.facts.me r r.acts calls on k.0.2.1 asked k.0, keeps (on_late w (r, mails) k).1)
+  call_pumps : (backlog : List Command) (place : Place) → place.0.running ≡ true → Each IsAsked backlog → (w.facts.Late place → w.facts.Late (record place.0 { backlog = backlog }, place.1)) → Before w.facts place → After w.facts (pumped (record place.0 { backlog = backlog }, place.1))
+  call_pumps backlog (r, mails) on asked keeps k = pumps w (record r { backlog = backlog }, mails) (waiting w.facts.me r r.acts backlog on k.0.2.1 asked k.0, keeps (on_late w (r, mails) k).1)
 
-  queues : (o : Option ℕ) (client seq : ℕ) (op : Op) (place : Place) → call_of place.0.calls client ≡ o → place.0.running ≡ true → Before w.facts place → After w.facts (queued o client seq op place)
+  queues : (o : Option ℕ) (client seq : ℕ) (op : Op) (place : Place) → queued_number place.0.backlog client ≡ o → place.0.running ≡ true → Before w.facts place → After w.facts (queued o client seq op place)
   unfolding queued
-  queues None client seq op (r, mails) e on k = call_pumps (r.calls ++ Call client seq op ∷ []) (r, mails) on (one_asked r.calls (Call client seq op) tt k.0.2.2) (λ l. w.states.requested client seq op r mails on e l) k
+  queues None client seq op (r, mails) e on k = call_pumps (r.backlog ++ Call client seq op ∷ []) (r, mails) on (one_asked r.backlog (Call client seq op) tt k.0.2.2) (λ l. w.states.requested client seq op r mails on e l) k
   queues (Some other) client seq op (r, mails) e on k =
-      cond_both (nat_le seq other) (r, mails) (pumped (record r { calls = without_call r.calls client ++ Call client seq op ∷ [] }, mails)) (After w.facts) (λ _. on_late w (r, mails) k)
-      (λ f. call_pumps (without_call r.calls client ++ Call client seq op ∷ []) (r, mails) on (one_asked (without_call r.calls client) (Call client seq op) tt (without_asked r.calls client k.0.2.2)) (λ l. w.states.requested_again client seq other op r mails on e f l) k)
+      cond_both (nat_le seq other) (r, mails) (pumped (record r { backlog = without_request r.backlog client ++ Call client seq op ∷ [] }, mails)) (After w.facts) (λ _. on_late w (r, mails) k)
+      (λ f. call_pumps (without_request r.backlog client ++ Call client seq op ∷ []) (r, mails) on (one_asked (without_request r.backlog client) (Call client seq op) tt (without_asked r.backlog client k.0.2.2)) (λ l. w.states.requested_again client seq other op r mails on e f l) k)
 
   -- a mail to a client, the desk or a party, and no more
   talked : (r : ReplicaState) (mails after : List Mail) → (Talk r.me (λ ms. w.facts.Early (r, ms)) → w.facts.Early (r, mails) → w.facts.Early (r, after)) → Before w.facts (r, mails) → After w.facts (r, after)
@@ -69,7 +69,7 @@ module _ (w : PlaceWalk) where
   requests_by : (o : Option AnswerBody) (client seq : ℕ) (op : Op) (place : Place) → refused_at place.0.group.core.gone op place.0 ≡ o → Before w.facts place → After w.facts (requested o client seq op place)
   unfolding requested
   requests_by (Some answer) client seq op (r, mails) e k = talked r mails (answer_to r.me (name_of r) client seq answer mails) (λ t m. client_reported r.me (λ ms. w.facts.Early (r, ms)) t client (name_of r) seq answer mails m) k
-  requests_by None client seq op (r, mails) e k = queues (call_of r.calls client) client seq op (r, mails) refl (taken_runs r.group.core.gone r.group.core r.running r.hint op e) k
+  requests_by None client seq op (r, mails) e k = queues (queued_number r.backlog client) client seq op (r, mails) refl (taken_runs r.group.core.gone r.group.core r.running r.hint op e) k
 
   requests : (client seq : ℕ) (op : Op) (place : Place) → Before w.facts place → After w.facts (request_row client seq op place)
   unfolding request_row
@@ -255,7 +255,7 @@ module _ (w : PlaceWalk) where
   files : (act : Command) (wanted : Bool) (place : Place) → IsFiledOnMail act → Before w.facts place → After w.facts (cond (place.0.running && wanted) (act_queued act place) place)
   files act wanted place filed k = cond_both (place.0.running && wanted) (act_queued act place) place (After w.facts) (λ t. acts_pump w act place filed (and_parts place.0.running wanted t).0 k) (λ _. on_late w place k)
 
-  ends_said : (from : ℕ) (tx part : Draw) (outcome : Outcome) (place : Place) → Before w.facts place → After w.facts (place.0, told_outcome place.0.me from tx part outcome place.1)
+  ends_said : (from : ℕ) (tx part : Draw) (outcome : Outcome) (place : Place) → Before w.facts place → After w.facts (place.0, outcome_sent place.0.me from tx part outcome place.1)
   ends_said from tx part outcome (r, mails) k = talked r mails _ (λ t m. outcome_said r.me (λ ms. w.facts.Early (r, ms)) t from tx part outcome mails m) k
 
   votes_met : (vote : Vote) (o : Option Outcome) (from : ℕ) (tx part : Draw) (place : Place) → Before w.facts place → After w.facts (vote_met vote o from tx part place)
@@ -289,9 +289,9 @@ module _ (w : PlaceWalk) where
 
   -- ---- orders
 
-  takes_order : (o : Option OrderRefusal) (number : ℕ) (command : Command) (place : Place) → IsOrder command → (o ≡ None → place.0.running ≡ true) → Before w.facts place → After w.facts (taken_or_told o number command place)
+  takes_order : (o : Option OrderRefusal) (number : ℕ) (command : Command) (place : Place) → IsOrder command → (o ≡ None → place.0.running ≡ true) → Before w.facts place → After w.facts (queued_or_refused o number command place)
   takes_order (Some why) number command (r, mails) asked on k = talked r mails _ (λ t m. t.tells number (Refused why) mails m) k
-  takes_order None number command (r, mails) asked on k = call_pumps (r.calls ++ command ∷ []) (r, mails) (on refl) (one_asked r.calls command (order_is_asked command asked) k.0.2.2) (λ l. w.states.ordered command r mails (on refl) asked l) k
+  takes_order None number command (r, mails) asked on k = call_pumps (r.backlog ++ command ∷ []) (r, mails) (on refl) (one_asked r.backlog command (order_is_asked command asked) k.0.2.2) (λ l. w.states.ordered command r mails (on refl) asked l) k
 
   pub orders : (drawer : Drawer) (line : OrderLine) (place : Place) → Before w.facts place → After w.facts (ordered_row drawer line place)
   unfolding ordered_row

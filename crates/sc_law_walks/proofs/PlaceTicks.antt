@@ -5,7 +5,7 @@ use Rattle.std.proofs.lemmas.Bool.{cond_both, and_parts}
 use Rattle.sc_base.specs.Definitions.{Drawer, next_name, is_member}
 use Rattle.sc_node_table.specs.Values.{Draw, Command, GiveUp, Lock, Free, Coordinating, Promised, Watching, OrderLine, OrderRefusal, Mail, Accept, Learn}
 use Rattle.sc_paxos_words.specs.Definitions.{entry_at}
-use Rattle.sc_node_table.specs.Definitions.{with_act, has_act, elected, sent_all, ordered_command, untaken, wished_line, with_command, with_line, wishing, pumped, one_tick_more, patience, waited_in, reminders, reminded, ReplicaState, Place, name_of, next, members, settled, may_offer, first_set, flying, is_idle, asked_again, told_last, uncounted, tick_row}
+use Rattle.sc_node_table.specs.Definitions.{with_act, has_act, elected, sent_all, ordered_command, untaken, wished_line, with_command, with_line, wishing, pumped, one_tick_more, patience, waited_in, reminders, reminded, ReplicaState, Place, name_of, next, members, settled, may_offer, first_set, flying, is_idle, asked_again, last_entry_sent, uncounted, tick_row}
 use Rattle.sc_law_walks.specs.Definitions.{IsOrder, IsKept}
 use Rattle.sc_law_walks.proofs.Ways.{either_way}
 use Rattle.sc_law_walks.proofs.Queues.{waiting, one_asked, one_filed, order_is_asked}
@@ -25,7 +25,7 @@ module _ (w : PlaceWalk) (a : PlaceAgains w.facts) where
   -- ---- a coordinator waits one tick longer, and gives up in the end
 
   gives_up_kept : (tx : Draw) (r : ReplicaState) → IsKept w.facts.me r → r.running ≡ true → IsKept w.facts.me (with_act (GiveUp tx) r)
-  gives_up_kept tx r kept on = either_way (IsKept w.facts.me) (has_act (GiveUp tx) r) r (record r { acts = r.acts ++ GiveUp tx ∷ [] }) kept (waiting w.facts.me r (r.acts ++ GiveUp tx ∷ []) r.calls on (one_filed r.acts (GiveUp tx) tt kept.2.1) kept.2.2 kept)
+  gives_up_kept tx r kept on = either_way (IsKept w.facts.me) (has_act (GiveUp tx) r) r (record r { acts = r.acts ++ GiveUp tx ∷ [] }) kept (waiting w.facts.me r (r.acts ++ GiveUp tx ∷ []) r.backlog on (one_filed r.acts (GiveUp tx) tt kept.2.1) kept.2.2 kept)
 
   waiting_kept : (lock : Lock) (r : ReplicaState) → IsKept w.facts.me r → r.running ≡ true → IsKept w.facts.me (waited_in lock r)
   waiting_kept Free r kept on = kept
@@ -48,7 +48,7 @@ module _ (w : PlaceWalk) (a : PlaceAgains w.facts) where
 
   commanded : (o : Option OrderRefusal) (command : Command) (r : ReplicaState) (mails : List Mail) → IsOrder command → Runs (r, mails) → After w.facts (with_command o command r, mails)
   commanded (Some why) command r mails q k = k.0
-  commanded None command r mails q k = (waiting w.facts.me r r.acts (r.calls ++ command ∷ []) k.1 k.0.0.2.1 (one_asked r.calls command (order_is_asked command q) k.0.0.2.2) k.0.0, w.states.ordered command r mails k.1 q k.0.1)
+  commanded None command r mails q k = (waiting w.facts.me r r.acts (r.backlog ++ command ∷ []) k.1 k.0.0.2.1 (one_asked r.backlog command (order_is_asked command q) k.0.0.2.2) k.0.0, w.states.ordered command r mails k.1 q k.0.1)
 
   wished : (o : Option OrderLine) (drawer : Drawer) (r : ReplicaState) (mails : List Mail) → Runs (r, mails) → After w.facts (with_line drawer o r, mails)
   wished None drawer r mails k = k.0
@@ -56,8 +56,8 @@ module _ (w : PlaceWalk) (a : PlaceAgains w.facts) where
 
   -- ---- what is said again
 
-  last_said : (o : Option Command) (r : ReplicaState) (mails : List Mail) → entry_at (next r - 1) r.log ≡ o → Runs (r, mails) → Runs (r, told_last o r mails)
-  unfolding told_last
+  last_said : (o : Option Command) (r : ReplicaState) (mails : List Mail) → entry_at (next r - 1) r.log ≡ o → Runs (r, mails) → Runs (r, last_entry_sent o r mails)
+  unfolding last_entry_sent
   last_said None r mails e k = k
   last_said (Some command) r mails e k =
       ((k.0.0, others_sent r.me (λ ms. w.facts.Late (r, ms)) (Learn (name_of r) (next r - 1) command) (λ to ms q. a.relearns to command r ms k.0.0.0 e q) (members r) mails k.0.1), k.1)
@@ -96,7 +96,7 @@ module _ (w : PlaceWalk) (a : PlaceAgains w.facts) where
       (λ f. (
       let leads : settled r ≡ true = not_so (settled r) f in
       let runs : Runs (r, mails) = (l, (and_parts r.running (may_offer r (first_set r.sets)) leads).0) in
-      either_way (After w.facts) (is_idle r) _ _ (settled_ticks on drawer r (told_last (entry_at (next r - 1) r.log) r mails) (waits leads) (last_said (entry_at (next r - 1) r.log) r mails refl runs))
+      either_way (After w.facts) (is_idle r) _ _ (settled_ticks on drawer r (last_entry_sent (entry_at (next r - 1) r.log) r mails) (waits leads) (last_said (entry_at (next r - 1) r.log) r mails refl runs))
       (settled_ticks on drawer r (asked_again r (next r) r.sets mails) (waits leads) (again_said r (next r) r.sets mails runs)))))
 
 module _ (w : PlaceWalk) (t : PlaceTicks w.facts) where

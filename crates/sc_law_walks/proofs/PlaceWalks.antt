@@ -1,11 +1,11 @@
 -- What an invariant of a replica together with the mails of its row needs: what holds before a row and after it, that each part of a row keeps it, and that it holds with each mail put behind. Where a part changes the replica and sends what belongs to the change, the two are one part, and the invariant need not hold between. The theorems of the walk carry it through all rows of a replica's table.
 use Rattle.std.proofs.Common.{◌≡◌, ℕ, ◌+◌, ◌-◌, ◌<◌, ◌≤◌, nat_le, cond, Bool, true, false, List, [], ◌∷◌, ◌++◌, length, Option, Some, None}
-use Rattle.sc_node_table.specs.Values.{Ballot, Draw, Op, Offer, Watch, Command, Noop, Call, GiveUp, Base, Effect, ToldResult, Outcome, Past, Vote, AnswerBody, Mail, MailBody, Request, Answer, Prepare, Promise, Accept, Accepted, Nack, Learn, Ask, Install, TxPrepare, TxVote, TxOutcome, TxElsewhere, TxWatch, TxWatched, Told, Chosen, NotYet, Report}
+use Rattle.sc_node_table.specs.Values.{Ballot, Draw, Op, Offer, Watch, Command, Noop, Call, GiveUp, Base, Effect, OrderResult, Outcome, Past, Vote, AnswerBody, Mail, MailBody, Request, Answer, Prepare, Promise, Accept, Accepted, Nack, Learn, Ask, Install, TxPrepare, TxVote, TxOutcome, TxElsewhere, TxWatch, TxWatched, Told, Chosen, NotYet, Report}
 use Rattle.sc_base.specs.Definitions.{Each, client_actor}
 use Rattle.sc_paxos_words.specs.declared.answers.Must.TheVariants.{Value}
 use Rattle.sc_machine_table.specs.Definitions.{base_of, applied}
 use Rattle.sc_paxos_words.specs.Definitions.{IsAtLeast, reports_from, after_promise, after_accept, may_promise, may_accept, new_leader, promise_counted, entry_at, counted, must, below}
-use Rattle.sc_node_table.specs.Definitions.{named, jumped, ReplicaState, Place, Executed, name_of, members, next, slots_ahead, at_slot, with_slot, taken_at, flying, call_of, without_call, has_act, born_replica, installed_replica, sent, sent_all, open_nodes, stopped, ended, answered, turned_down, offered, entered, announced, before_of, spoken, learnt_to, welcomed, landed}
+use Rattle.sc_node_table.specs.Definitions.{named, jumped, ReplicaState, Place, Executed, name_of, members, next, slots_ahead, at_slot, with_slot, taken_at, flying, queued_number, without_request, has_act, born_replica, installed_replica, sent, sent_all, open_nodes, stopped, ended, answered, turned_down, offered, entered, announced, before_of, spoken, learnt_to, welcomed, landed}
 use Rattle.sc_law_walks.specs.Definitions.{GoesOn, IsFiledOnMail, IsOrder, IsKept}
 
 -- a replica that ran with the next ballot of its own, and one that runs no longer
@@ -15,7 +15,7 @@ elected_replica r =
     record r { top = ballot; hint = Some r.me; running = true; leader = new_leader ballot (next r); ready = []; waits = 0 }
 
 abbrev pub ended_replica : Option ℕ → ReplicaState → ReplicaState
-ended_replica hint r = record r { running = false; leader = new_leader r.leader.ballot (next r); ready = []; acts = []; calls = []; hint = hint }
+ended_replica hint r = record r { running = false; leader = new_leader r.leader.ballot (next r); ready = []; acts = []; backlog = []; hint = hint }
 
 -- an election, with the mails that ask the members of the open slots for their promises
 abbrev pub elected_place : Place → Place
@@ -46,7 +46,7 @@ pub record PlaceFacts : Type 1 where
 
 -- That what holds of the mails of node `me` is kept by each mail to a client, to the desk, and to a party of a transaction.
 pub record Talk (me : ℕ) (Q : List Mail → Type 0) : Type 0 where
-  pub tells : (number : ℕ) (result : ToldResult) (mails : List Mail) → Q mails → Q (sent me 0 (Told number result) mails)
+  pub tells : (number : ℕ) (result : OrderResult) (mails : List Mail) → Q mails → Q (sent me 0 (Told number result) mails)
   pub answers : (client : ℕ) (group : Draw) (seq : ℕ) (answer : AnswerBody) (mails : List Mail) → Q mails → Q (sent me (client_actor client) (Answer group seq answer) mails)
   pub offers : (to : ℕ) (tx : Draw) (offer : Offer) (mails : List Mail) → offer.by ≡ me → Q mails → Q (sent me to (TxPrepare tx offer) mails)
   pub watches : (to : ℕ) (tx : Draw) (watch : Watch) (mails : List Mail) → watch.by ≡ me → Q mails → Q (sent me to (TxWatch tx watch) mails)
@@ -81,20 +81,20 @@ pub record PlaceStates (f : PlaceFacts) : Type 0 where
       → f.Early (record r { acceptor = after_accept report r.acceptor }, sent r.me from (Accepted (name_of r) report.ballot report.slot) mails)
   -- queues
   pub filed : (act : Command) (r : ReplicaState) (mails : List Mail) → r.running ≡ true → IsFiledOnMail act → has_act act r ≡ false → f.Late (r, mails) → f.Late (record r { acts = r.acts ++ act ∷ [] }, mails)
-  pub ordered : (order : Command) (r : ReplicaState) (mails : List Mail) → r.running ≡ true → IsOrder order → f.Late (r, mails) → f.Late (record r { calls = r.calls ++ order ∷ [] }, mails)
-  pub requested : (client seq : ℕ) (op : Op) (r : ReplicaState) (mails : List Mail) → r.running ≡ true → call_of r.calls client ≡ None → f.Late (r, mails) → f.Late (record r { calls = r.calls ++ Call client seq op ∷ [] }, mails)
-  pub requested_again : (client seq other : ℕ) (op : Op) (r : ReplicaState) (mails : List Mail) → r.running ≡ true → call_of r.calls client ≡ Some other → nat_le seq other ≡ false → f.Late (r, mails) → f.Late (record r { calls = without_call r.calls client ++ Call client seq op ∷ [] }, mails)
+  pub ordered : (order : Command) (r : ReplicaState) (mails : List Mail) → r.running ≡ true → IsOrder order → f.Late (r, mails) → f.Late (record r { backlog = r.backlog ++ order ∷ [] }, mails)
+  pub requested : (client seq : ℕ) (op : Op) (r : ReplicaState) (mails : List Mail) → r.running ≡ true → queued_number r.backlog client ≡ None → f.Late (r, mails) → f.Late (record r { backlog = r.backlog ++ Call client seq op ∷ [] }, mails)
+  pub requested_again : (client seq other : ℕ) (op : Op) (r : ReplicaState) (mails : List Mail) → r.running ≡ true → queued_number r.backlog client ≡ Some other → nat_le seq other ≡ false → f.Late (r, mails) → f.Late (record r { backlog = without_request r.backlog client ++ Call client seq op ∷ [] }, mails)
   -- a request that gets no slot is answered
-  pub turned : (command : Command) (answer : AnswerBody) (calls : List Command) (r : ReplicaState) (mails : List Mail) → r.me ≡ f.me → r.running ≡ true → r.calls ≡ command ∷ calls → turned_down r.group.core command ≡ Some answer → f.Late (r, mails)
-      → f.Late (record r { calls = calls }, answered r.me r.group.core.id answer command mails)
+  pub turned : (command : Command) (answer : AnswerBody) (backlog : List Command) (r : ReplicaState) (mails : List Mail) → r.me ≡ f.me → r.running ≡ true → r.backlog ≡ command ∷ backlog → turned_down r.group.core command ≡ Some answer → f.Late (r, mails)
+      → f.Late (record r { backlog = backlog }, answered r.me r.group.core.id answer command mails)
   -- what is offered at an open slot: what was reported there, nothing new below what was reported, and the head of either queue
   pub offers_value : (slot : ℕ) (set : List ℕ) (command : Command) (r : ReplicaState) (mails : List Mail) → r.me ≡ f.me → r.running ≡ true → slot < next r + slots_ahead → taken_at r slot ≡ None → must slot r.leader ≡ Value command → f.Late (r, mails)
       → f.Late (offered slot set command (r, mails))
   pub offers_noop : (slot : ℕ) (set : List ℕ) (r : ReplicaState) (mails : List Mail) → r.me ≡ f.me → r.running ≡ true → slot < next r + slots_ahead → taken_at r slot ≡ None → f.Late (r, mails) → f.Late (offered slot set Noop (r, mails))
   pub offers_act : (slot : ℕ) (set : List ℕ) (act : Command) (acts : List Command) (r : ReplicaState) (mails : List Mail) → r.me ≡ f.me → r.running ≡ true → slot < next r + slots_ahead → taken_at r slot ≡ None → r.acts ≡ act ∷ acts → f.Late (r, mails)
       → f.Late (offered slot set act (record r { acts = acts }, mails))
-  pub offers_call : (slot : ℕ) (set : List ℕ) (command : Command) (calls : List Command) (r : ReplicaState) (mails : List Mail) → r.me ≡ f.me → r.running ≡ true → slot < next r + slots_ahead → taken_at r slot ≡ None → r.calls ≡ command ∷ calls → f.Late (r, mails)
-      → f.Late (offered slot set command (record r { calls = calls }, mails))
+  pub offers_call : (slot : ℕ) (set : List ℕ) (command : Command) (backlog : List Command) (r : ReplicaState) (mails : List Mail) → r.me ≡ f.me → r.running ≡ true → slot < next r + slots_ahead → taken_at r slot ≡ None → r.backlog ≡ command ∷ backlog → f.Late (r, mails)
+      → f.Late (offered slot set command (record r { backlog = backlog }, mails))
 
 -- That it is kept by each mail that goes with no change of the replica.
 pub record PlaceSays (f : PlaceFacts) : Type 0 where
@@ -131,7 +131,7 @@ pub record PlaceBirths (f : PlaceFacts) : Type 1 where
   pub beside : (r : ReplicaState) (mails more : List Mail) → Rest (mails ++ more) → f.Late (r, mails) → f.Late (r, mails ++ more)
   pub born : (base : Base) → f.Late (born_replica slots_ahead f.me base, [])
   pub made : (slot : ℕ) (base : Base) (sets : List (List ℕ)) → length sets ≡ slots_ahead → f.State slot base → f.Early (installed_replica f.me slot base sets, [])
-  pub refuses : (me number : ℕ) (result : ToldResult) → me ≡ f.me → Rest (sent me 0 (Told number result) [])
+  pub refuses : (me number : ℕ) (result : OrderResult) → me ≡ f.me → Rest (sent me 0 (Told number result) [])
   pub answers : (me client : ℕ) (group : Draw) (seq : ℕ) (answer : AnswerBody) → me ≡ f.me → Rest (sent me (client_actor client) (Answer group seq answer) [])
   pub wants_all : (me to : ℕ) (group : Draw) → me ≡ f.me → Rest (sent me to (Ask group 0) [])
   pub sends_on : (me to : ℕ) (tx coord : Draw) (hint : Option ℕ) → me ≡ f.me → Rest (sent me to (TxElsewhere tx coord hint) [])

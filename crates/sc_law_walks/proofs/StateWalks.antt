@@ -22,7 +22,7 @@ pub record StateParts (me : ℕ) (P : ReplicaState → Type 0) : Type 0 where
   pub promised : (ballot : Ballot) (r : ReplicaState) → IsAtLeast r.top ballot → may_promise r.acceptor ballot ≡ true → P r → P (record r { acceptor = after_promise ballot r.acceptor })
   pub accepted : (report : Report Command) (r : ReplicaState) → IsAtLeast r.top report.ballot → may_accept r.acceptor report.ballot ≡ true → P r → P (record r { acceptor = after_accept report r.acceptor })
   pub flown : (slot : ℕ) (command : Command) (r : ReplicaState) → r.running ≡ true → slot < next r + slots_ahead → P r → P (record r { leader = with_flight_at slot command r.leader })
-  pub queues : (r : ReplicaState) (acts calls : List Command) → P r → P (record r { acts = acts; calls = calls })
+  pub queues : (r : ReplicaState) (acts backlog : List Command) → P r → P (record r { acts = acts; backlog = backlog })
   pub waited : (waits : ℕ) (r : ReplicaState) → P r → P (record r { waits = waits })
 
 -- where an invariant that says nothing of mail begins
@@ -65,16 +65,16 @@ module _ (me : ℕ) (P : ReplicaState → Type 0) (parts : StateParts me P) wher
     promised = λ ballot r good top t k. parts.promised ballot r top t k;
     accepted = λ report r good top t k. parts.accepted report r top t k;
     back = λ command r on k. back_any P parts.queues command r k;
-    filed = λ act r on good f k. parts.queues r _ r.calls k;
+    filed = λ act r on good f k. parts.queues r _ r.backlog k;
     ordered = λ order r on good k. parts.queues r r.acts _ k;
     requested = λ client seq op r on e k. parts.queues r r.acts _ k;
     requested_again = λ client seq other op r on e f k. parts.queues r r.acts _ k;
-    unfiled = λ act acts r on e k. parts.queues r acts r.calls k;
-    uncalled = λ command calls r on e k. parts.queues r r.acts calls k;
+    unfiled = λ act acts r on e k. parts.queues r acts r.backlog k;
+    uncalled = λ command backlog r on e k. parts.queues r r.acts backlog k;
     must_found = λ slot command r e k. tt;
     noop_found = tt;
     act_found = λ act acts r e k. tt;
-    call_found = λ command calls r e k. tt;
+    call_found = λ command backlog r e k. tt;
     flown = λ slot command r on near good k. parts.flown slot command r on near k;
   }
 
@@ -85,7 +85,7 @@ module _ (me : ℕ) (P : ReplicaState → Type 0) (parts : StateParts me P) wher
   state_births begins = record { born = λ base. begins.born base; made = λ slot base sets many good. begins.made slot base sets; wants_all = λ to group. tt }
 
   abbrev pub state_ticks : Ticks state_facts
-  state_ticks = record { waited = λ waits r k. parts.waited waits r k; gives_up = λ tx r on f k. parts.queues r _ r.calls k; reasks = λ to slot command r same on e k. tt; relearns = λ to command r e k. tt }
+  state_ticks = record { waited = λ waits r k. parts.waited waits r k; gives_up = λ tx r on f k. parts.queues r _ r.backlog k; reasks = λ to slot command r same on e k. tt; relearns = λ to command r e k. tt }
 
   -- any mail is heard
   pub state_hears : (body : MailBody) → Hears state_walk body

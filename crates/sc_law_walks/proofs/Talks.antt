@@ -1,16 +1,16 @@
 -- What holds of the mails of a row is kept by all that a replica tells others by the entries, the locks and the queues of its group.
 use Rattle.std.proofs.Common.{ℕ, refl, eqb, Bool, cond, List, [], ◌∷◌, Option, Some, None}
 use Rattle.sc_base.specs.Definitions.{same_draw, least_of}
-use Rattle.sc_node_table.specs.Values.{Draw, Body, Offer, Watch, Command, Call, Split, Begin, Prepared, RecordVote, GiveUp, Watched, RecordWatch, Core, Lock, Free, Coordinating, Promised, Watching, Effect, Link, ToldResult, Heard, Outcome, Past, Vote, AnswerBody, Mail, MailBody, TxPrepare, TxVote, TxOutcome, TxWatched}
+use Rattle.sc_node_table.specs.Values.{Draw, Body, Offer, Watch, Command, Call, Split, Begin, Prepared, RecordVote, GiveUp, Watched, RecordWatch, Core, Lock, Free, Coordinating, Promised, Watching, Effect, Link, OrderResult, Heard, Outcome, Past, Vote, AnswerBody, Mail, MailBody, TxPrepare, TxVote, TxOutcome, TxWatched}
 use Rattle.sc_cmd.specs.declared.bodies.Body.TheVariants as At
 use Rattle.sc_cmd.specs.declared.votes.Outcome.TheVariants as Is
 use Rattle.sc_cmd.specs.declared.votes.Past.TheVariants as Cast
 use Rattle.sc_cmd.specs.declared.votes.Vote.TheVariants as Says
 use Rattle.sc_cmd.specs.Definitions.{decided_in, cast_in, is_changed}
 use Rattle.sc_machine_table.specs.Definitions.{Group, frozen_of}
-use Rattle.sc_policy.specs.Definitions.{is_told}
+use Rattle.sc_policy.specs.Definitions.{is_reported}
 use Rattle.sc_node_table.specs.declared.Before.{Before}
-use Rattle.sc_node_table.specs.Definitions.{sent, sent_all, answer_to, sent_others, answered, answered_all, told_desk, told_order, dismissed, dismissed_all, offer_of, union_watch, split_watch, heard_question, question, asked_first, asked_link, voted_to, watched_to, told_outcome, next_asked, asked_next, begun_result, spoken_number, told_result, told_begun, asked_on, begun_asks, vote_sent, watch_sent, aborted_to, aborted_watcher, given_up_by, vote_answered, released_to, watch_answered_by, went_on, spoken_mails, reminders}
+use Rattle.sc_node_table.specs.Definitions.{sent, sent_all, answer_to, sent_others, answered, answered_all, result_sent, order_reported, dismissed, dismissed_all, offer_of, union_watch, split_watch, heard_question, question, asked_first, asked_link, voted_to, watched_to, outcome_sent, next_asked, asked_next, begun_result, spoken_number, result_reported, begun_reported, asked_on, begun_asks, vote_sent, watch_sent, aborted_to, aborted_watcher, given_up_by, vote_answered, released_to, watch_answered_by, went_on, spoken_mails, reminders}
 use Rattle.sc_law_walks.proofs.Ways.{either_way}
 use Rattle.sc_law_walks.proofs.PlaceWalks.{Talk}
 
@@ -29,9 +29,9 @@ module _ (me : ℕ) (Q : List Mail → Type 0) (body : MailBody) (puts : (to : �
 module _ (me : ℕ) (Q : List Mail → Type 0) (t : Talk me Q) where
   -- ---- clients and the desk
 
-  pub desk_reported : (number : ℕ) (result : ToldResult) (mails : List Mail) → Q mails → Q (told_order me number result mails)
-  unfolding told_order
-  desk_reported number result mails m = either_way Q (is_told number) (told_desk me number result mails) mails (t.tells number result mails m) m
+  pub desk_reported : (number : ℕ) (result : OrderResult) (mails : List Mail) → Q mails → Q (order_reported me number result mails)
+  unfolding order_reported
+  desk_reported number result mails m = either_way Q (is_reported number) (result_sent me number result mails) mails (t.tells number result mails m) m
 
   pub client_reported : (client : ℕ) (group : Draw) (seq : ℕ) (answer : AnswerBody) (mails : List Mail) → Q mails → Q (answer_to me group client seq answer mails)
   client_reported client group seq answer mails m = t.answers client group seq answer mails m
@@ -119,7 +119,7 @@ module _ (me : ℕ) (Q : List Mail → Type 0) (t : Talk me Q) where
   given_up_said None before tx mails m = m
   given_up_said (Some outcome) before tx mails m = watcher_said tx before.heard (aborted_to me tx before.succ mails) (aborted_said tx before.succ mails m)
 
-  pub outcome_said : (node : ℕ) (tx part : Draw) (outcome : Outcome) (mails : List Mail) → Q mails → Q (told_outcome me node tx part outcome mails)
+  pub outcome_said : (node : ℕ) (tx part : Draw) (outcome : Outcome) (mails : List Mail) → Q mails → Q (outcome_sent me node tx part outcome mails)
   outcome_said node tx part outcome mails m = t.ends node tx part outcome mails m
 
   vote_replied : (o : Option Outcome) (vote : Vote) (before : Before) (tx : Draw) (by : ℕ) (mails : List Mail) → Q mails → Q (vote_answered o vote me before tx by mails)
@@ -129,7 +129,7 @@ module _ (me : ℕ) (Q : List Mail → Type 0) (t : Talk me Q) where
 
   released_said : (o : Option (ℕ × Link)) (succ : Link) (tx : Draw) (by : ℕ) (outcome : Outcome) (mails : List Mail) → Q mails → Q (released_to o me succ tx by outcome mails)
   released_said None succ tx by outcome mails m = outcome_said by tx succ.group outcome mails m
-  released_said (Some heard) succ tx by outcome mails m = outcome_said by tx heard.1.group outcome (told_outcome me heard.0 tx succ.group outcome mails) (outcome_said heard.0 tx succ.group outcome mails m)
+  released_said (Some heard) succ tx by outcome mails m = outcome_said by tx heard.1.group outcome (outcome_sent me heard.0 tx succ.group outcome mails) (outcome_said heard.0 tx succ.group outcome mails m)
 
   watch_replied : (o : Option Outcome) (vote : Past) (before : Before) (tx : Draw) (by : ℕ) (mails : List Mail) → Q mails → Q (watch_answered_by o vote me before tx by mails)
   watch_replied None vote before tx by mails m = m
@@ -148,11 +148,11 @@ module _ (me : ℕ) (Q : List Mail → Type 0) (t : Talk me Q) where
   went_said group before effect (RecordWatch tx vote by) mails m = watch_replied (decided_in effect) vote before tx by mails m
   went_said group before effect _ mails m = m
 
-  begun_said : (before : Before) (effect : Effect) (command : Command) (mails : List Mail) → Q mails → Q (told_begun me before effect command mails)
-  unfolding told_begun
+  begun_said : (before : Before) (effect : Effect) (command : Command) (mails : List Mail) → Q mails → Q (begun_reported me before effect command mails)
+  unfolding begun_reported
   begun_said before effect command mails m = by (begun_result before.alone effect command)
     where
-      by : (o : Option ToldResult) → Q (told_result me o (spoken_number before.order command) mails)
+      by : (o : Option OrderResult) → Q (result_reported me o (spoken_number before.order command) mails)
       by None = m
       by (Some result) = desk_reported (spoken_number before.order command) result mails m
 
@@ -167,5 +167,5 @@ module _ (me : ℕ) (Q : List Mail → Type 0) (t : Talk me Q) where
   pub spoken_said : (counted : Bool) (group : Group) (before : Before) (effect : Effect) (command : Command) (mails : List Mail) → Q mails → Q (spoken_mails counted me group before effect command mails)
   unfolding spoken_mails
   spoken_said counted group before effect command mails m =
-      either_way Q counted (went_on me group before effect command (told_begun me before effect command mails)) (told_begun me before effect command mails)
-      (went_said group before effect command (told_begun me before effect command mails) (begun_said before effect command mails m)) (begun_said before effect command mails m)
+      either_way Q counted (went_on me group before effect command (begun_reported me before effect command mails)) (begun_reported me before effect command mails)
+      (went_said group before effect command (begun_reported me before effect command mails) (begun_said before effect command mails m)) (begun_said before effect command mails m)

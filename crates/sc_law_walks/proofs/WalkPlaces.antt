@@ -51,7 +51,7 @@ module _ (w : Walk) (Q : List Mail → Type 0) (puts : (me to : ℕ) (body : Mai
   unfolding ended
   ends_at hint answer r mails same k m =
       let t : Talk r.me (λ ms. w.facts.Early (ended_replica hint r) × Q ms) = talk (w.facts.Early (ended_replica hint r)) r.me same in
-      all_dismissed r.me (λ ms. w.facts.Early (ended_replica hint r) × Q ms) t (name_of r) hint answer r.calls (answered_all r.me (name_of r) answer (under_way r) mails)
+      all_dismissed r.me (λ ms. w.facts.Early (ended_replica hint r) × Q ms) t (name_of r) hint answer r.backlog (answered_all r.me (name_of r) answer (under_way r) mails)
       (all_answered r.me (λ ms. w.facts.Early (ended_replica hint r) × Q ms) t (name_of r) answer (under_way r) mails (k, m))
 
   pub flies_at : (slot : ℕ) (set : List ℕ) (command : Command) (r : ReplicaState) (mails : List Mail) → r.me ≡ w.facts.me → r.running ≡ true → slot < next r + slots_ahead → w.facts.Found command → w.facts.Late r → Q mails → f.Late (offered slot set command (r, mails))
@@ -84,11 +84,11 @@ module _ (w : Walk) (Q : List Mail → Type 0) (puts : (me to : ℕ) (body : Mai
       ordered = λ order r mails on good k. (w.states.ordered order r on good k.0, k.1);
       requested = λ client seq op r mails on e k. (w.states.requested client seq op r on e k.0, k.1);
       requested_again = λ client seq other op r mails on e g k. (w.states.requested_again client seq other op r on e g k.0, k.1);
-      turned = λ command answer calls r mails same on e no k. one_answered r.me (λ ms. w.facts.Late (record r { calls = calls }) × Q ms) (talk _ r.me same) r.group.core.id answer command mails (w.states.uncalled command calls r on e k.0, k.1);
+      turned = λ command answer backlog r mails same on e no k. one_answered r.me (λ ms. w.facts.Late (record r { backlog = backlog }) × Q ms) (talk _ r.me same) r.group.core.id answer command mails (w.states.uncalled command backlog r on e k.0, k.1);
       offers_value = λ slot set command r mails same on near free e k. flies_at slot set command r mails same on near (w.states.must_found slot command r e k.0) k.0 k.1;
       offers_noop = λ slot set r mails same on near free k. flies_at slot set Noop r mails same on near w.states.noop_found k.0 k.1;
       offers_act = λ slot set act acts r mails same on near free e k. flies_at slot set act (record r { acts = acts }) mails same on near (w.states.act_found act acts r e k.0) (w.states.unfiled act acts r on e k.0) k.1;
-      offers_call = λ slot set command calls r mails same on near free e k. flies_at slot set command (record r { calls = calls }) mails same on near (w.states.call_found command calls r e k.0) (w.states.uncalled command calls r on e k.0) k.1;
+      offers_call = λ slot set command backlog r mails same on near free e k. flies_at slot set command (record r { backlog = backlog }) mails same on near (w.states.call_found command backlog r e k.0) (w.states.uncalled command backlog r on e k.0) k.1;
     };
     says = record {
       early = λ r same. talk (w.facts.Early r) r.me same;

@@ -1,11 +1,11 @@
 -- What an invariant of replicas and of the mail that they send needs: what holds before a row and after it, and that each part of a row keeps it. The theorems of the walk carry it through all rows of a replica's table.
 use Rattle.std.proofs.Common.{◌≡◌, ℕ, ◌+◌, ◌-◌, ◌<◌, ◌≤◌, nat_le, cond, true, false, List, [], ◌∷◌, ◌++◌, length, Option, Some, None, refl}
-use Rattle.sc_node_table.specs.Values.{Ballot, Draw, Op, Offer, Watch, Command, Noop, Call, GiveUp, Base, ToldResult, Outcome, Past, Vote, AnswerBody, Mail, MailBody, Answer, Prepare, Promise, Accept, Accepted, Nack, Learn, Ask, Install, TxPrepare, TxVote, TxOutcome, TxElsewhere, TxWatch, TxWatched, Told, Chosen, Report}
+use Rattle.sc_node_table.specs.Values.{Ballot, Draw, Op, Offer, Watch, Command, Noop, Call, GiveUp, Base, OrderResult, Outcome, Past, Vote, AnswerBody, Mail, MailBody, Answer, Prepare, Promise, Accept, Accepted, Nack, Learn, Ask, Install, TxPrepare, TxVote, TxOutcome, TxElsewhere, TxWatch, TxWatched, Told, Chosen, Report}
 use Rattle.sc_base.specs.Definitions.{Each, client_actor}
 use Rattle.sc_paxos_words.specs.declared.answers.Must.TheVariants.{Value}
 use Rattle.sc_machine_table.specs.Definitions.{base_of}
 use Rattle.sc_paxos_words.specs.Definitions.{IsAtLeast, reports_from, after_promise, after_accept, may_promise, may_accept, promise_counted, with_flight_at, without_flight_at, entry_at, counted, must, below}
-use Rattle.sc_node_table.specs.Definitions.{entered, named, jumped, ReplicaState, Place, Executed, name_of, next, slots_ahead, at_slot, with_slot, without_slot, put_back, call_of, without_call, has_act, born_replica, installed_replica, flying}
+use Rattle.sc_node_table.specs.Definitions.{entered, named, jumped, ReplicaState, Place, Executed, name_of, next, slots_ahead, at_slot, with_slot, without_slot, put_back, queued_number, without_request, has_act, born_replica, installed_replica, flying}
 use Rattle.sc_law_walks.specs.Definitions.{GoesOn, IsFiledOnMail, IsOrder, IsKept}
 pub use Rattle.sc_law_walks.proofs.PlaceWalks.{elected_replica, ended_replica, IsReported}
 use Rattle.sc_law_walks.proofs.PlaceWalks.{PlaceFacts, Hears as HearsAt}
@@ -48,21 +48,21 @@ pub record States (f : Facts) : Type 0 where
   -- queues
   pub back : (command : Command) (r : ReplicaState) → r.running ≡ true → f.Early r → f.Early (put_back command r)
   pub filed : (act : Command) (r : ReplicaState) → r.running ≡ true → IsFiledOnMail act → has_act act r ≡ false → f.Late r → f.Late (record r { acts = r.acts ++ act ∷ [] })
-  pub ordered : (order : Command) (r : ReplicaState) → r.running ≡ true → IsOrder order → f.Late r → f.Late (record r { calls = r.calls ++ order ∷ [] })
-  pub requested : (client seq : ℕ) (op : Op) (r : ReplicaState) → r.running ≡ true → call_of r.calls client ≡ None → f.Late r → f.Late (record r { calls = r.calls ++ Call client seq op ∷ [] })
-  pub requested_again : (client seq other : ℕ) (op : Op) (r : ReplicaState) → r.running ≡ true → call_of r.calls client ≡ Some other → nat_le seq other ≡ false → f.Late r → f.Late (record r { calls = without_call r.calls client ++ Call client seq op ∷ [] })
+  pub ordered : (order : Command) (r : ReplicaState) → r.running ≡ true → IsOrder order → f.Late r → f.Late (record r { backlog = r.backlog ++ order ∷ [] })
+  pub requested : (client seq : ℕ) (op : Op) (r : ReplicaState) → r.running ≡ true → queued_number r.backlog client ≡ None → f.Late r → f.Late (record r { backlog = r.backlog ++ Call client seq op ∷ [] })
+  pub requested_again : (client seq other : ℕ) (op : Op) (r : ReplicaState) → r.running ≡ true → queued_number r.backlog client ≡ Some other → nat_le seq other ≡ false → f.Late r → f.Late (record r { backlog = without_request r.backlog client ++ Call client seq op ∷ [] })
   pub unfiled : (act : Command) (acts : List Command) (r : ReplicaState) → r.running ≡ true → r.acts ≡ act ∷ acts → f.Late r → f.Late (record r { acts = acts })
-  pub uncalled : (command : Command) (calls : List Command) (r : ReplicaState) → r.running ≡ true → r.calls ≡ command ∷ calls → f.Late r → f.Late (record r { calls = calls })
+  pub uncalled : (command : Command) (backlog : List Command) (r : ReplicaState) → r.running ≡ true → r.backlog ≡ command ∷ backlog → f.Late r → f.Late (record r { backlog = backlog })
   -- what is offered
   pub must_found : (slot : ℕ) (command : Command) (r : ReplicaState) → must slot r.leader ≡ Value command → f.Late r → f.Found command
   pub noop_found : f.Found Noop
   pub act_found : (act : Command) (acts : List Command) (r : ReplicaState) → r.acts ≡ act ∷ acts → f.Late r → f.Found act
-  pub call_found : (command : Command) (calls : List Command) (r : ReplicaState) → r.calls ≡ command ∷ calls → f.Late r → f.Found command
+  pub call_found : (command : Command) (backlog : List Command) (r : ReplicaState) → r.backlog ≡ command ∷ backlog → f.Late r → f.Found command
   pub flown : (slot : ℕ) (command : Command) (r : ReplicaState) → r.running ≡ true → slot < next r + slots_ahead → f.Found command → f.Late r → f.Late (record r { leader = with_flight_at slot command r.leader })
 
 -- That each mail may be said.
 pub record Mails (f : Facts) : Type 0 where
-  pub tells : (number : ℕ) (result : ToldResult) → f.Says 0 (Told number result)
+  pub tells : (number : ℕ) (result : OrderResult) → f.Says 0 (Told number result)
   pub answers : (client : ℕ) (group : Draw) (seq : ℕ) (answer : AnswerBody) → f.Says (client_actor client) (Answer group seq answer)
   pub asks : (to slot : ℕ) (command : Command) (r : ReplicaState) → r.me ≡ f.me → r.running ≡ true → slot < next r + slots_ahead → f.Found command → f.Late r → f.Says to (Accept (name_of r) r.leader.ballot slot command)
   pub polls : (to : ℕ) (r : ReplicaState) → r.me ≡ f.me → f.Early r → f.Says to (Prepare (name_of r) (record { round = r.top.round + 1; node = r.me }) (next r))

@@ -64,9 +64,9 @@ IsAsked (Finish tx outcome) = ⊥
 IsAsked (Watched tx watch) = ⊥
 IsAsked (RecordWatch tx vote by) = ⊥
 
--- a replica that does not run has nothing in flight and nothing queued; what is queued is a command of a transaction in `acts`, and a request or an order in `calls`
+-- a replica that does not run has nothing in flight and nothing queued; what is queued is a command of a transaction in `acts`, and a request or an order in `backlog`
 abbrev pub HoldsQueues : ReplicaState → Type 0
-HoldsQueues r = (r.running ≡ false → (r.leader.flights ≡ []) × (r.acts ≡ []) × (r.calls ≡ [])) × Each IsFiled r.acts × Each IsAsked r.calls
+HoldsQueues r = (r.running ≡ false → (r.leader.flights ≡ []) × (r.acts ≡ []) × (r.backlog ≡ [])) × Each IsFiled r.acts × Each IsAsked r.backlog
 
 -- a replica is that of node `me`, has the members of as many slots as are open, and its queues are as `HoldsQueues` says
 abbrev pub IsKept : ℕ → ReplicaState → Type 0

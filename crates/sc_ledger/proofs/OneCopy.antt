@@ -21,10 +21,10 @@ take_and_drop [] (suc i) = refl
 take_and_drop (x ∷ xs) zero = refl
 take_and_drop (x ∷ xs) (suc i) = ap (λ l. x ∷ l) (take_and_drop xs i)
 
-get_front : (ys zs : List Spot) (j : ℕ) (s : Spot) → slice_get ys j ≡ Some s → slice_get (ys ++ zs) j ≡ Some s
-get_front [] zs j s e = absurd (none-some s e)
-get_front (y ∷ ys) zs zero s e = e
-get_front (y ∷ ys) zs (suc j) s e = get_front ys zs j s e
+get_prefix : (ys zs : List Spot) (j : ℕ) (s : Spot) → slice_get ys j ≡ Some s → slice_get (ys ++ zs) j ≡ Some s
+get_prefix [] zs j s e = absurd (none-some s e)
+get_prefix (y ∷ ys) zs zero s e = e
+get_prefix (y ∷ ys) zs (suc j) s e = get_prefix ys zs j s e
 
 get_behind : (xs ys : List Spot) (j n : ℕ) → n ≡ length xs + j → slice_get (xs ++ ys) n ≡ slice_get ys j
 get_behind [] ys j n e = ap (slice_get ys) (omega (arith, e))
@@ -214,20 +214,20 @@ module _ (receivers : List ℕ) where
         → slice_get (kept (spots es)) n ≡ Some (spot_behind receivers (spots (take i es)) (get_or es i (0, 0)).0 left)
     found_here es i lt passes left n less at =
         let e = get_or es i (0, 0) in
-        let front = take i es in
-        let m = own (spots front) (to e.0) in
-        let whole : es ≡ (front ++ e ∷ []) ++ drop (i + 1) es =
-        take_and_drop es i ∙ (ap (λ l. front ++ l) (drop_more es i (0, 0) lt)
-        ∙ sym (append_assoc front (e ∷ []) (drop (i + 1) es))) in
-        let behind = spots_behind (front ++ e ∷ []) (drop (i + 1) es) in
-        let parts : kept (spots es) ≡ (kept (spots front) ++ run e.0 m e.1) ++ kept behind.0 =
+        let prefix = take i es in
+        let m = own (spots prefix) (to e.0) in
+        let whole : es ≡ (prefix ++ e ∷ []) ++ drop (i + 1) es =
+        take_and_drop es i ∙ (ap (λ l. prefix ++ l) (drop_more es i (0, 0) lt)
+        ∙ sym (append_assoc prefix (e ∷ []) (drop (i + 1) es))) in
+        let behind = spots_behind (prefix ++ e ∷ []) (drop (i + 1) es) in
+        let parts : kept (spots es) ≡ (kept (spots prefix) ++ run e.0 m e.1) ++ kept behind.0 =
         ap (λ l. kept (spots l)) whole
-        ∙ (ap kept (behind.1 ∙ ap (λ l. l ++ behind.0) (spots_more front e))
-        ∙ (filter-append (λ (s : Spot). p s.who) (spots front ++ run e.0 m e.1) behind.0
-        ∙ ap (λ l. l ++ kept behind.0) (filter-append (λ (s : Spot). p s.who) (spots front) (run e.0 m e.1) ∙ ap (λ l. kept (spots front) ++ l) (kept_run e.0 m e.1 true passes)))) in
+        ∙ (ap kept (behind.1 ∙ ap (λ l. l ++ behind.0) (spots_more prefix e))
+        ∙ (filter-append (λ (s : Spot). p s.who) (spots prefix ++ run e.0 m e.1) behind.0
+        ∙ ap (λ l. l ++ kept behind.0) (filter-append (λ (s : Spot). p s.who) (spots prefix) (run e.0 m e.1) ∙ ap (λ l. kept (spots prefix) ++ l) (kept_run e.0 m e.1 true passes)))) in
         ap (λ l. slice_get l n) parts
-        ∙ get_front (kept (spots front) ++ run e.0 m e.1) (kept behind.0) n (copy_of e.0 (m + left + 1))
-        (get_behind (kept (spots front)) (run e.0 m e.1) left n (omega (arith, at)) ∙ get_run e.0 m e.1 left less)
+        ∙ get_prefix (kept (spots prefix) ++ run e.0 m e.1) (kept behind.0) n (copy_of e.0 (m + left + 1))
+        (get_behind (kept (spots prefix)) (run e.0 m e.1) left n (omega (arith, at)) ∙ get_run e.0 m e.1 left less)
 
     within_share : (asked : Bool) (left count share : ℕ) → share ≡ cond asked count 0 → left < share → (asked ≡ true) × (left < count)
     within_share true left count share is less = (refl, omega (arith, is, less))

@@ -1,7 +1,7 @@
 pub mod Pending
 pub mod Kept
 pub mod Homes
-pub mod Fault
+pub mod PostErrors
 pub mod Spots
 pub mod Queues
 pub mod Definitions

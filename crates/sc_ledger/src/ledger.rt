@@ -5,7 +5,7 @@ ghost use Rattle.std.proofs.Props.{props};
 ghost use Rattle.sc_actor.specs.Mail.{mails, copies, numbered, numbers};
 ghost use Rattle.sc_actor.specs.System.{kth};
 ghost use Rattle.sc_actor.specs.Counted.{row_bytes, journal_bytes};
-ghost use Rattle.sc_ledger.specs.Fault.{IsCause};
+ghost use Rattle.sc_ledger.specs.PostErrors.{IsCause};
 ghost use Rattle.sc_ledger.specs.Kept.{crashed_in, counts_for};
 ghost use Rattle.sc_ledger.specs.Pending.{kth_pending, is_pending, may_repeat};
 ghost use Rattle.sc_ledger.specs.Homes.{homes_from, firsts_from};
@@ -13,7 +13,7 @@ ghost use Rattle.sc_ledger.specs.Queues.{Holds};
 ghost use Rattle.sc_ledger.specs.Spots.{copies_for, picked_spot, spots_from, spots_of};
 
 use crate::counting::{bytes_with, note_home};
-use crate::faults::{PostFault, Unkept};
+use crate::errors::{PostError, Unkept};
 use crate::finding::{has_copy, kth_open, open_numbers, runs};
 use crate::picking::picked_of;
 use crate::plain::kth_after;
@@ -378,11 +378,11 @@ impl<M: Parcel + Drop, O: Drop> Ledger<M, O> {
     {
         let bytes = bytes_with(row.sent.as_slice(), self.bytes);
         if bytes > limit {
-            let why = PostFault::JournalFull { bytes: self.bytes };
+            let why = PostError::JournalFull { bytes: self.bytes };
             return Err(Unkept { why, row });
         }
         if self.make_room(row.sent.len()).is_err() {
-            let why = PostFault::OutOfMemory;
+            let why = PostError::OutOfMemory;
             return Err(Unkept { why, row });
         }
         self.keep(row, bytes);

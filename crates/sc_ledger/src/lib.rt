@@ -4,7 +4,7 @@
 
 mod copies;
 mod counting;
-mod faults;
+mod errors;
 mod finding;
 mod ledger;
 mod picking;
@@ -12,6 +12,6 @@ mod plain;
 mod queues;
 mod spots;
 
-pub use faults::{PostFault, Unkept};
+pub use errors::{PostError, Unkept};
 pub use ledger::Ledger;
 pub use spots::{Glance, Look, Spot};

@@ -3,7 +3,7 @@ use Rattle.std.specs.Prelude.{ℕ, ◌==◌, ◌&&◌, nat_le, nat_lt, Bool, tru
 use Rattle.std.specs.Option.{option_map, option_or}
 use Rattle.sc_lines.specs.Words.{same, nth}
 use Rattle.sc_lines.specs.declared.kinds.Kind.{Kind}
-use Rattle.sc_lines.specs.declared.kinds.Kind.TheVariants.{Header, Nodes, Group, Policy, Client, End, Asking, Playing, Telling}
+use Rattle.sc_lines.specs.declared.kinds.Kind.TheVariants.{Header, Nodes, Group, Policy, Client, End, Asking, Playing, GivingOrder}
 use Rattle.sc_lines.specs.declared.kinds.RequestKind.{RequestKind}
 use Rattle.sc_lines.specs.declared.kinds.RequestKind.TheVariants as ask
 use Rattle.sc_lines.specs.declared.kinds.LineKind.{LineKind}
@@ -68,7 +68,7 @@ first_kind version word = option_or (part_kind word) (option_or (option_map Aski
 -- the kind of a line with these words
 abbrev pub kind_of : ℕ → List (List ℕ) → Option Kind
 kind_of version words =
-    if same (nth words 0) (codes "order") then option_map Telling (order_kind words)
+    if same (nth words 0) (codes "order") then option_map GivingOrder (order_kind words)
     else first_kind version (nth words 0)
 
 -- the phase of a kind; lines are in the order of their phases
@@ -81,7 +81,7 @@ phase_of Client = 4
 phase_of End = 4
 phase_of (Asking kind) = 4
 phase_of (Playing kind) = 5
-phase_of (Telling kind) = 5
+phase_of (GivingOrder kind) = 5
 
 -- whether a line of this kind is inside a client's section, and nowhere else
 abbrev pub is_inner : Kind → Bool
@@ -93,7 +93,7 @@ is_inner Client = false
 is_inner End = true
 is_inner (Asking kind) = true
 is_inner (Playing kind) = false
-is_inner (Telling kind) = false
+is_inner (GivingOrder kind) = false
 
 -- the number of words of a request
 abbrev pub request_count : RequestKind → ℕ
@@ -135,4 +135,4 @@ has_count Client count = count == 2
 has_count End count = count == 1
 has_count (Asking kind) count = count == request_count kind
 has_count (Playing kind) count = count == line_count kind
-has_count (Telling kind) count = has_order_count kind count
+has_count (GivingOrder kind) count = has_order_count kind count

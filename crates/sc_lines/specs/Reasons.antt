@@ -1,7 +1,7 @@
 -- The reasons why a line is bad.
 use Rattle.std.specs.Prelude.{◌≡◌, ⊤, ℕ, List, codes, Option, Some, None, Result, Ok, Err, MatchResult}
-use Rattle.sc_lines.specs.declared.reasons.LineFault.{LineFault}
-use Rattle.sc_lines.specs.declared.reasons.LineFault.TheVariants.{Bad, OutOfMemory}
+use Rattle.sc_lines.specs.declared.reasons.LineError.{LineError}
+use Rattle.sc_lines.specs.declared.reasons.LineError.TheVariants.{Bad, OutOfMemory}
 use Rattle.sc_lines.specs.declared.reasons.Reason.{Reason}
 use Rattle.sc_lines.specs.declared.reasons.Reason.TheVariants.{MissingHeader, BadByte, UnknownWord, OutOfPlace, WrongCount, BadNumber, BadKey, BadValue, UnknownName, Repeated, BadBoundary, TooMany, UnendedClient, MissingPart, TooLarge, MissingJournal, BadRow, FileTooLarge}
 
@@ -58,10 +58,10 @@ then_on (Ok x) onward = onward x
 then_on (Err reason) onward = Err reason
 
 -- an error agrees with what a line says: a reason is the one why the line is bad, and out of memory says nothing of the line
-abbrev pub HasReason : {X : Type 0} → Result X Reason → LineFault → Type 0
+abbrev pub HasReason : {X : Type 0} → Result X Reason → LineError → Type 0
 HasReason said (Bad reason) = said ≡ Err reason
 HasReason said OutOfMemory = ⊤
 
 -- a call returns what a line says, or an error that agrees with it
-abbrev pub IsSaid : {X : Type 0} → Result X Reason → Result X LineFault → Type 0
-IsSaid said result = MatchResult result (λ x. said ≡ Ok x) (λ fault. HasReason said fault)
+abbrev pub IsSaid : {X : Type 0} → Result X Reason → Result X LineError → Type 0
+IsSaid said result = MatchResult result (λ x. said ≡ Ok x) (λ error. HasReason said error)

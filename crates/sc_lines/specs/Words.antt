@@ -2,7 +2,7 @@
 use Rattle.std.specs.Prelude.{ℕ, ◌==◌, ◌||◌, not, nat_le, nat_eq, Bool, get_or, List, [], length, Option, Some, None, is_none, if◌then◌else◌, option_and_then}
 use Rattle.std.specs.List.{slice_split, filter}
 use Rattle.std.specs.Cmp.Lexicographic.{pointwise}
-use Rattle.sc_base.specs.Definitions.{number_of, longest_key, longest_value, text_fault}
+use Rattle.sc_base.specs.Definitions.{number_of, longest_key, longest_value, text_error}
 
 -- whether two texts are equal
 abbrev pub same : List ℕ → List ℕ → Bool
@@ -30,8 +30,8 @@ count_in most word = option_and_then (λ n. if nat_le 1 n then Some n else None)
 
 -- the key that a word spells, if it spells one
 abbrev pub key_in : List ℕ → Option (List ℕ)
-key_in word = if is_none (text_fault longest_key word) then Some word else None
+key_in word = if is_none (text_error longest_key word) then Some word else None
 
 -- the value that a word spells, if it spells one
 abbrev pub value_in : List ℕ → Option (List ℕ)
-value_in word = if is_none (text_fault longest_value word) then Some word else None
+value_in word = if is_none (text_error longest_value word) then Some word else None

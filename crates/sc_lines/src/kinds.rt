@@ -18,7 +18,7 @@ pub enum Kind {
     /// A line of the schedule that is no order.
     Playing(LineKind),
     /// An order, which is a line of the schedule.
-    Telling(OrderKind),
+    GivingOrder(OrderKind),
 }
 
 /// The kind of a request of a client.
@@ -173,7 +173,7 @@ pub fn kind_of(version: u8, words: &[&[u8]]) -> Option<Kind>
 {
     if is_text(nth(words, 0), b"order") {
         return match order_kind(words) {
-            Some(kind) => Some(Kind::Telling(kind)),
+            Some(kind) => Some(Kind::GivingOrder(kind)),
             None => None,
         };
     }
@@ -191,7 +191,7 @@ pub fn phase_of(kind: Kind) -> u8
         Kind::Group => 2,
         Kind::Policy => 3,
         Kind::Client | Kind::End | Kind::Asking(_) => 4,
-        Kind::Playing(_) | Kind::Telling(_) => 5,
+        Kind::Playing(_) | Kind::GivingOrder(_) => 5,
     }
 }
 
@@ -202,7 +202,7 @@ pub fn is_inner(kind: Kind) -> bool
     match kind {
         Kind::End | Kind::Asking(_) => true,
         Kind::Header | Kind::Nodes | Kind::Group | Kind::Policy | Kind::Client => false,
-        Kind::Playing(_) | Kind::Telling(_) => false,
+        Kind::Playing(_) | Kind::GivingOrder(_) => false,
     }
 }
 
@@ -246,6 +246,6 @@ pub fn has_count(kind: Kind, count: usize) -> bool
         Kind::Policy | Kind::End => count == 1,
         Kind::Asking(kind) => count == request_count(kind),
         Kind::Playing(kind) => count == line_count(kind),
-        Kind::Telling(kind) => has_order_count(kind, count),
+        Kind::GivingOrder(kind) => has_order_count(kind, count),
     }
 }

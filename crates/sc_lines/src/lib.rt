@@ -12,6 +12,6 @@ mod words;
 pub use kinds::{Kind, LineKind, OrderKind, RequestKind, has_count, is_inner, kind_of, phase_of};
 pub use lines::{has_bad_byte, is_skipped, next_line, trimmed};
 pub use pieces::{dotted_parts, words_of};
-pub use reasons::{LineFault, Reason};
+pub use reasons::{LineError, Reason};
 pub use requests::request_in;
 pub use words::{count_in, is_text, nth, rest};

@@ -1,7 +1,7 @@
 //! The reasons why a line is bad.
 ghost use Rattle.std.specs.Prelude.{◌≡◌};
 ghost use Rattle.sc_lines.specs.Reasons.{reason_code, reason_text};
-ghost use Rattle.sc_lines.specs.declared.reasons.LineFault.TheVariants.{Bad, OutOfMemory};
+ghost use Rattle.sc_lines.specs.declared.reasons.LineError.TheVariants.{Bad, OutOfMemory};
 
 use sc_base;
 use std::alloc::AllocError;
@@ -107,33 +107,33 @@ impl Reason {
 
 /// The error of a line from which nothing was read.
 #[derive(Clone, Copy)]
-pub enum LineFault {
+pub enum LineError {
     /// The line is bad, for this reason.
     Bad(Reason),
     /// There was no memory left.
     OutOfMemory,
 }
 
-impl From<Reason> for LineFault {
+impl From<Reason> for LineError {
     ghost from_gives = { λ reason e. e ≡ Bad reason };
 
-    fn from(reason: Reason) -> LineFault {
-        LineFault::Bad(reason)
+    fn from(reason: Reason) -> LineError {
+        LineError::Bad(reason)
     }
 }
 
-impl From<sc_base::OutOfMemory> for LineFault {
+impl From<sc_base::OutOfMemory> for LineError {
     ghost from_gives = { λ _ e. e ≡ OutOfMemory };
 
-    fn from(_e: sc_base::OutOfMemory) -> LineFault {
-        LineFault::OutOfMemory
+    fn from(_e: sc_base::OutOfMemory) -> LineError {
+        LineError::OutOfMemory
     }
 }
 
-impl From<AllocError> for LineFault {
+impl From<AllocError> for LineError {
     ghost from_gives = { λ _ e. e ≡ OutOfMemory };
 
-    fn from(_e: AllocError) -> LineFault {
-        LineFault::OutOfMemory
+    fn from(_e: AllocError) -> LineError {
+        LineError::OutOfMemory
     }
 }

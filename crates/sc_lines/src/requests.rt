@@ -4,14 +4,14 @@ ghost use Rattle.sc_lines.specs.Reasons.{IsSaid};
 ghost use Rattle.sc_lines.specs.Requests.{request_in};
 
 use crate::kinds::RequestKind;
-use crate::reasons::{LineFault, Reason};
+use crate::reasons::{LineError, Reason};
 use crate::words::{key_in, nth, value_in};
 use sc_base::Op;
 use std::alloc::Global;
 
 /// Returns the request of this kind that a line spells. The error is `BadKey` or `BadValue`, by
 /// the first word that spells no key or value.
-pub fn request_in(alloc: Global, kind: RequestKind, words: &[&[u8]]) -> Result<Op, LineFault>
+pub fn request_in(alloc: Global, kind: RequestKind, words: &[&[u8]]) -> Result<Op, LineError>
     ensures { IsSaid (request_in kind (map (λ word. word.now) words.now)) result }
 {
     let key = key_in(alloc, nth(words, 1))?.ok_or(Reason::BadKey)?;

@@ -2,7 +2,7 @@
 ghost use Rattle.std.specs.Prelude.{◌≡◌, ◌≤◌, map, drop, IfOk, IfSome};
 ghost use Rattle.sc_lines.specs.Words.{same, nth, count_in, key_in, value_in};
 
-use sc_base::{Key, KeyFault, OutOfMemory, Value, read_number};
+use sc_base::{Key, KeyError, OutOfMemory, Value, read_number};
 use std::alloc::Global;
 
 /// Returns whether two texts are equal.
@@ -43,8 +43,8 @@ pub(crate) fn key_in(alloc: Global, word: &[u8]) -> Result<Option<Key>, OutOfMem
 {
     match Key::try_new(alloc, word) {
         Ok(key) => Ok(Some(key)),
-        Err(KeyFault::OutOfMemory) => Err(OutOfMemory),
-        Err(KeyFault::Empty | KeyFault::TooLong { .. } | KeyFault::BadByte { .. }) => Ok(None),
+        Err(KeyError::OutOfMemory) => Err(OutOfMemory),
+        Err(KeyError::Empty | KeyError::TooLong { .. } | KeyError::BadByte { .. }) => Ok(None),
     }
 }
 
@@ -54,7 +54,7 @@ pub(crate) fn value_in(alloc: Global, word: &[u8]) -> Result<Option<Value>, OutO
 {
     match Value::try_new(alloc, word) {
         Ok(value) => Ok(Some(value)),
-        Err(KeyFault::OutOfMemory) => Err(OutOfMemory),
-        Err(KeyFault::Empty | KeyFault::TooLong { .. } | KeyFault::BadByte { .. }) => Ok(None),
+        Err(KeyError::OutOfMemory) => Err(OutOfMemory),
+        Err(KeyError::Empty | KeyError::TooLong { .. } | KeyError::BadByte { .. }) => Ok(None),
     }
 }

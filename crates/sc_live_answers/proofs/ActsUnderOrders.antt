@@ -49,8 +49,8 @@ has_work r (slot, command, low, inl flew, act) =
     let w = act_works command act in
     let f = flies command (flight_at slot r.leader.flights) flew in
     let there = flight_among w.0 r.leader.flights f.0 (find_found (λ (flight : Flight Command). eqb flight.slot slot) r.leader.flights f.0 f.1).0 (ap work_by f.2 ∙ w.1) in
-    (w.0, among-right w.0 (works_in r.acts) (works_in r.calls ++ (works_flying r.leader.flights ++ works_ready r.ready)) (among-right w.0 (works_in r.calls) (works_flying r.leader.flights ++ works_ready r.ready) (among-left w.0 (works_flying r.leader.flights) (works_ready r.ready) there)))
+    (w.0, among-right w.0 (works_in r.acts) (works_in r.backlog ++ (works_flying r.leader.flights ++ works_ready r.ready)) (among-right w.0 (works_in r.backlog) (works_flying r.leader.flights ++ works_ready r.ready) (among-left w.0 (works_flying r.leader.flights) (works_ready r.ready) there)))
 has_work r (slot, command, low, inr ready, act) =
     let w = act_works command act in
     let there = ready_among w.0 command slot r.ready ready w.1 in
-    (w.0, among-right w.0 (works_in r.acts) (works_in r.calls ++ (works_flying r.leader.flights ++ works_ready r.ready)) (among-right w.0 (works_in r.calls) (works_flying r.leader.flights ++ works_ready r.ready) (among-right w.0 (works_flying r.leader.flights) (works_ready r.ready) there)))
+    (w.0, among-right w.0 (works_in r.acts) (works_in r.backlog ++ (works_flying r.leader.flights ++ works_ready r.ready)) (among-right w.0 (works_in r.backlog) (works_flying r.leader.flights ++ works_ready r.ready) (among-right w.0 (works_flying r.leader.flights) (works_ready r.ready) there)))

@@ -5,7 +5,7 @@ use Rattle.std.specs.Option.{option_map}
 use Rattle.std.specs.List.{filter, list_any}
 use Rattle.std.proofs.lemmas.Bool.{cond_both, and_parts}
 use Rattle.sc_base.specs.Definitions.{Among, Each, is_member, least_of}
-use Rattle.sc_node_table.specs.Values.{Ballot, Draw, Command, Call, Base, Effect, Route, ToldResult, AnswerBody, Mail, Prepare, Accept, Learn, Install, Must, Flight, Report}
+use Rattle.sc_node_table.specs.Values.{Ballot, Draw, Command, Call, Base, Effect, Route, OrderResult, AnswerBody, Mail, Prepare, Accept, Learn, Install, Must, Flight, Report}
 use Rattle.sc_mail.specs.declared.bodies.AnswerBody.TheVariants as Answers
 use Rattle.sc_law_entries.proofs.HistoryProofs.Lemmas.{applied_same}
 use Rattle.sc_machine_table.specs.Definitions.{child_by, Group, base_of, applied}
@@ -15,7 +15,7 @@ use Rattle.sc_paxos_law.proofs.Lemmas.{among-member}
 use Rattle.sc_paxos_words.specs.declared.answers.Must.TheVariants.{Free as Open}
 use Rattle.sc_paxos_words.specs.Definitions.{below, LeaderState, must, must_without, flight_at, without_flight_at, names_above, chosen_value}
 use Rattle.sc_paxos_words.proofs.Lemmas.{Each-append}
-use Rattle.sc_node_table.specs.Definitions.{open_nodes, elected, ended, stopped, saw, entered, answer_of, told_call, order_result, told_effect, announced, learnt_to, welcomed, slot_lost, landed, left_gone, left, is_among, looked_for, looked, executed_one, child_at, next_child, has_room, next_ready, ending, executed_ready, executed, install_to, asked_to_promise, welcomed_all, sent, answered_all, sent_others, order_number, Found, is_act, next_call, from_calls, from_acts, from_queues, found_by, found_for, offered, pumped_from, pumped, ReplicaState, Place, Executed, childless, name_of, next, members, flying, settled, may_offer, first_set, listed, taken_at, taken_from, under_way, is_idle, open_slots, last_slot, forgotten, at_slot, without_slot, before_of, spoken}
+use Rattle.sc_node_table.specs.Definitions.{open_nodes, elected, ended, stopped, saw, entered, answer_of, answered_or_put_back, order_result, effect_reported, announced, learnt_to, welcomed, slot_lost, landed, left_gone, left, is_among, looked_for, looked, executed_one, child_at, next_child, has_room, next_ready, ending, executed_ready, executed, install_to, asked_to_promise, welcomed_all, sent, answered_all, sent_others, order_number, Found, is_act, next_queued, from_backlog, from_acts, from_queues, found_by, found_for, offered, pumped_from, pumped, ReplicaState, Place, Executed, childless, name_of, next, members, flying, settled, may_offer, first_set, listed, taken_at, taken_from, under_way, is_idle, open_slots, last_slot, forgotten, at_slot, without_slot, before_of, spoken}
 use Rattle.sc_node_table.specs.declared.Before.{Before}
 use Rattle.sc_law_walks.proofs.Lemmas.{executed_place, either_way}
 use Rattle.sc_live_answers.proofs.Affairs.{Affair, AreGood}
@@ -36,7 +36,7 @@ module _ (a : Affair) (g : Draw) where
 
   -- a replica of the group: no request waits, all that waits, is in flight or is ready stands there, and so is its state; and no promise that is counted had reports
   abbrev pub Held : ReplicaState → Type 0
-  Held r = (name_of r ≡ g) × (r.calls ≡ []) × AllDo r.acts × Fly r.leader.flights × Wait r.ready × a.Is g r.group.core × (r.running ≡ true → r.leader.reports ≡ [])
+  Held r = (name_of r ≡ g) × (r.backlog ≡ []) × AllDo r.acts × Fly r.leader.flights × Wait r.ready × a.Is g r.group.core × (r.running ≡ true → r.leader.reports ≡ [])
 
   -- a replica of the group with the mail that it sends
   abbrev pub Fine : Place → Type 0
@@ -77,7 +77,7 @@ module _ (a : Affair) (g : Draw) where
   unfolding ended
   ended_fine hint answer (r, mails) f = (
     (f.0.0, refl, tt, tt, tt, f.0.5, (λ on. refl)),
-    none_dismissed a r.me (name_of r) hint answer r.calls (answered_all r.me (name_of r) answer (under_way r) mails) f.0.1
+    none_dismissed a r.me (name_of r) hint answer r.backlog (answered_all r.me (name_of r) answer (under_way r) mails) f.0.1
         (all_answered a r.me g (name_of r) answer (under_way r) mails (slots_do r (open_slots r) f.0) f.1),
   )
 
@@ -99,10 +99,10 @@ module _ (a : Affair) (g : Draw) where
   abbrev Finds : Found → Type 0
   Finds found = Cmd found.0 × Pumps found.1
 
-  calls_find : (r : ReplicaState) (mails : List Mail) → Pumps (r, mails) → Finds (from_calls (r, mails))
-  unfolding from_calls next_call
+  calls_find : (r : ReplicaState) (mails : List Mail) → Pumps (r, mails) → Finds (from_backlog (r, mails))
+  unfolding from_backlog next_queued
   calls_find r mails k =
-      subst (λ (cs : List Command). (let found = next_call r.me (is_idle r) r.group.core cs mails in Finds (found.0, (record r { calls = found.1 }, found.2)))) (sym k.0.0.1)
+      subst (λ (cs : List Command). (let found = next_queued r.me (is_idle r) r.group.core cs mails in Finds (found.0, (record r { backlog = found.1 }, found.2)))) (sym k.0.0.1)
       (tt, (((k.0.0.0, refl, k.0.0.2, k.0.0.3, k.0.0.4, k.0.0.5, k.0.0.6), k.0.1), k.1))
 
   acts_find : (acts : List Command) (r : ReplicaState) (mails : List Mail) → AllDo acts → Pumps (r, mails) → Finds (from_acts acts (r, mails))
@@ -198,23 +198,23 @@ module _ (a : Affair) (g : Draw) where
         either_way (Goes counted after) counted (welcomed_all (filter (λ node. not (is_member before node)) (members r)) (r, mails)) (r, mails)
         (none_welcomed (filter (λ node. not (is_member before node)) (members r)) (r, mails) none k) k
 
-    call_goes : (answer : Option AnswerBody) (command : Command) (place : Place) → Does command → Goes counted after place → Goes counted after (told_call answer command place)
-    unfolding told_call
-    call_goes (Some answer) (Call client seq op) (r, mails) d k = absurd (a.calls g client seq op d)
-    call_goes None (Call client seq op) (r, mails) d k = absurd (a.calls g client seq op d)
+    call_goes : (answer : Option AnswerBody) (command : Command) (place : Place) → Does command → Goes counted after place → Goes counted after (answered_or_put_back answer command place)
+    unfolding answered_or_put_back
+    call_goes (Some answer) (Call client seq op) (r, mails) d k = absurd (a.backlog g client seq op d)
+    call_goes None (Call client seq op) (r, mails) d k = absurd (a.backlog g client seq op d)
     call_goes (Some answer) _ place d k = k
     call_goes None _ place d k = k
 
-    effect_goes : (result : Option ToldResult) (command : Command) (place : Place) → Goes counted after place → Goes counted after (told_effect result command place)
-    unfolding told_effect
+    effect_goes : (result : Option OrderResult) (command : Command) (place : Place) → Goes counted after place → Goes counted after (effect_reported result command place)
+    unfolding effect_reported
     effect_goes None command place k = k
     effect_goes (Some result) command (r, mails) k = ((k.0.0, desk_reported a r.me (order_number command) result mails k.0.1), k.1, k.2)
 
     announced_goes : (effect : Effect) (command : Command) (place : Place) → Does command → Goes counted after place → Goes counted after (announced counted effect command place)
     unfolding announced
     announced_goes effect command place d k =
-        effect_goes (order_result command effect) command (cond counted (told_call (answer_of effect) command place) place)
-        (either_way (Goes counted after) counted (told_call (answer_of effect) command place) place (call_goes (answer_of effect) command place d k) k)
+        effect_goes (order_result command effect) command (cond counted (answered_or_put_back (answer_of effect) command place) place)
+        (either_way (Goes counted after) counted (answered_or_put_back (answer_of effect) command place) place (call_goes (answer_of effect) command place d k) k)
 
     spoken_goes : (before : Before) (effect : Effect) (command : Command) (place : Place) → Does command → Goes counted after place → Goes counted after (spoken counted before effect command place)
     unfolding spoken

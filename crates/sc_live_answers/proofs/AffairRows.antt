@@ -11,7 +11,7 @@ use Rattle.sc_paxos_words.specs.declared.answers.PrepareAnswer.TheVariants as Pr
 use Rattle.sc_paxos_words.specs.declared.answers.AcceptAnswer.TheVariants as Asked
 use Rattle.sc_paxos_words.specs.Definitions.{prepared, accepted as accepted_by, AcceptorState, below, LeaderState, flight_at, promise_counted, counted, tallied, vote_at, voters_after, kept_voters}
 use Rattle.sc_paxos_words.proofs.Lemmas.{Each-append}
-use Rattle.sc_node_table.specs.Definitions.{has_act, act_queued, ended, stopped, saw, looked, executed, has_room, install_to, named, jumped, sent, pumped, ReplicaState, Place, Executed, childless, name_of, next, members, settled, set_at, last_slot, forgotten, installed_replica, learn_row, looked_up, took_over, install_row, mailed, made_by, with_slot, asked_next, noted_outcome, standing_vote, sent_elsewhere, offered_by, offer_row, watched_by, watch_row, awaits_vote, awaits_watch, told_outcome, vote_met, vote_row, watch_met, watched_row, elsewhere_row, is_bound, outcome_row, hinted, promise_to, promised, prepare_row, accepted_to, took, accept_row, leads, promise_row, readied, vote_tallied, voted, accepted_row, nack_row}
+use Rattle.sc_node_table.specs.Definitions.{has_act, act_queued, ended, stopped, saw, looked, executed, has_room, install_to, named, jumped, sent, pumped, ReplicaState, Place, Executed, childless, name_of, next, members, settled, set_at, last_slot, forgotten, installed_replica, learn_row, looked_up, took_over, install_row, mailed, made_by, with_slot, asked_next, noted_outcome, standing_vote, sent_elsewhere, offered_by, offer_row, watched_by, watch_row, awaits_vote, awaits_watch, outcome_sent, vote_met, vote_row, watch_met, watched_row, elsewhere_row, is_bound, outcome_row, hinted, promise_to, promised, prepare_row, accepted_to, took, accept_row, leads, promise_row, readied, vote_tallied, voted, accepted_row, nack_row}
 use Rattle.sc_law_walks.proofs.Lemmas.{either_way}
 use Rattle.sc_live_answers.proofs.Affairs.{Affair}
 use Rattle.sc_live_answers.proofs.WorkMail.{one_sent, next_one_asked, vote_reported, watch_reported, outcome_said}
@@ -259,7 +259,7 @@ module _ (a : Affair) (g : Draw) where
   files : (act : Command) (wanted : Bool) (r : ReplicaState) (mails : List Mail) → Does a g act → F (r, mails) → F (cond (r.running && wanted) (act_queued act (r, mails)) (r, mails))
   files act wanted r mails d f = either_way F (r.running && wanted) (act_queued act (r, mails)) (r, mails) (queued_act act (r, mails) d f) f
 
-  outcome_told : (from : ℕ) (tx part : Draw) (outcome : Outcome) (place : Place) → F place → F (place.0, told_outcome place.0.me from tx part outcome place.1)
+  outcome_told : (from : ℕ) (tx part : Draw) (outcome : Outcome) (place : Place) → F place → F (place.0, outcome_sent place.0.me from tx part outcome place.1)
   outcome_told from tx part outcome (r, mails) f = (f.0, outcome_said a r.me from tx part outcome mails f.1)
 
   vote_met_fine : (vote : Vote) (o : Option Outcome) (from : ℕ) (tx part : Draw) (place : Place) → a.Parts → F place → F (vote_met vote o from tx part place)

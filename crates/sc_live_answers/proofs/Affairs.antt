@@ -11,7 +11,7 @@ pub record Affair : Type 1 where
   pub Does : Draw → Command → Type 0
   pub Is : Draw → Core → Type 0
   pub Creates : Draw → Base → Type 0
-  pub calls : (name : Draw) (client seq : ℕ) (op : Op) → Does name (Call client seq op) → ⊥
+  pub backlog : (name : Draw) (client seq : ℕ) (op : Op) → Does name (Call client seq op) → ⊥
   pub entered : (name : Draw) (group : Group) (command : Command) → Is name group.core → Does name command → Is name (applied group command).0.core
   pub creation : (name : Draw) (group : Group) (command : Command) (child : Base) → Is name group.core → Does name command → child_by group command ≡ Some child → Creates name child
   pub adds : (name : Draw) (group : Group) (command : Command) → Is name group.core → Does name command

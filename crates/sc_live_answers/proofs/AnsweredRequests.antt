@@ -7,7 +7,7 @@ use Rattle.std.proofs.lemmas.Option.{slice_get_within, slice_get_cases}
 use Rattle.sc_base.specs.Definitions.{Among, client_actor}
 use Rattle.sc_node_table.specs.Values.{Reply, Base, OrderLine, Mail, Seat, Row, Line}
 use Rattle.sc_actor.specs.declared.schedules.Line.TheVariants as line
-use Rattle.sc_actor.specs.Definitions.{value, System, has_gone, IsLawful, is_quiet, unsettled}
+use Rattle.sc_actor.specs.Definitions.{value, System, has_started, IsLawful, is_quiet, unsettled}
 use Rattle.sc_actor.proofs.Lemmas.{lawful-prefix}
 use Rattle.sc_client_table.specs.Definitions.{Client as ClientState}
 use Rattle.sc_node_table.specs.Definitions.{numbers_from}
@@ -56,12 +56,12 @@ module _ (sound_law : ValidJournalsAreSound) (words : ℕ → ℕ → ℕ × ℕ
   ]
 
   -- where the client had started in a prefix that is as a quiet journal, all its requests are answered
-  pub answered_since : (before after : Rows) → journal ≡ before ++ after → IsQuietJournal words scenario s.first before → has_gone before (client_actor asks.client) ≡ true
+  pub answered_since : (before after : Rows) → journal ≡ before ++ after → IsQuietJournal words scenario s.first before → has_started before (client_actor asks.client) ≡ true
       → (first : Base) (others : List Base) → scenario.groups ≡ first ∷ others → length (kept_replies (route_of first) asks journal) ≡ length asks.ops
   answered_since before after rows_are quiet gone first others groups =
       let seat : Seat Player = client_seat (route_of s.first) asks in
       let player = quiet.players asks a in
-      let answer = Each-among (λ (client : Bool × ClientState). IsAnswered client.0 (route_of s.first) client.1) quiet.clients (has_gone before (client_actor asks.client), player.0) quiet.quiet.answered player.4 in
+      let answer = Each-among (λ (client : Bool × ClientState). IsAnswered client.0 (route_of s.first) client.1) quiet.clients (has_started before (client_actor asks.client), player.0) quiet.quiet.answered player.4 in
       let all = (subst (λ b. IsAnswered b (route_of s.first) player.0) gone answer).1 in
       let requests = ap length player.3 in
       let then_ = ap (λ p. length (replies_of p)) player.1 in

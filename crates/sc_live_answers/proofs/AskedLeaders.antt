@@ -8,7 +8,7 @@ use Rattle.std.proofs.lemmas.List.{length-map, length-take-le}
 use Rattle.sc_base.specs.Definitions.{Among, Arc, end_of, holds, client_actor, key_of, same_draw, pos_of}
 use Rattle.sc_node_table.specs.Values.{Draw, Op, Reply, Link, Route, AnswerBody, Value, NotLeader, NotMine, Gone, Stale, Mail, MailBody, Answer}
 use Rattle.sc_base.proofs.Lemmas.{draw_is, same_name}
-use Rattle.sc_lookup.specs.Definitions.{KnownGroups, way_to, chosen, target_in, changed, preferring, starting, group_learnt, told_not_mine, told_gone, far, new_way, target_of}
+use Rattle.sc_lookup.specs.Definitions.{KnownGroups, way_to, chosen, target_in, changed, preferring, starting, group_learnt, learnt_from_not_mine, learnt_from_gone, far, new_way, target_of}
 use Rattle.sc_lookup.specs.declared.ways.Way.{Way}
 use Rattle.sc_paxos_law.proofs.Lemmas.{from_map, Among-left, Among-right, Among-either}
 use Rattle.sc_paxos_words.proofs.Lemmas.{Each-among}
@@ -106,7 +106,7 @@ abbrev GoesLast : KnownGroups → Draw → Arc → Link → Draw → ℕ → Kno
 GoesLast known group arc succ other node after =
     target_in other after ≡ Some node → (target_in other known ≡ Some node) ⊎ ((other ≡ succ.group) × (after ≡ starting group arc.lo known ++ (succ.group, new_way (end_of arc) succ.members) ∷ []))
 
-learnt_target : (group : Draw) (arc : Arc) (succ : Link) (known : KnownGroups) (other : Draw) (node : ℕ) → GoesLast known group arc succ other node (told_not_mine group arc succ known)
+learnt_target : (group : Draw) (arc : Arc) (succ : Link) (known : KnownGroups) (other : Draw) (node : ℕ) → GoesLast known group arc succ other node (learnt_from_not_mine group arc succ known)
 learnt_target group arc succ known other node =
     cond_both (is_some (way_to succ.group (starting group arc.lo known))) (starting succ.group (end_of arc) (starting group arc.lo known)) (starting group arc.lo known ++ (succ.group, new_way (end_of arc) succ.members) ∷ []) (GoesLast known group arc succ other node)
     (λ _ e. inl (sym (starting_target other succ.group (end_of arc) (starting group arc.lo known) ∙ starting_target other group arc.lo known) ∙ e))
@@ -202,17 +202,17 @@ module _ (set : Setting) (is : IsSetting set) (frame : Frame) (a : Among frame s
   entry_ = (frame.core.succ.group, new_way (end_of frame.core.arc) frame.core.succ.members)
 
   -- the group that is learnt is chosen
-  learnt_chosen : (group : Draw) → told_not_mine frame.core.id frame.core.arc frame.core.succ known ≡ starting frame.core.id frame.core.arc.lo known ++ (frame.core.succ.group, new_way (end_of frame.core.arc) frame.core.succ.members) ∷ []
-      → chosen p (told_not_mine frame.core.id frame.core.arc frame.core.succ known) ≡ Some group → group ≡ frame.core.succ.group
+  learnt_chosen : (group : Draw) → learnt_from_not_mine frame.core.id frame.core.arc frame.core.succ known ≡ starting frame.core.id frame.core.arc.lo known ++ (frame.core.succ.group, new_way (end_of frame.core.arc) frame.core.succ.members) ∷ []
+      → chosen p (learnt_from_not_mine frame.core.id frame.core.arc frame.core.succ known) ≡ Some group → group ≡ frame.core.succ.group
   learnt_chosen group is_last e =
       let next_ = (learn_in_turn.not_mine r.ring r.reached p frame known r.round r.first r.among c out).1 in
       let more = r.first.some in
-      let best = chosen_is p (told_not_mine frame.core.id frame.core.arc frame.core.succ known) group e in
-      let last : Among entry_ (told_not_mine frame.core.id frame.core.arc frame.core.succ known) = subst (Among entry_) (sym is_last) (Among-right entry_ (starting frame.core.id frame.core.arc.lo known) (entry_ ∷ []) (inl refl)) in
-      let le = Each-among (λ (x : Draw × Way). far p best.entry.1 ≤ far p x.1) (told_not_mine frame.core.id frame.core.arc frame.core.succ known) entry_ best.each last in
+      let best = chosen_is p (learnt_from_not_mine frame.core.id frame.core.arc frame.core.succ known) group e in
+      let last : Among entry_ (learnt_from_not_mine frame.core.id frame.core.arc frame.core.succ known) = subst (Among entry_) (sym is_last) (Among-right entry_ (starting frame.core.id frame.core.arc.lo known) (entry_ ∷ []) (inl refl)) in
+      let le = Each-among (λ (x : Draw × Way). far p best.entry.1 ≤ far p x.1) (learnt_from_not_mine frame.core.id frame.core.arc frame.core.succ known) entry_ best.each last in
       elim (Among-either best.entry (starting frame.core.id frame.core.arc.lo known) (entry_ ∷ []) (subst (Among best.entry) is_last best.stands)) [
         | inl early ↦ (
-            let g = lo_of (r.reached + 1) (told_not_mine frame.core.id frame.core.arc frame.core.succ known) (next_.starts (omega (arith, more))) best.entry best.stands in
+            let g = lo_of (r.reached + 1) (learnt_from_not_mine frame.core.id frame.core.arc frame.core.succ known) (next_.starts (omega (arith, more))) best.entry best.stands in
             let name : Among g.0.core.id (map name_in known) = subst (Among g.0.core.id) (starting_names frame.core.id frame.core.arc.lo known) (subst (λ d. Among d (map name_in (starting frame.core.id frame.core.arc.lo known))) (sym g.2) (map_among name_in (starting frame.core.id frame.core.arc.lo known) best.entry early)) in
             let near = nearest g.0 g.1 name in
             let lo = ap (gap p) g.3 in
@@ -271,18 +271,18 @@ module _ (begun : Requests) (set : Setting) (is : IsSetting set) (linked : IsLin
             elim (leads w group node (sym (preferring_target group w.group hint client.known ne) ∙ (ap (target_in group) (sym known_is) ∙ t))) [ inl led ↦ inl led | inr e ↦ absurd (ne e) ])
       ]
 
-  by_not_mine : (arc : Arc) (succ : Link) → SaysIt (NotMine arc succ) → Leads (request_sent (record client { known = told_not_mine w.group arc succ client.known }))
+  by_not_mine : (arc : Arc) (succ : Link) → SaysIt (NotMine arc succ) → Leads (request_sent (record client { known = learnt_from_not_mine w.group arc succ client.known }))
   by_not_mine arc succ (inr s) = absurd (s.says)
   by_not_mine arc succ (inl s) =
       let frame : Frame = s.frame in
-      let known_is : told_not_mine w.group arc succ client.known ≡ told_not_mine frame.core.id frame.core.arc frame.core.succ client.known =
-      ap (λ d. told_not_mine d arc succ client.known) s.says.0
-      ∙ (ap (λ (x : Arc). told_not_mine frame.core.id x succ client.known) s.says.1.says.1 ∙ ap (λ (x : Link). told_not_mine frame.core.id frame.core.arc x client.known) s.says.1.says.2) in
+      let known_is : learnt_from_not_mine w.group arc succ client.known ≡ learnt_from_not_mine frame.core.id frame.core.arc frame.core.succ client.known =
+      ap (λ d. learnt_from_not_mine d arc succ client.known) s.says.0
+      ∙ (ap (λ (x : Arc). learnt_from_not_mine frame.core.id x succ client.known) s.says.1.says.1 ∙ ap (λ (x : Link). learnt_from_not_mine frame.core.id frame.core.arc x client.known) s.says.1.says.2) in
       subst (λ l. Leads (request_sent (record client { known = l }))) (sym known_is) (by_frame frame s.is_frame s.says.0 s.says.1.from_is (lacks begun set is linked asks gone client k w mail m to asked_right from arc succ s))
     where
-      by_frame : (frame : Frame) → Among frame set.frames → w.group ≡ frame.core.id → mail.from ≡ frame.lead → holds frame.core.arc (pos_of (key_of w.op)) ≡ false → Leads (request_sent (record client { known = told_not_mine frame.core.id frame.core.arc frame.core.succ client.known }))
+      by_frame : (frame : Frame) → Among frame set.frames → w.group ≡ frame.core.id → mail.from ≡ frame.lead → holds frame.core.arc (pos_of (key_of w.op)) ≡ false → Leads (request_sent (record client { known = learnt_from_not_mine frame.core.id frame.core.arc frame.core.succ client.known }))
       by_frame frame a name lead out w_ group node t =
-          let known : KnownGroups = told_not_mine frame.core.id frame.core.arc frame.core.succ client.known in
+          let known : KnownGroups = learnt_from_not_mine frame.core.id frame.core.arc frame.core.succ client.known in
           let before : ClientState = record client { known = known } in
           let known_is : (request_sent before).0.known ≡ known = sent_same (λ (c : ClientState). c.known) (λ c a. refl) before in
           let waits_is : (request_sent before).0.waiting ≡ client.waiting = sent_same (λ (c : ClientState). c.waiting) (λ c a. refl) before in
@@ -295,13 +295,13 @@ module _ (begun : Requests) (set : Setting) (is : IsSetting set) (linked : IsLin
             | inr new ↦ inr (new.0 ∙ sym (learnt_chosen set is frame a client.known (ring_known begun set is linked asks gone client k w frame a name) (pos_of (key_of w.op)) (w.chosen_is ∙ ap Some name) out w_.group new.1 choice))
           ]
 
-  by_gone : (into : Route) → SaysIt (Gone into) → Leads (request_sent (record client { known = told_gone w.group into client.known }))
+  by_gone : (into : Route) → SaysIt (Gone into) → Leads (request_sent (record client { known = learnt_from_gone w.group into client.known }))
   by_gone into (inl s) = absurd (s.says.1.says)
   by_gone into (inr s) =
       let one = alone begun set is linked asks gone client k w into s.says in
       let known : KnownGroups = (into.group, new_way into.lo into.members) ∷ [] in
       let removed : remove_entry (same_draw w.group) ((w.group, one.0) ∷ []) ≡ [] = cond-true (same_draw w.group w.group) [] ((w.group, one.0) ∷ []) (same_name w.group w.group refl) in
-      let known_is : told_gone w.group into client.known ≡ known = ap (told_gone w.group into) one.1 ∙ ap (group_learnt into.group into.lo into.members) removed in
+      let known_is : learnt_from_gone w.group into client.known ≡ known = ap (learnt_from_gone w.group into) one.1 ∙ ap (group_learnt into.group into.lo into.members) removed in
       subst (λ l. Leads (request_sent (record client { known = l }))) (sym known_is) (lone_leads set (record client { known = known }) (into.group, new_way into.lo into.members) refl)
 
   taken : (answer : AnswerBody) → SaysIt answer → Leads (answer_taken mail.from w.group w.seq answer client)

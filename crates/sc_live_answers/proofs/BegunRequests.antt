@@ -11,7 +11,7 @@ use Rattle.sc_node_table.specs.Values.{Op, Base, OrderLine, Mail, Request, Clien
 use Rattle.sc_actor.specs.declared.rows.Event.TheVariants as Comes
 use Rattle.sc_actor.specs.declared.rows.Input.TheVariants.{Go}
 use Rattle.sc_actor.specs.declared.rows.Input.TheVariants.{Told as ToldInput}
-use Rattle.sc_actor.specs.Definitions.{mails, input_of, acted, value, row_of, has_gone, is_go, are_apart}
+use Rattle.sc_actor.specs.Definitions.{mails, input_of, acted, value, row_of, has_started, is_go, are_apart}
 use Rattle.sc_actor.proofs.Lemmas.{value-snoc}
 use Rattle.sc_client_table.specs.Definitions.{Client as ClientState, born_client, request_at, table, InTurn}
 use Rattle.sc_client_table.proofs.TurnLemmas.{sends_in_turn}
@@ -133,7 +133,7 @@ record IsIssuing (asks : Asks) (seat : Seat Player) (rows : Rows) : Type 0 where
   is : value player_table seat rows ≡ Client client
   me : client.me ≡ asks.client
   waits : IsNext client.waiting (length client.replies)
-  fresh : has_gone rows (client_actor asks.client) ≡ false → (client.waiting ≡ None) × (client.replies ≡ [])
+  fresh : has_started rows (client_actor asks.client) ≡ false → (client.waiting ≡ None) × (client.replies ≡ [])
   issued : (seq at : ℕ) → issue_row asks.client seq rows ≡ Some at → seq ≤ begun_ones client
 
 pub any_push : {X : Type 0} (p : X → Bool) (xs : List X) (x : X) → list_any p (xs ++ x ∷ []) ≡ (list_any p xs || p x)
@@ -224,9 +224,9 @@ module _ (words : ℕ → ℕ → ℕ × ℕ) (scenario : Scenario) (first : Bas
         no_go (Comes.Told line) c s input w g = is_told_one line input w g
         no_go _ c s input w g = c
 
-        fresh_after : has_gone (rows ++ row ∷ []) (client_actor asks.client) ≡ false → (did.after.waiting ≡ None) × (did.after.replies ≡ [])
+        fresh_after : has_started (rows ++ row ∷ []) (client_actor asks.client) ≡ false → (did.after.waiting ≡ None) × (did.after.replies ≡ [])
         fresh_after f =
-            let parts = or_parts (has_gone rows (client_actor asks.client)) (eqb seat.who (client_actor asks.client) && is_go event) (sym (any_push (λ (x : Row Mail OrderLine). eqb x.who (client_actor asks.client) && is_go x.event) rows row) ∙ f) in
+            let parts = or_parts (has_started rows (client_actor asks.client)) (eqb seat.who (client_actor asks.client) && is_go event) (sym (any_push (λ (x : Row Mail OrderLine). eqb x.who (client_actor asks.client) && is_go x.event) rows row) ∙ f) in
             let old = k.fresh parts.0 in
             let still : is_go event ≡ false = sym (ap (λ b. b && is_go event) (eq-eqb seat.who (client_actor asks.client) refl)) ∙ parts.1 in
             did.stays (λ input e g. no_go event calm still input e g) old.0 old.1
@@ -238,7 +238,7 @@ module _ (words : ℕ → ℕ → ℕ × ℕ) (scenario : Scenario) (first : Bas
     is = value-snoc player_table seat rows row ∙ (cond-false (eqb row.who seat.who) (acted player_table (value player_table seat rows) (input_of (mails rows) row.event)).0 (value player_table seat rows) (ne_eqb row.who seat.who ne) ∙ k.is);
     me = k.me;
     waits = k.waits;
-    fresh = λ f. k.fresh (or_parts (has_gone rows (client_actor asks.client)) (eqb row.who (client_actor asks.client) && is_go row.event) (sym (any_push (λ (x : Row Mail OrderLine). eqb x.who (client_actor asks.client) && is_go x.event) rows row) ∙ f)).0;
+    fresh = λ f. k.fresh (or_parts (has_started rows (client_actor asks.client)) (eqb row.who (client_actor asks.client) && is_go row.event) (sym (any_push (λ (x : Row Mail OrderLine). eqb x.who (client_actor asks.client) && is_go x.event) rows row) ∙ f)).0;
     issued = λ seq at e. (elim (or_now_some (issue_row asks.client seq rows) (issues asks.client seq row) (length rows + 1) at (sym (issue-push asks.client seq rows row) ∙ e)) [
       | inl before ↦ k.issued seq at before
       | inr now ↦ absurd (ne (eqb-true row.who seat.who (and_parts (eqb row.who (client_actor asks.client)) (list_any (λ (mail : Mail). asks_for asks.client seq mail.body) row.sent) now).0))

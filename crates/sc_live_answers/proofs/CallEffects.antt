@@ -8,7 +8,7 @@ use Rattle.sc_paxos_words.specs.declared.answers.Must.TheVariants.{Value, Free a
 use Rattle.sc_paxos_words.specs.Definitions.{LeaderState, must, flight_at, without_flight_at, kept_voters, voters_after, with_voters, vote_at}
 use Rattle.sc_paxos_words.proofs.Lemmas.{Each-among, find_found, from_filter}
 use Rattle.sc_machine_table.specs.Definitions.{applied}
-use Rattle.sc_node_table.specs.Definitions.{entered, executed_one, has_room, next_ready, executed, Found, is_act, from_calls, from_acts, from_queues, found_by, found_for, offered, pumped_from, pumped, call_of, without_call, ReplicaState, Place, Executed, childless, next, settled, may_offer, set_at, taken_at, under_way, is_idle, forgotten, last_slot, queued, requested, refused_at, request_row, at_slot, with_slot, without_slot, leads, readied, vote_tallied, voted, accepted_row}
+use Rattle.sc_node_table.specs.Definitions.{entered, executed_one, has_room, next_ready, executed, Found, is_act, from_backlog, from_acts, from_queues, found_by, found_for, offered, pumped_from, pumped, queued_number, without_request, ReplicaState, Place, Executed, childless, next, settled, may_offer, set_at, taken_at, under_way, is_idle, forgotten, last_slot, queued, requested, refused_at, request_row, at_slot, with_slot, without_slot, leads, readied, vote_tallied, voted, accepted_row}
 use Rattle.sc_law_walks.proofs.Lemmas.{cleared, executed_place, either_way}
 use Rattle.sc_live_plain.specs.Definitions.{Frame, IsFrame, Requests, IsPlainCommand, IsPlainCall, IsPlainFlight, IsPlainGroup}
 use Rattle.sc_live_plain.proofs.Lemmas.{at_found, out_each, with_each, recorded_after, counted_call, call_is, IsServed, call_plain}
@@ -17,10 +17,10 @@ use Rattle.sc_live_plain.proofs.Lemmas.{at_found, out_each, with_each, recorded_
 
 -- a replica but for these
 abbrev pub bare : ReplicaState → ReplicaState
-bare r = record r { leader = record r.leader { flights = [] }; acts = []; calls = [] }
+bare r = record r { leader = record r.leader { flights = [] }; acts = []; backlog = [] }
 
-calls_kept : (place : Place) → bare (from_calls place).1.0 ≡ bare place.0
-unfolding from_calls
+calls_kept : (place : Place) → bare (from_backlog place).1.0 ≡ bare place.0
+unfolding from_backlog
 calls_kept place = refl
 
 either_kept : (b : Bool) (x y : Found) (r : ReplicaState) → bare x.1.0 ≡ bare r → bare y.1.0 ≡ bare r → bare (cond b x y).1.0 ≡ bare r
@@ -75,14 +75,14 @@ unfolding request_row requested queued
 request_kept client seq op r mails = answered (refused_at r.group.core.gone op r)
   where
     waits : (o : Option ℕ) → bare (queued o client seq op (r, mails)).0 ≡ bare r
-    waits None = pump_kept (record r { calls = r.calls ++ Call client seq op ∷ [] }, mails)
+    waits None = pump_kept (record r { backlog = r.backlog ++ Call client seq op ∷ [] }, mails)
     waits (Some other) =
-        either_way (λ (p : Place). bare p.0 ≡ bare r) (nat_le seq other) (r, mails) (pumped (record r { calls = without_call r.calls client ++ Call client seq op ∷ [] }, mails)) refl
-        (pump_kept (record r { calls = without_call r.calls client ++ Call client seq op ∷ [] }, mails))
+        either_way (λ (p : Place). bare p.0 ≡ bare r) (nat_le seq other) (r, mails) (pumped (record r { backlog = without_request r.backlog client ++ Call client seq op ∷ [] }, mails)) refl
+        (pump_kept (record r { backlog = without_request r.backlog client ++ Call client seq op ∷ [] }, mails))
 
     answered : (o : Option AnswerBody) → bare (requested o client seq op (r, mails)).0 ≡ bare r
     answered (Some answer) = refl
-    answered None = waits (call_of r.calls client)
+    answered None = waits (queued_number r.backlog client)
 
 -- ---- what a replica saw, promised and leads with
 

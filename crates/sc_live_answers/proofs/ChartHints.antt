@@ -74,7 +74,7 @@ latest_high name (x ∷ rs) r (inr a) same = by (same_draw (name_of x) name) (la
 
 module _ (all_bounded : ValidScenariosAreBounded) (named : LawfulReplicasAreNamedOnce) (views : ViewsAgree) (words : ℕ → ℕ → ℕ × ℕ) (scenario : Scenario) (first : Base) (others : List Base) (journal quiet later : Rows) (far sent : ℕ) (frames : List Frame)
     (valid : IsValid scenario) (groups : scenario.groups ≡ first ∷ others) (lawful : Lawful as_nodes words scenario quiet) (rests : RestsAt words scenario first journal quiet) (homes : AreAtNodes scenario quiet)
-    (front : quiet_prefix (players words (births as_nodes scenario)) later ≡ quiet) (room : orders quiet + 1 ≤ far) (are : AreFramesOf (replicas_after scenario quiet) frames) where
+    (prefix : quiet_prefix (players words (births as_nodes scenario)) later ≡ quiet) (room : orders quiet + 1 ≤ far) (are : AreFramesOf (replicas_after scenario quiet) frames) where
   abbrev at : Draw → ℕ → Option ReplicaState
   at = replicas_after scenario quiet
 
@@ -92,7 +92,7 @@ module _ (all_bounded : ValidScenariosAreBounded) (named : LawfulReplicasAreName
 
   far_is : (group : Draw) (node : ℕ) → ways.far group node ≡ way_by far (latest_in group all) (at group node)
   far_is group node =
-      ap (λ rows. far_at far seats rows group node) front
+      ap (λ rows. far_at far seats rows group node) prefix
       ∙ ap (way_by far (latest_in group all)) (views.charts scenario quiet group node ∙ agree group node)
 
   round_low : (group : Draw) (node : ℕ) (r : ReplicaState) → at group node ≡ Some r → r.top.round ≤ latest_in group all
@@ -143,7 +143,7 @@ module _ (all_bounded : ValidScenariosAreBounded) (named : LawfulReplicasAreName
       ap (λ (x : Frame). ways.far x.core.id x.lead) (sym f.2) ∙ (ap (λ name. ways.far name f.1.lead.me) named_so ∙ lead_zero f.0 f.1)
 
 pub hints_rise : ValidScenariosAreBounded → LawfulReplicasAreNamedOnce → ViewsAgree → ChartHintsRise
-hints_rise all_bounded named views words scenario first others journal quiet later far sent frames valid groups lawful rests homes front room are = (
-  rise all_bounded named views words scenario first others journal quiet later far sent frames valid groups lawful rests homes front room are,
-  reached all_bounded named views words scenario first others journal quiet later far sent frames valid groups lawful rests homes front room are,
+hints_rise all_bounded named views words scenario first others journal quiet later far sent frames valid groups lawful rests homes prefix room are = (
+  rise all_bounded named views words scenario first others journal quiet later far sent frames valid groups lawful rests homes prefix room are,
+  reached all_bounded named views words scenario first others journal quiet later far sent frames valid groups lawful rests homes prefix room are,
 )

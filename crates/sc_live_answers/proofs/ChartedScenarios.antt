@@ -111,7 +111,7 @@ module _ (segment : SegmentLaws) (rows_laws : RowLaws) (laws : LineLaws) (words 
   frame rows is = record {
     groups = begins.groups_are;
     calm = is;
-    few = λ front begins_so. (let low = told_low front (rows_laws.found_law words scenario rows front is begins_so).lawful in (omega (arith, low), omega (arith, low)));
+    few = λ prefix begins_so. (let low = told_low prefix (rows_laws.found_law words scenario rows prefix is begins_so).lawful in (omega (arith, low), omega (arith, low)));
   }
 
   whole : (rows : Rows) → IsPrefixOf rows rows

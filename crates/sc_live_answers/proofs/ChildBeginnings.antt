@@ -19,7 +19,7 @@ use Rattle.sc_law_groups.proofs.GroupProofs.Lemmas.{first_of, h_of, held, IsOneO
 use Rattle.sc_law_groups.specs.whole.Definitions.{BeginsWell, OrdersAreAllowed, stories_at, MayQueue, IsHeardAt, PartiesAreApart, MergesFit}
 use Rattle.sc_law_groups.proofs.WholeProofs.Lemmas.{parties_are_apart, merges_fit, goes_on_from, speaks, members_stay_rosters, Holds}
 use Rattle.sc_live_journals.specs.rows.Definitions.{IsSeat, made_children, AreAsBegun}
-use Rattle.sc_live_journals.proofs.LogsProofs.Lemmas.{whole, front}
+use Rattle.sc_live_journals.proofs.LogsProofs.Lemmas.{whole, prefix}
 pub use Rattle.sc_live_journals.proofs.LogsProofs.LogChildren.{child_in}
 
 -- a replica's part of a row begins
@@ -66,7 +66,7 @@ module _ (sources : Sources) (ahead : Ahead) (words : ℕ → ℕ → ℕ × ℕ
 
   -- what the laws of journals say of these rows, and of all
   then_ : Holds sources ahead words scenario route b.place b.seats b.asks rows
-  then_ = front sources ahead words scenario route b journal orders lawful rows more e
+  then_ = prefix sources ahead words scenario route b journal orders lawful rows more e
 
   all : Holds sources ahead words scenario route b.place b.seats b.asks journal
   all = whole sources ahead words scenario route b journal orders lawful
@@ -92,11 +92,11 @@ module _ (sources : Sources) (ahead : Ahead) (words : ℕ → ℕ → ℕ × ℕ
   -- the child of a group is the one of its name
   as_begun : (n : ℕ) (parent : Base) → Among parent bases → (child : Base) → IsChildOf ahead parent (made parent) n (h_of rows parent) child → child.core.id ≡ base.core.id → (child ≡ base) × (is_member base.core.members n ≡ true)
   as_begun n parent a child is same =
-      let log = is.front ++ is.command ∷ [] in
+      let log = is.prefix ++ is.command ∷ [] in
       let decided = decided_log ahead parent rows in
       let on = goes_on_from ahead parent rows (then_.kept.parts parent a).lawful log is.is_log in
-      let birth = sym (births_are_children (state_after (group_of parent) is.front) is.command) ∙ is.child_is in
-      let there : Among child bases = found.prefixes parent a log (drop (length log) decided) on child (child_in (group_of parent) is.front is.command child birth) in
+      let birth = sym (births_are_children (state_after (group_of parent) is.prefix) is.command) ∙ is.child_is in
+      let there : Among child bases = found.prefixes parent a log (drop (length log) decided) on child (child_in (group_of parent) is.prefix is.command child birth) in
       let later = subst (λ xs. Among child (groups_at ahead scenario.groups xs)) (sym e) (stay.groups child there) in
       let one = found_all.apart child base later stands same in
       (one, subst (λ (x : Base). is_member x.core.members n ≡ true) one is.member)

@@ -48,8 +48,8 @@ listed_is None mark a = absurd a
 listed_is (Some m) mark (inl e) = ap Some e
 listed_is (Some m) mark (inr n) = absurd n
 
-module _ (bear : EntriesCreateChildren) (wb : ScenariosAreWellBorn) (words : ℕ → ℕ → ℕ × ℕ) (by : Tellers) (scenario : Scenario) (journal front rest : Rows) (base : Base) (group : IsGroupOf as_nodes words scenario journal base) (split : journal ≡ front ++ rest)
-    (one : HasOneLog (logged_sets as_nodes base journal) (over_at as_nodes base journal) by (births as_nodes scenario) front base) (so : IsSentSo (births as_nodes scenario) front base) where
+module _ (bear : EntriesCreateChildren) (wb : ScenariosAreWellBorn) (words : ℕ → ℕ → ℕ × ℕ) (by : Tellers) (scenario : Scenario) (journal prefix rest : Rows) (base : Base) (group : IsGroupOf as_nodes words scenario journal base) (split : journal ≡ prefix ++ rest)
+    (one : HasOneLog (logged_sets as_nodes base journal) (over_at as_nodes base journal) by (births as_nodes scenario) prefix base) (so : IsSentSo (births as_nodes scenario) prefix base) where
   abbrev at : Sets
   at = logged_sets as_nodes base journal
 
@@ -64,11 +64,11 @@ module _ (bear : EntriesCreateChildren) (wb : ScenariosAreWellBorn) (words : ℕ
   was_member slot child who b member =
       let same : slot - 1 ≡ slot + 3 - 4 = omega arith in
       subst (λ n. is_member (state_after (group_of base) (take n (decided_log as_nodes base journal))).core.members who ≡ true) same
-      (subst (λ l. is_member (state_after (group_of base) l).core.members who ≡ true) (sym b.before) (child_members (state_after (group_of base) b.front) b.command child who b.child_is member))
+      (subst (λ l. is_member (state_after (group_of base) l).core.members who ≡ true) (sym b.before) (child_members (state_after (group_of base) b.prefix) b.command child who b.child_is member))
 
   -- ---- one row
 
-  module _ (rows : Rows) (seat : Seat Player) (event : Event OrderLine) (course later : Course) (row : IsRowOf front rows seat event) (born : IsSeat (births as_nodes scenario) seat) (calm : IsCalmEvent (players words (births as_nodes scenario)) rows seat.who event)
+  module _ (rows : Rows) (seat : Seat Player) (event : Event OrderLine) (course later : Course) (row : IsRowOf prefix rows seat event) (born : IsSeat (births as_nodes scenario) seat) (calm : IsCalmEvent (players words (births as_nodes scenario)) rows seat.who event)
       (timely : AreInTime (players words (births as_nodes scenario)) (with_event rows seat event)) (was : IsWellLed (logged_sets as_nodes base journal) (over_at as_nodes base journal) by words (births as_nodes scenario) rows base course)
       (kind : IsGroupRow (logged_sets as_nodes base journal) (over_at as_nodes base journal) by (births as_nodes scenario) rows seat event base course later) (old : AreBorn words scenario journal rows base course)
       (slot : ℕ) (child : Base) (who : ℕ) (b : IsBirth (decided_log as_nodes base journal) base slot child) (member : is_member child.core.members who ≡ true) where
@@ -102,7 +102,7 @@ module _ (bear : EntriesCreateChildren) (wb : ScenariosAreWellBorn) (words : ℕ
         own : who ≡ seat.who → Among (Tells slot) (listed (taken_mark name (mails rows) event)) ⊎ Among (Tells slot) moved.left → Goal
         own is (inl t) =
             has_it is
-            (learnt_creates bear words scenario journal front rest split base group at (over_at as_nodes base journal) by (wb scenario) one so rows seat course born was slot child b (own_member is) event row calm timely
+            (learnt_creates bear words scenario journal prefix rest split base group at (over_at as_nodes base journal) by (wb scenario) one so rows seat course born was slot child b (own_member is) event row calm timely
             (listed_is (taken_mark name (mails rows) event) (Tells slot) t))
         own is (inr l) =
             inr (subst (Among (Tells slot)) (sym (ap (marks_at (players words seats) (with_event rows seat event) name) is ∙ moved.own)) (Among-left (Tells slot) moved.left (sent seat.who) l))
@@ -127,7 +127,7 @@ module _ (bear : EntriesCreateChildren) (wb : ScenariosAreWellBorn) (words : ℕ
         let place = (was.followed.given.gives seat.who r row_.was runs).0.newest in
         elim (cases_eq who seat.who) [
           | inl is ↦ has_it is
-              (lead_creates bear words scenario journal front rest split base group at (over_at as_nodes base journal) by (wb scenario) one so rows seat course born was slot child b (own_member is) event row calm timely
+              (lead_creates bear words scenario journal prefix rest split base group at (over_at as_nodes base journal) by (wb scenario) one so rows seat course born was slot child b (own_member is) event row calm timely
               r after.0 row_.was row_.is runs leads.takes (omega (arith, place, high)) (omega (arith, top, low)))
           | inr ne ↦ inr (subst (Among (Tells slot)) (sym (moved.others who ne)) (Among-right (Tells slot) (marks_at (players words seats) rows name who) (sent who)
               (subst (Among (Tells slot)) (sym (leads.sends who))
@@ -157,15 +157,15 @@ module _ (bear : EntriesCreateChildren) (wb : ScenariosAreWellBorn) (words : ℕ
         first n lt = omega (arith, lt)
 
     abbrev Begin : Rows → Type 0
-    Begin rows = (more : Rows) → front ≡ rows ++ more → IsBornOn by words scenario journal rows base
+    Begin rows = (more : Rows) → prefix ≡ rows ++ more → IsBornOn by words scenario journal rows base
 
     after_row : (rows : Rows) (row : Row Mail OrderLine) → AreInTime (players words (births as_nodes scenario)) (rows ++ row ∷ []) → Begin rows → Begin (rows ++ row ∷ [])
     after_row rows row timely was more is =
         let calm = (last_in_time (players words seats) rows row timely).0 in
         let old = was (row ∷ more) (is ∙ append_assoc rows (row ∷ []) more) in
         let timely_too = subst (λ (r : Row Mail OrderLine). AreInTime (players words seats) (rows ++ r ∷ [])) calm.row_is timely in
-        let place : IsRowOf front rows calm.seat calm.event = record { more = more; is = is ∙ ap (λ (r : Row Mail OrderLine). (rows ++ r ∷ []) ++ more) calm.row_is } in
-        let step = events_go_on at (over_at as_nodes base journal) by words seats front base (wb scenario) one so rows calm.seat calm.event old.course place calm.born calm.calm timely_too old.led in
+        let place : IsRowOf prefix rows calm.seat calm.event = record { more = more; is = is ∙ ap (λ (r : Row Mail OrderLine). (rows ++ r ∷ []) ++ more) calm.row_is } in
+        let step = events_go_on at (over_at as_nodes base journal) by words seats prefix base (wb scenario) one so rows calm.seat calm.event old.course place calm.born calm.calm timely_too old.led in
         subst (λ (r : Row Mail OrderLine). IsBornOn by words scenario journal (rows ++ r ∷ []) base) (sym calm.row_is)
         (record {
           course = step.later;
@@ -173,8 +173,8 @@ module _ (bear : EntriesCreateChildren) (wb : ScenariosAreWellBorn) (words : ℕ
           born = λ slot child who b low member. after_all rows calm.seat calm.event old.course step.later place calm.born calm.calm timely_too old.led step.row old.born slot child who b member low;
         })
 
-    pub all_born : AreInTime (players words (births as_nodes scenario)) front → IsBornOn by words scenario journal front base
-    all_born timely = by_time (players words seats) Begin (λ more e. record { course = begun_course base; led = begun_led; born = none_born }) after_row front timely [] (sym (append-nil front))
+    pub all_born : AreInTime (players words (births as_nodes scenario)) prefix → IsBornOn by words scenario journal prefix base
+    all_born timely = by_time (players words seats) Begin (λ more e. record { course = begun_course base; led = begun_led; born = none_born }) after_row prefix timely [] (sym (append-nil prefix))
 
 pub children_are_made : ValidScenariosAreBounded → GroupsAreBornOrNot → ScenariosAreWellBorn → EntriesCreateChildren → ChildrenAreMade
-children_are_made bounded born_or_not wb bear words by scenario journal front more base group split timely one so = all_born bear wb words by scenario journal front more base group split one so bounded born_or_not timely
+children_are_made bounded born_or_not wb bear words by scenario journal prefix more base group split timely one so = all_born bear wb words by scenario journal prefix more base group split one so bounded born_or_not timely

@@ -68,8 +68,8 @@ told_body name from slot _ e = absurd (none-some (Tells slot) e)
 past_next : (low slot high : ℕ) → low ≤ slot → slot < high → high ≡ low → ⊥
 past_next low slot high least most same = omega (arith, least, most, same)
 
-module _ (bear : EntriesCreateChildren) (words : ℕ → ℕ → ℕ × ℕ) (scenario : Scenario) (journal front rest : Rows) (split : journal ≡ front ++ rest) (base : Base) (group : IsGroupOf as_nodes words scenario journal base) (at : Sets) (over : Ends) (by : Tellers)
-    (wb : AreWellBorn (births as_nodes scenario)) (one : HasOneLog at over by (births as_nodes scenario) front base) (so : IsSentSo (births as_nodes scenario) front base)
+module _ (bear : EntriesCreateChildren) (words : ℕ → ℕ → ℕ × ℕ) (scenario : Scenario) (journal prefix rest : Rows) (split : journal ≡ prefix ++ rest) (base : Base) (group : IsGroupOf as_nodes words scenario journal base) (at : Sets) (over : Ends) (by : Tellers)
+    (wb : AreWellBorn (births as_nodes scenario)) (one : HasOneLog at over by (births as_nodes scenario) prefix base) (so : IsSentSo (births as_nodes scenario) prefix base)
     (rows : Rows) (seat : Seat Player) (course : Course) (born : IsSeat (births as_nodes scenario) seat) (was : IsWellLed at over by words (births as_nodes scenario) rows base course) where
   abbrev all_births : List (Seat Player)
   all_births = births as_nodes scenario
@@ -95,16 +95,16 @@ module _ (bear : EntriesCreateChildren) (words : ℕ → ℕ → ℕ × ℕ) (sc
       holds : Holds seat node base r
       holds = record { here = here; well = subst (Found seat.who) here (found_well seat.who name node.replicas plays.1) }
 
-      has : {event : Event OrderLine} → IsRowOf front rows seat event → HasReplica as_nodes scenario journal base rows seat node r
+      has : {event : Event OrderLine} → IsRowOf prefix rows seat event → HasReplica as_nodes scenario journal base rows seat node r
       has {event} row = record {
         more = row_of player_table seat rows event ∷ row.more ++ rest;
-        front = split ∙ (ap (λ rs. rs ++ rest) (row.is ∙ append_assoc rows (row_of player_table seat rows event ∷ []) row.more) ∙ append_assoc rows (row_of player_table seat rows event ∷ row.more) rest);
+        prefix = split ∙ (ap (λ rs. rs ++ rest) (row.is ∙ append_assoc rows (row_of player_table seat rows event ∷ []) row.more) ∙ append_assoc rows (row_of player_table seat rows event ∷ row.more) rest);
         seated = born;
         is = is;
         here = here;
       }
 
-      module _ (number : ℕ) (mail : Mail) (d : Delivers front rows seat number mail) (comes : may_come mail.from mail.body ≡ true) (named : group_of_mail mail.body ≡ Some base.core.id) where
+      module _ (number : ℕ) (mail : Mail) (d : Delivers prefix rows seat number mail) (comes : may_come mail.from mail.body ≡ true) (named : group_of_mail mail.body ≡ Some base.core.id) where
         taken : on_mail mail.from mail.body node ≡ taken_by (Some r) base.core.id mail.from mail.body node
         taken =
             cond-true (may_come mail.from mail.body) (routed (group_of_mail mail.body) mail.from mail.body node) (node, []) comes
@@ -136,7 +136,7 @@ module _ (bear : EntriesCreateChildren) (words : ℕ → ℕ → ℕ × ℕ) (sc
             child_there child (bear.learnt as_nodes words scenario journal base group rows seat node r (has d.row) number mail slot command d.sent body place low child b (ap (is_member child.core.members) holds.well.0 ∙ member))
 
     -- where a mail brings it an entry
-    module _ (number : ℕ) (mail : Mail) (d : Delivers front rows seat number mail) (timely : AreInTime (players words (births as_nodes scenario)) (with_event rows seat (Deliver number))) (slot : ℕ) (marked : mark_of base.core.id mail.from mail.body ≡ Some (Tells slot)) where
+    module _ (number : ℕ) (mail : Mail) (d : Delivers prefix rows seat number mail) (timely : AreInTime (players words (births as_nodes scenario)) (with_event rows seat (Deliver number))) (slot : ℕ) (marked : mark_of base.core.id mail.from mail.body ≡ Some (Tells slot)) where
       no_mark : mark_of base.core.id mail.from mail.body ≡ None → ⊥
       no_mark none = none-some (Tells slot) (sym none ∙ marked)
 
@@ -161,7 +161,7 @@ module _ (bear : EntriesCreateChildren) (words : ℕ → ℕ → ℕ × ℕ) (sc
 
     -- ---- where a leader executes an entry
 
-    module _ (event : Event OrderLine) (row : IsRowOf front rows seat event) (r after : ReplicaState) (here : replica_of base.core.id node.replicas ≡ Some r) (then_ : view_at (births as_nodes scenario) (with_event rows seat event) base.core.id seat.who ≡ Some after) (runs : r.running ≡ true)
+    module _ (event : Event OrderLine) (row : IsRowOf prefix rows seat event) (r after : ReplicaState) (here : replica_of base.core.id node.replicas ≡ Some r) (then_ : view_at (births as_nodes scenario) (with_event rows seat event) base.core.id seat.who ≡ Some after) (runs : r.running ≡ true)
         (slot : ℕ) (child : Base) (least : next r ≤ slot) (most : slot < next after) (b : IsBirth (decided_log as_nodes base journal) base slot child) (member : is_member child.core.members seat.who ≡ true) where
       lead : IsLeadOf at (progress_at (births as_nodes scenario) rows base course) r
       lead = (was.followed.given.gives seat.who r (view_of r here) runs).0
@@ -173,7 +173,7 @@ module _ (bear : EntriesCreateChildren) (words : ℕ → ℕ → ℕ × ℕ) (sc
       same_view : view_at (births as_nodes scenario) (with_event rows seat event) base.core.id seat.who ≡ view_at (births as_nodes scenario) rows base.core.id seat.who → Has event child.core.id
       same_view e = still r (e ∙ view_of r here) refl
 
-    module _ (number : ℕ) (mail : Mail) (d : Delivers front rows seat number mail) (r after : ReplicaState) (here : replica_of base.core.id node.replicas ≡ Some r) (then_ : view_at (births as_nodes scenario) (with_event rows seat (Deliver number)) base.core.id seat.who ≡ Some after)
+    module _ (number : ℕ) (mail : Mail) (d : Delivers prefix rows seat number mail) (r after : ReplicaState) (here : replica_of base.core.id node.replicas ≡ Some r) (then_ : view_at (births as_nodes scenario) (with_event rows seat (Deliver number)) base.core.id seat.who ≡ Some after)
         (runs : r.running ≡ true) (counts : Each IsCount (listed (taken_mark base.core.id (mails rows) (Deliver number)))) (slot : ℕ) (child : Base) (least : next r ≤ slot) (most : slot < next after) (b : IsBirth (decided_log as_nodes base journal) base slot child)
         (member : is_member child.core.members seat.who ≡ true) where
       abbrev Goal : Type 0
@@ -244,7 +244,7 @@ module _ (bear : EntriesCreateChildren) (words : ℕ → ℕ → ℕ × ℕ) (sc
             ])
       ]
 
-    module _ (line : OrderLine) (row : IsRowOf front rows seat (Told line)) (r after : ReplicaState) (here : replica_of base.core.id node.replicas ≡ Some r) (then_ : view_at (births as_nodes scenario) (with_event rows seat (Told line)) base.core.id seat.who ≡ Some after)
+    module _ (line : OrderLine) (row : IsRowOf prefix rows seat (Told line)) (r after : ReplicaState) (here : replica_of base.core.id node.replicas ≡ Some r) (then_ : view_at (births as_nodes scenario) (with_event rows seat (Told line)) base.core.id seat.who ≡ Some after)
         (runs : r.running ≡ true) (slot : ℕ) (child : Base) (least : next r ≤ slot) (most : slot < next after) (b : IsBirth (decided_log as_nodes base journal) base slot child) (member : is_member child.core.members seat.who ≡ true) where
       order_stays : next (ordered_row node.draws line (r, [])).0 ≡ next r
       unfolding stepped
@@ -267,11 +267,11 @@ module _ (bear : EntriesCreateChildren) (words : ℕ → ℕ → ℕ × ℕ) (sc
 
   module _ (slot : ℕ) (child : Base) (b : IsBirth (decided_log as_nodes base journal) base slot child) (member : is_member child.core.members seat.who ≡ true) where
     -- a node to which the Learn of the entry is delivered has the child
-    pub learnt_creates : (event : Event OrderLine) → IsRowOf front rows seat event → IsCalmEvent (players words (births as_nodes scenario)) rows seat.who event → AreInTime (players words (births as_nodes scenario)) (with_event rows seat event)
+    pub learnt_creates : (event : Event OrderLine) → IsRowOf prefix rows seat event → IsCalmEvent (players words (births as_nodes scenario)) rows seat.who event → AreInTime (players words (births as_nodes scenario)) (with_event rows seat event)
         → taken_mark base.core.id (mails rows) event ≡ Some (Tells slot) → Has event child.core.id
     learnt_creates event row calm timely marked = each_player (value player_table seat rows) event refl row calm timely marked
       where
-        each_player : (player : Player) (e : Event OrderLine) → value player_table seat rows ≡ player → IsRowOf front rows seat e → IsCalmEvent (players words all_births) rows seat.who e → AreInTime (players words all_births) (with_event rows seat e)
+        each_player : (player : Player) (e : Event OrderLine) → value player_table seat rows ≡ player → IsRowOf prefix rows seat e → IsCalmEvent (players words all_births) rows seat.who e → AreInTime (players words all_births) (with_event rows seat e)
             → taken_mark name (mails rows) e ≡ Some (Tells slot) → Has e child.core.id
         each_player (Client client) (Deliver number) is row_e calm_e timely_e m =
             let f = takes_first (players words all_births) rows seat.who number (tidy (Deliver number) timely_e) (is_born-from (players words all_births) seat.who seat born) calm_e in
@@ -284,7 +284,7 @@ module _ (bear : EntriesCreateChildren) (words : ℕ → ℕ → ℕ × ℕ) (sc
         each_player player _ is row_e calm_e timely_e m = absurd calm_e
 
     -- a leader that executes the entry has the child
-    pub lead_creates : (event : Event OrderLine) → IsRowOf front rows seat event → IsCalmEvent (players words (births as_nodes scenario)) rows seat.who event → AreInTime (players words (births as_nodes scenario)) (with_event rows seat event)
+    pub lead_creates : (event : Event OrderLine) → IsRowOf prefix rows seat event → IsCalmEvent (players words (births as_nodes scenario)) rows seat.who event → AreInTime (players words (births as_nodes scenario)) (with_event rows seat event)
         → (r after : ReplicaState) → view_at (births as_nodes scenario) rows base.core.id seat.who ≡ Some r → view_at (births as_nodes scenario) (with_event rows seat event) base.core.id seat.who ≡ Some after → r.running ≡ true
         → Each IsCount (listed (taken_mark base.core.id (mails rows) event)) → next r ≤ slot → slot < next after → Has event child.core.id
     lead_creates event row calm timely r after view_r view_after runs counts least most = each_player (value player_table seat rows) event refl row calm timely view_after counts
@@ -292,7 +292,7 @@ module _ (bear : EntriesCreateChildren) (words : ℕ → ℕ → ℕ × ℕ) (sc
         here : (node : NodeState) → value player_table seat rows ≡ Node node → replica_of name node.replicas ≡ Some r
         here node is = sym (view_was all_births rows seat Go name born (Node node) is) ∙ view_r
 
-        each_player : (player : Player) (e : Event OrderLine) → value player_table seat rows ≡ player → IsRowOf front rows seat e → IsCalmEvent (players words all_births) rows seat.who e → AreInTime (players words all_births) (with_event rows seat e)
+        each_player : (player : Player) (e : Event OrderLine) → value player_table seat rows ≡ player → IsRowOf prefix rows seat e → IsCalmEvent (players words all_births) rows seat.who e → AreInTime (players words all_births) (with_event rows seat e)
             → view_at all_births (with_event rows seat e) name seat.who ≡ Some after → Each IsCount (listed (taken_mark name (mails rows) e)) → Has e child.core.id
         each_player (Client client) e is row_e calm_e timely_e then_ counts_e = absurd (none-some r (sym (view_was all_births rows seat Go name born (Client client) is) ∙ view_r))
         each_player (Node node) (Deliver number) is row_e calm_e timely_e then_ counts_e =

@@ -8,7 +8,7 @@ use Rattle.sc_actor.specs.declared.rows.Input.TheVariants.{Told as ToldInput}
 use Rattle.sc_actor.specs.Definitions.{value, row_of}
 use Rattle.sc_live_orderly.specs.Definitions.{AreInTime}
 use Rattle.sc_scenario.specs.declared.scenarios.Scenario.{Scenario}
-use Rattle.sc_node_table.specs.Definitions.{NodeState, replica_of, group_of_order, ordered_of, ordered_command, untaken, taken_or_told, ordered_row, with_call, ReplicaState, next}
+use Rattle.sc_node_table.specs.Definitions.{NodeState, replica_of, group_of_order, ordered_of, ordered_command, untaken, queued_or_refused, ordered_row, with_order_queued, ReplicaState, next}
 use Rattle.sc_sound.specs.Definitions.{Player, player_table, births, as_nodes}
 use Rattle.sc_live_steps.specs.calm.Definitions.{players, Rows}
 use Rattle.sc_live_steps.proofs.CalmProofs.Lemmas.{put_others}
@@ -30,9 +30,9 @@ ordered_same drawer line r = by (untaken drawer line r)
     command : Command
     command = ordered_command (next_name drawer) line.number line.order
 
-    by : (o : Option OrderRefusal) → (taken_or_told o line.number (ordered_command (next_name drawer) line.number line.order) (r, [])).0.group ≡ r.group
+    by : (o : Option OrderRefusal) → (queued_or_refused o line.number (ordered_command (next_name drawer) line.number line.order) (r, [])).0.group ≡ r.group
     by (Some why) = refl
-    by None = (pumps (At r.group r.me (next r)) (λ x acceptor hint top running leader ready acts calls waits q. q) (with_call (ordered_command (next_name drawer) line.number line.order) r, []) (refl, refl, refl)).0
+    by None = (pumps (At r.group r.me (next r)) (λ x acceptor hint top running leader ready acts backlog waits q. q) (with_order_queued (ordered_command (next_name drawer) line.number line.order) r, []) (refl, refl, refl)).0
 
 module _ (words : ℕ → ℕ → ℕ × ℕ) (all : List (Seat Player)) (quiet : Rows) (seat : Seat Player) (line : OrderLine) (seated : IsSeat all seat) (timely : AreInTime (players words all) (with_event quiet seat (Told line))) where
   -- a replica was there before, with its group

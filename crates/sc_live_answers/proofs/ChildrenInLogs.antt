@@ -62,8 +62,8 @@ module _ (laws : OfJournals) (words : ℕ → ℕ → ℕ × ℕ) (scenario : Sc
 
     -- a replica of it has executed some of them
     pub state_of : (rows : Rows) → IsPrefixOf journal rows → (who : ℕ) (r : ReplicaState) → view_at (births as_nodes scenario) rows base.core.id who ≡ Some r → (k : ℕ) × (next r ≡ suc k) × (r.group ≡ State k)
-    state_of rows front who r v =
-        let here = laws.views as_nodes words scenario journal base (group_is base stands) rows front.more front.is who r v in
+    state_of rows prefix who r v =
+        let here = laws.views as_nodes words scenario journal base (group_is base stands) rows prefix.more prefix.is who r v in
         let run = laws.runs as_nodes words scenario journal base (group_is base stands) rows here.0 here.1 r here.2 in
         let some : 1 ≤ next r = run.0 in
         (next r - 1, omega (arith, some), run.1)

@@ -4,7 +4,7 @@ use Rattle.std.specs.Prelude.{nat_le}
 use Rattle.std.proofs.lemmas.List.Sums.{sum_by-cons}
 use Rattle.sc_base.specs.Definitions.{client_actor}
 use Rattle.sc_node_table.specs.Values.{Draw, Op, AnswerBody, Value, NotLeader, NotMine, Gone, Stale, MailBody, Request, Answer}
-use Rattle.sc_lookup.specs.Definitions.{target_in, preferring, passed_on, told_not_mine, told_gone}
+use Rattle.sc_lookup.specs.Definitions.{target_in, preferring, passed_on, learnt_from_not_mine, learnt_from_gone}
 use Rattle.sc_client_table.specs.Definitions.{Client as ClientState, waiting_request, ClientStep, request_of, asked_of, sent_where, chosen_for, request_sent, started, waits_for, was_asked, redirected, answer_taken, got}
 use Rattle.sc_live_steps.specs.calm.Definitions.{waiting_one}
 use Rattle.sc_live_answers.specs.Definitions.{body_token, mail_token}
@@ -60,8 +60,8 @@ module _ (c : ℕ) where
   redirected_most : (client : ClientState) (n : ℕ) → client.waiting ≡ Some n → (group : Draw) (answer : AnswerBody) → Most client (redirected group answer client)
   redirected_most client n e group (NotLeader (Some hint)) = (let now : ClientState = record client { known = preferring group hint client.known } in asked_most now n e group (target_in group now.known) (waiting_request now))
   redirected_most client n e group (NotLeader None) = (let now : ClientState = record client { known = passed_on group client.known } in asked_most now n e group (target_in group now.known) (waiting_request now))
-  redirected_most client n e group (NotMine arc succ) = sent_most (record client { known = told_not_mine group arc succ client.known }) n e
-  redirected_most client n e group (Gone into) = sent_most (record client { known = told_gone group into client.known }) n e
+  redirected_most client n e group (NotMine arc succ) = sent_most (record client { known = learnt_from_not_mine group arc succ client.known }) n e
+  redirected_most client n e group (Gone into) = sent_most (record client { known = learnt_from_gone group into client.known }) n e
   redirected_most client n e group (Value reply) = stays_most client n e
   redirected_most client n e group (Stale last) = stays_most client n e
 

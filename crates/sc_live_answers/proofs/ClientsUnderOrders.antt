@@ -4,7 +4,7 @@ use Rattle.std.specs.Prelude.{◌&&◌, ◌||◌}
 use Rattle.std.proofs.lemmas.Bool.{cases_Bool, eqb-true}
 use Rattle.sc_node_table.specs.Values.{OrderLine, Mail, Client, Seat, Event, Row}
 use Rattle.sc_actor.specs.declared.rows.Event.TheVariants.{Told}
-use Rattle.sc_actor.specs.Definitions.{mails, value, acted, input_of, has_gone, row_of, is_go}
+use Rattle.sc_actor.specs.Definitions.{mails, value, acted, input_of, has_started, row_of, is_go}
 use Rattle.sc_actor.proofs.Lemmas.{value-snoc}
 use Rattle.sc_client_table.specs.Definitions.{Client as ClientState}
 use Rattle.sc_sound.specs.Definitions.{Player, player_table}
@@ -16,7 +16,7 @@ off true = refl
 off false = refl
 
 -- nobody goes by another row
-pub started_still : (rows : Rows) (row : Row Mail OrderLine) (who : ℕ) → is_go row.event ≡ false → has_gone (rows ++ row ∷ []) who ≡ has_gone rows who
+pub started_still : (rows : Rows) (row : Row Mail OrderLine) (who : ℕ) → is_go row.event ≡ false → has_started (rows ++ row ∷ []) who ≡ has_started rows who
 started_still [] row who e = ap (λ b. (eqb row.who who && b) || false) e ∙ off (eqb row.who who)
 started_still (r ∷ rows) row who e = ap (λ b. (eqb r.who who && is_go r.event) || b) (started_still rows row who e)
 

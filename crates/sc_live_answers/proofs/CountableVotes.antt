@@ -94,13 +94,13 @@ module _ (lone_fly : WorksFlyLone) (entries_count : OrderEntriesCount) (leave_on
       let one = leave_one (scene_at births rows) base.core.id under in
       let works_are : works r ≡ listed one.0 = sym told.1.1 ∙ one.1 in
       let some : Among work.0 (works r) =
-      among-right work.0 (works_in r.acts) (works_in r.calls ++ (works_flying r.leader.flights ++ works_ready r.ready))
-      (among-right work.0 (works_in r.calls) (works_flying r.leader.flights ++ works_ready r.ready)
+      among-right work.0 (works_in r.acts) (works_in r.backlog ++ (works_flying r.leader.flights ++ works_ready r.ready))
+      (among-right work.0 (works_in r.backlog) (works_flying r.leader.flights ++ works_ready r.ready)
       (among-left work.0 (works_flying r.leader.flights) (works_ready r.ready) (work_flies r.leader.flights flight work.0 f.0 work.1))) in
       let only : works r ≡ work.0 ∷ [] = works_are ∙ only_work one.0 work.0 (subst (Among work.0) works_are some) in
       let flies : FliesLone flight r = lone_fly work.0 flight r runs may.unbound only counts.alone.flights counts.alone.ready f.0 (eqb-true flight.slot (next r) f.1) in
       let entry = Each-among (λ (x : Flight Command). IsEntry x.value r × (length (applied r.group x.value).0.core.members ≤ 9)) r.leader.flights flight counts.entries f.0 in
-      entries_count slot flight r flies (counts.calls (λ none. absurd (subst (Among flight) none f.0))) may lead.led.roster.most entry.1 lead.led.member lead.led.stands entry.0
+      entries_count slot flight r flies (counts.backlog (λ none. absurd (subst (Among flight) none f.0))) may lead.led.roster.most entry.1 lead.led.member lead.led.stands entry.0
 
   pub may_count : (slot : ℕ) → MayCount slot r
   may_count slot = elim (cases_lt (next r) course.bound) [

@@ -67,7 +67,7 @@ module _ (laws : OfJournals) (begun : ChildrenAreBegun) (keeps : DeliveriesKeepW
   view_after = (rows_replicas.taken all rows seat number mail group node r t.seated t.is_node t.sent t.comes t.named here).is
 
   rows_prefix : IsPrefixOf journal rows
-  rows_prefix = w.under.front
+  rows_prefix = w.under.prefix
 
   module _ (kid : Base) (a : Among kid made.1) where
     b : IsCreated task group r kid
@@ -80,7 +80,7 @@ module _ (laws : OfJournals) (begun : ChildrenAreBegun) (keeps : DeliveriesKeepW
     kid_stands =
         let p = w.named group seat.who r view_before in
         let before = state_of laws words scenario journal w.calm p.0 p.1 rows rows_prefix seat.who r (ap (λ n. view_at all rows n seat.who) p.2 ∙ view_before) in
-        let after = state_of laws words scenario journal w.calm p.0 p.1 (with_event rows seat (Deliver number)) w.goes.front seat.who made.0.0 (ap (λ n. view_at all (with_event rows seat (Deliver number)) n seat.who) p.2 ∙ view_after) in
+        let after = state_of laws words scenario journal w.calm p.0 p.1 (with_event rows seat (Deliver number)) w.goes.prefix seat.who made.0.0 (ap (λ n. view_at all (with_event rows seat (Deliver number)) n seat.who) p.2 ∙ view_after) in
         by p.0 (born_by laws words scenario journal w.calm p.0 p.1 kid.core.id after.0 (subst (λ (g : Group). HasCreated kid.core.id g.core.born) after.2 (knows_made mail.from mail.body r kid a)))
         (λ has. b.new (subst (λ (g : Group). HasCreated kid.core.id g.core.born) (sym before.2) (log_stays kid.core.id (group_of p.0) (take before.0 (decided_log as_nodes p.0 journal)) has)))
       where

@@ -21,8 +21,8 @@ use Rattle.sc_live_answers.proofs.FollowerRows.{next_with, still_named, IsLeft, 
 use Rattle.std.proofs.lemmas.Option.{same_Some}
 use Rattle.sc_live_answers.proofs.WellPlayers.{plays_of}
 
-module _ (at : Sets) (over : Ends) (by : Tellers) (words : ℕ → ℕ → ℕ × ℕ) (births : List (Seat Player)) (front rows : Rows) (seat : Seat Player) (number : ℕ) (mail : Mail) (node : NodeState) (base : Base) (course : Course)
-    (m : MeetsMail at over by words births front rows seat number mail node base course) (apart : are_apart births ≡ true) (born : AreWellBorn births) (comes : may_come mail.from mail.body ≡ true)
+module _ (at : Sets) (over : Ends) (by : Tellers) (words : ℕ → ℕ → ℕ × ℕ) (births : List (Seat Player)) (prefix rows : Rows) (seat : Seat Player) (number : ℕ) (mail : Mail) (node : NodeState) (base : Base) (course : Course)
+    (m : MeetsMail at over by words births prefix rows seat number mail node base course) (apart : are_apart births ≡ true) (born : AreWellBorn births) (comes : may_come mail.from mail.body ≡ true)
     (group : group_of_mail mail.body ≡ Some base.core.id) (ways : Ways) (groups : List Draw) (once : StandsOnce base.core.id groups) where
   abbrev name : Draw
   name = base.core.id
@@ -42,7 +42,7 @@ module _ (at : Sets) (over : Ends) (by : Tellers) (words : ℕ → ℕ → ℕ �
   abbrev behind : Rows
   behind = row_of player_table seat rows (Deliver number) ∷ m.delivers.row.more
 
-  begins : front ≡ rows ++ behind
+  begins : prefix ≡ rows ++ behind
   begins = m.delivers.row.is ∙ append_assoc rows (row_of player_table seat rows (Deliver number) ∷ []) m.delivers.row.more
 
   plays : Plays seat.who (Node node)
@@ -50,7 +50,7 @@ module _ (at : Sets) (over : Ends) (by : Tellers) (words : ℕ → ℕ → ℕ �
 
   -- another leads then, or the group is gone
   is_apart : led_elsewhere births rows seat.who base.core.id ≡ true → IsApart course seat.who
-  is_apart e = elsewhere_apart at over by words births front rows behind base course m.one begins m.led apart seat.who e
+  is_apart e = elsewhere_apart at over by words births prefix rows behind base course m.one begins m.led apart seat.who e
 
   -- the one that leads sends a state as a member
   module _ (slot : ℕ) (state : Base) (sets : List (List ℕ)) (body : mail.body ≡ Install base.core.id slot state sets) where
@@ -127,7 +127,7 @@ module _ (at : Sets) (over : Ends) (by : Tellers) (words : ℕ → ℕ → ℕ �
     }
 
     off_here : led_elsewhere births rows seat.who base.core.id ≡ true → r.running ≡ false
-    off_here e = apart_off at over by words births front rows behind base course m.one begins m.led seat.who r row.was (is_apart e)
+    off_here e = apart_off at over by words births prefix rows behind base course m.one begins m.led seat.who r row.was (is_apart e)
 
     left : led_elsewhere births rows seat.who base.core.id ≡ true → IsLeft r (taken_mark base.core.id (mails rows) (Deliver number)) (mailed mail.from mail.body (r, [])).0.0
     left e = left_by at over by births rows seat (Deliver number) base course (is_apart e) r after row (off_here e) m.step.later m.step.row
@@ -184,7 +184,7 @@ module _ (at : Sets) (over : Ends) (by : Tellers) (words : ℕ → ℕ → ℕ �
       follows : Follows command r
       follows = record {
         stopped = off;
-        stands = stands_here at over by words births front rows behind base course m.one begins m.led seat.who r row.was (let up = most in let place = fits in omega (arith, up, place));
+        stands = stands_here at over by words births prefix rows behind base course m.one begins m.led seat.who r row.was (let up = most in let place = fits in omega (arith, up, place));
         flights = flights;
         few = nines_at at m.one.log.rosters (next (entered command r)) (entered command r).sets logs_then.opens;
       }
@@ -242,7 +242,7 @@ module _ (at : Sets) (over : Ends) (by : Tellers) (words : ℕ → ℕ → ℕ �
           let at_least = fit at words births rows seat node base course scene number mail takes r has (Installs slot) is after row in
           let up = within at words births rows seat node base course scene number mail takes (Installs slot) is in
           let off = led_off at words births rows seat node base course scene r row.was (no_leader slot state sets body) in
-          let stood = stands_here at over by words births front rows behind base course m.one begins m.led seat.who r row.was (omega (arith, at_least, up)) in
+          let stood = stands_here at over by words births prefix rows behind base course m.one begins m.led seat.who r row.was (omega (arith, at_least, up)) in
           takes_so (Install name slot state sets) body (off, stood) (λ e. owes_most r after.0 (left e).0 (stands_then e))
 
     -- ---- each body

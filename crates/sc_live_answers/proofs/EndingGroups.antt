@@ -23,7 +23,7 @@ abbrev ending_group_of : Option Story → Draw → Draw
 ending_group_of None other = other
 ending_group_of (Some story) other = asked_by story.offer other
 
-module _ (home : MergesEndAtOwner) (found_law : PrefixesAreFound) (words : ℕ → ℕ → ℕ × ℕ) (scenario : Scenario) (journal quiet rows : Rows) (stage : Stage) (calm : IsCalmJournal words scenario journal) (front : IsPrefixOf journal rows) (g : IsGoingSince scenario journal quiet rows stage) where
+module _ (home : MergesEndAtOwner) (found_law : PrefixesAreFound) (words : ℕ → ℕ → ℕ × ℕ) (scenario : Scenario) (journal quiet rows : Rows) (stage : Stage) (calm : IsCalmJournal words scenario journal) (prefix : IsPrefixOf journal rows) (g : IsGoingSince scenario journal quiet rows stage) where
   -- the one that goes is the participant of the order's transaction
   ending_group : Draw
   ending_group = ending_group_of (stories_at as_nodes scenario.groups journal g.tx) g.tx
@@ -33,7 +33,7 @@ module _ (home : MergesEndAtOwner) (found_law : PrefixesAreFound) (words : ℕ �
   is_goer name into m = ap (λ (o : Option Story). ending_group_of o g.tx) m.offered.1 ∙ (ap (λ (o : Option Offer). asked_by o g.tx) m.offered.2 ∙ m.offered.3)
 
   found : IsFoundPrefix words scenario journal rows
-  found = found_law words scenario journal rows calm front
+  found = found_law words scenario journal rows calm prefix
 
   -- who is gone was so in the quiet, or went by that
   went : (name : Draw) (node : ℕ) (r : ReplicaState) (into : Route) → replicas_after scenario rows name node ≡ Some r → r.group.core.gone ≡ Some into → WasGone scenario quiet name ⊎ HasMerged scenario journal quiet g.tx name into
@@ -54,7 +54,7 @@ module _ (home : MergesEndAtOwner) (found_law : PrefixesAreFound) (words : ℕ �
       stood node r into none e gone who s f (Some route) is = elim (went ending_group node r into e gone) [
         | inl was ↦ absurd (none-some was.into (sym (none was.who was.replica was.was) ∙ was.gone))
         | inr merged ↦ (
-            let named = named_there found_law words scenario journal rows calm front ending_group (node, r, sym (found.views ending_group node) ∙ e) in
+            let named = named_there found_law words scenario journal rows calm prefix ending_group (node, r, sym (found.views ending_group node) ∙ e) in
             let group : IsGroupOf as_nodes words scenario journal named.0 = record { open_slots = refl; valid = calm.valid; lawful = calm.lawful; stands = named.1 } in
             let into_is = home words scenario journal named.0 group g.tx ending_group ending_group merged.offer into merged.offered merged.ended in
             elim (went into.group who s route f is) [
@@ -70,7 +70,7 @@ pub one_group_ends_by : MergesEndAtOwner → PrefixesAreFound → OneGroupEnds
 one_group_ends_by = only_one_ends
 
 pub groups_end_in_turn_by : OneGroupEnds → StillPrefixesAreFree → PrefixesGoInTurn → GroupsEndInTurn
-groups_end_in_turn_by alone_law free_law turns_law words scenario first journal quiet behind stage calm rests front sent still g =
-    let was : IsQuietPrefix words scenario journal quiet = record { calm = calm; begins = rests.front; quiet = rests.calm; sent = rests.sent } in
-    let one = alone_law words scenario journal quiet (quiet ++ behind) stage calm front g in
-    turns_law words scenario journal quiet behind rests.turn one.0 was (free_law words scenario journal quiet was rests.still) (record { calm = calm; begins = front; quiet = still; sent = sent }) one.1 rests.turns
+groups_end_in_turn_by alone_law free_law turns_law words scenario first journal quiet behind stage calm rests prefix sent still g =
+    let was : IsQuietPrefix words scenario journal quiet = record { calm = calm; begins = rests.prefix; quiet = rests.calm; sent = rests.sent } in
+    let one = alone_law words scenario journal quiet (quiet ++ behind) stage calm prefix g in
+    turns_law words scenario journal quiet behind rests.turn one.0 was (free_law words scenario journal quiet was rests.still) (record { calm = calm; begins = prefix; quiet = still; sent = sent }) one.1 rests.turns

@@ -141,10 +141,10 @@ module _ (tells : ReplicasAreRecorded) (found_law : PrefixesAreFound) (logs_law 
   then = with_event rows seat (Deliver number)
 
   abbrev more : Rows
-  more = row_of player_table seat rows (Deliver number) ∷ g.goes.front.more
+  more = row_of player_table seat rows (Deliver number) ∷ g.goes.prefix.more
 
   before_is : journal ≡ rows ++ more
-  before_is = g.goes.front.is ∙ append_assoc rows (row_of player_table seat rows (Deliver number) ∷ []) g.goes.front.more
+  before_is = g.goes.prefix.is ∙ append_assoc rows (row_of player_table seat rows (Deliver number) ∷ []) g.goes.prefix.more
 
   -- a replica's state is the log's
   module _ (base : Base) (group : IsGroupOf as_nodes words scenario journal base) where
@@ -170,9 +170,9 @@ module _ (tells : ReplicasAreRecorded) (found_law : PrefixesAreFound) (logs_law 
       by (Some into) gone =
           let b = base_of tells words scenario first journal quiet rows more before_is g.calm g.rests g.seen name (who, r, view who r e) in
           let at : (node : ℕ) (x : ReplicaState) → replicas_after scenario quiet name node ≡ Some x → view_at (births as_nodes scenario) quiet b.0.core.id node ≡ Some x = λ node x h. ap (λ n. view_at (births as_nodes scenario) quiet n node) b.2 ∙ view node x h in
-          let over = over_is b.0 b.1 quiet g.rests.front.more g.rests.front.is who r into (at who r e) gone in
+          let over = over_is b.0 b.1 quiet g.rests.prefix.more g.rests.prefix.is who r into (at who r e) gone in
           let last = ends_law.stays as_nodes b.0 journal (next r) (next s.lead) (s.newest.most who r e) over in
-          let stands : over_at as_nodes b.0 journal (next s.lead) ≡ false = ap (λ (x : Group). is_some x.core.gone) (sym (state_is b.0 b.1 quiet g.rests.front.more g.rests.front.is s.lead.me s.lead (at s.lead.me s.lead s.newest.is_there))) ∙ ap is_some s.stands in
+          let stands : over_at as_nodes b.0 journal (next s.lead) ≡ false = ap (λ (x : Group). is_some x.core.gone) (sym (state_is b.0 b.1 quiet g.rests.prefix.more g.rests.prefix.is s.lead.me s.lead (at s.lead.me s.lead s.newest.is_there))) ∙ ap is_some s.stands in
           absurd (true≢false (sym last ∙ stands))
 
   module _ (group : Draw) (deal : Deal) (to : ℕ) (was : stage ≡ Ordered group deal.chief (Opens deal.tx)) (coord : deal.coord ≡ group) (stands : IsAt (Asks deal to) (scene_at (births as_nodes scenario) (with_event rows seat (Deliver number)))) where
@@ -244,14 +244,14 @@ module _ (tells : ReplicasAreRecorded) (found_law : PrefixesAreFound) (logs_law 
       -- who is gone has executed all
       last : next r ≡ s.step.later.newest
       last =
-          let low = s.step.led.rests (next r) (over_is base group_is then g.goes.front.more g.goes.front.is node r into has gone) in
+          let low = s.step.led.rests (next r) (over_is base group_is then g.goes.prefix.more g.goes.prefix.is node r into has gone) in
           let high = no_further _ _ _ words all then base s.step.later node r s.step.led has in
           omega (arith, low, high)
 
       same_state : (xs rest : Rows) → journal ≡ xs ++ rest → (who : ℕ) (x : ReplicaState) → view_at (births as_nodes scenario) xs base.core.id who ≡ Some x → next x ≡ s.step.later.newest → x.group.core.gone ≡ Some into
       same_state xs rest is who x e newest =
           ap (λ (y : Group). y.core.gone)
-          (state_is base group_is xs rest is who x e ∙ (ap (state_at as_nodes base journal) (newest ∙ sym last) ∙ sym (state_is base group_is then g.goes.front.more g.goes.front.is node r has)))
+          (state_is base group_is xs rest is who x e ∙ (ap (state_at as_nodes base journal) (newest ∙ sym last) ∙ sym (state_is base group_is then g.goes.prefix.more g.goes.prefix.is node r has)))
           ∙ gone
 
       -- where the newest state is that of before, one was gone before
@@ -273,7 +273,7 @@ module _ (tells : ReplicasAreRecorded) (found_law : PrefixesAreFound) (logs_law 
           to = goes_on words all rows seat number g.goes.seated g.goes.timely g.finds (stage, g.untouched.stands) base.core.id x runs seat.who row.was
 
           is_gone : to.0.group.core.gone ≡ Some into
-          is_gone = same_state then g.goes.front.more g.goes.front.is seat.who to.0 to.1 (ap next (same_Some to.0 after.0 (sym to.1 ∙ row.is)) ∙ sym newest)
+          is_gone = same_state then g.goes.prefix.more g.goes.prefix.is seat.who to.0 to.1 (ap next (same_Some to.0 after.0 (sym to.1 ∙ row.is)) ∙ sym newest)
 
           by : HasStepped x to.0 → Went into
           by (Rested same rest) = goes.went base.core.id seat.who x into row.was (ap (λ (y : Group). y.core.gone) (sym same) ∙ is_gone)
@@ -294,7 +294,7 @@ module _ (tells : ReplicasAreRecorded) (found_law : PrefixesAreFound) (logs_law 
 
   went_after : (name : Draw) (node : ℕ) (r : ReplicaState) (into : Route) → view_at (births as_nodes scenario) (with_event rows seat (Deliver number)) name node ≡ Some r → r.group.core.gone ≡ Some into → WasGone scenario quiet name ⊎ HasMerged scenario journal quiet goes.tx name into
   went_after name node r into e gone =
-      let named = named_there found_law words scenario journal then g.calm g.goes.front name (node, r, e) in
+      let named = named_there found_law words scenario journal then g.calm g.goes.prefix name (node, r, e) in
       subst (λ n. WasGone scenario quiet n ⊎ HasMerged scenario journal quiet goes.tx n into) named.2 (went_here named.0 named.1 node r into (ap (λ n. view_at all then n node) named.2 ∙ e) gone)
 
   -- ---- the transaction

@@ -32,7 +32,7 @@ the_tx None = (record { node = 0; count = 0 }, tt)
 the_tx (Some tx) = (tx, (refl, tt))
 
 module _ (found_law : PrefixesAreFound) (ends_law : EndsAreLogged) (words : ℕ → ℕ → ℕ × ℕ) (scenario : Scenario) (first : Base) (journal quiet : Rows) (seat : Seat Player) (line : OrderLine) (calm : IsCalmJournal words scenario journal) (rests : RestsAt words scenario first journal quiet)
-    (seen : AreSeen scenario quiet) (t : IsGivenInQuiet words (births as_nodes scenario) quiet seat line) (front : IsPrefixOf journal (with_event quiet seat (Told line))) where
+    (seen : AreSeen scenario quiet) (t : IsGivenInQuiet words (births as_nodes scenario) quiet seat line) (prefix : IsPrefixOf journal (with_event quiet seat (Told line))) where
   abbrev all : List (Seat Player)
   all = births as_nodes scenario
 
@@ -137,9 +137,9 @@ module _ (found_law : PrefixesAreFound) (ends_law : EndsAreLogged) (words : ℕ 
   -- one that is new is not
   new_stands : (name : Draw) (node : ℕ) (r : ReplicaState) (into : Route) → view_at (births as_nodes scenario) (with_event quiet seat (Told line)) name node ≡ Some r → (base : Base) → r ≡ born_replica slots_ahead seat.who base → r.group.core.gone ≡ Some into → ⊥
   new_stands name node r into has born new gone =
-      let named = named_there found_law words scenario journal then calm front name (node, r, has) in
+      let named = named_there found_law words scenario journal then calm prefix name (node, r, has) in
       let group : IsGroupOf as_nodes words scenario journal named.0 = record { open_slots = refl; valid = calm.valid; lawful = calm.lawful; stands = named.1 } in
-      let v = views_are_replicas as_nodes words scenario journal named.0 group then front.more front.is node r (ap (λ n. view_at all then n node) named.2 ∙ has) in
+      let v = views_are_replicas as_nodes words scenario journal named.0 group then prefix.more prefix.is node r (ap (λ n. view_at all then n node) named.2 ∙ has) in
       let slot : next r ≡ 1 = ap next new in
       let low = ends_law.begins as_nodes words scenario journal named.0 group (next r) (omega (arith, slot)) in
       true≢false (sym (ap is_some gone) ∙ (ends_law.replicas as_nodes words scenario journal named.0 group then v.0 v.1 r v.2 ∙ low))
@@ -164,4 +164,4 @@ module _ (found_law : PrefixesAreFound) (ends_law : EndsAreLogged) (words : ℕ 
       record { tx = its.0; same = its.1; stood = λ h. absurd (none_begun stage a h); went = λ name node r into e gone. inl (went name node r into e gone) }
 
 pub ending_groups_begin : PrefixesAreFound → EndsAreLogged → EndingGroupsBegin
-ending_groups_begin found_law ends_law words scenario first journal quiet seat line stage calm rests seen t front stands = going found_law ends_law words scenario first journal quiet seat line calm rests seen t front stage stands
+ending_groups_begin found_law ends_law words scenario first journal quiet seat line stage calm rests seen t prefix stands = going found_law ends_law words scenario first journal quiet seat line calm rests seen t prefix stage stands

@@ -123,8 +123,8 @@ module _ (tells : ReplicasAreRecorded) (records : RecordsAreTrue) (over : QuietS
 
   roster : IsRoster r.group.core.members
   roster =
-      let b = base_of tells words scenario first journal quiet rows l.front.more l.front.is l.calm l.rests l.seen name there in
-      let v = views as_nodes words scenario journal b.0 b.1 rows l.front.more l.front.is node r (ap (λ n. view_at (births as_nodes scenario) rows n node) b.2 ∙ l.leads.is_there) in
+      let b = base_of tells words scenario first journal quiet rows l.prefix.more l.prefix.is l.calm l.rests l.seen name there in
+      let v = views as_nodes words scenario journal b.0 b.1 rows l.prefix.more l.prefix.is node r (ap (λ n. view_at (births as_nodes scenario) rows n node) b.2 ∙ l.leads.is_there) in
       let run = logs as_nodes words scenario journal b.0 b.1 rows v.0 v.1 r v.2 in
       let at_first : IsRoster b.0.core.members = subst IsRoster (slots.first as_nodes words scenario journal b.0 b.1 0 (omega arith)) (slots.rosters as_nodes words scenario journal b.0 b.1 0) in
       subst (λ (g : Group). IsRoster g.core.members) (sym run.1) (stay (group_of b.0) (take (next r - 1) (decided_log as_nodes b.0 journal)) at_first)

@@ -12,7 +12,7 @@ use Rattle.sc_live_journals.specs.rows.Definitions.{view_at, marks_at, next_in, 
 use Rattle.sc_live_journals.specs.groups.Definitions.{Ends}
 use Rattle.sc_live_answers.specs.Definitions.{IsSentThrough}
 
-module _ (words : ℕ → ℕ → ℕ × ℕ) (at : Sets) (over : Ends) (by : Tellers) (births : List (Seat Player)) (front : Rows) (base : Base) (t : IsSentThrough at over by words births front base) where
+module _ (words : ℕ → ℕ → ℕ × ℕ) (at : Sets) (over : Ends) (by : Tellers) (births : List (Seat Player)) (prefix : Rows) (base : Base) (t : IsSentThrough at over by words births prefix base) where
   abbrev name : Draw
   name = base.core.id
 
@@ -20,13 +20,13 @@ module _ (words : ℕ → ℕ → ℕ × ℕ) (at : Sets) (over : Ends) (by : Te
   course = t.course
 
   abbrev now : Progress
-  now = progress_at births front base course
+  now = progress_at births prefix base course
 
   -- the one that leads
-  pub leader : ((node : ℕ) → is_member base.core.members node ≡ true → HasReplica (view_at births front) base.core.id node) → t.course.runs ≡ true → (lead : ReplicaState) × (view_at births front base.core.id t.course.ballot.node ≡ Some lead) × (lead.running ≡ true)
-  leader born runs = by_view (view_at births front name course.ballot.node) refl (t.led.followed.given.runs runs)
+  pub leader : ((node : ℕ) → is_member base.core.members node ≡ true → HasReplica (view_at births prefix) base.core.id node) → t.course.runs ≡ true → (lead : ReplicaState) × (view_at births prefix base.core.id t.course.ballot.node ≡ Some lead) × (lead.running ≡ true)
+  leader born runs = by_view (view_at births prefix name course.ballot.node) refl (t.led.followed.given.runs runs)
     where
-      by_view : (o : Option ReplicaState) → view_at births front base.core.id course.ballot.node ≡ o → IsLedBy base course o → (lead : ReplicaState) × (view_at births front base.core.id course.ballot.node ≡ Some lead) × (lead.running ≡ true)
+      by_view : (o : Option ReplicaState) → view_at births prefix base.core.id course.ballot.node ≡ o → IsLedBy base course o → (lead : ReplicaState) × (view_at births prefix base.core.id course.ballot.node ≡ Some lead) × (lead.running ≡ true)
       by_view (Some lead) e on = (lead, e, on)
       by_view None e begins =
           let first : course.ballot.node ≡ base.core.first = ap (λ (c : Course). c.ballot.node) begins in
@@ -35,20 +35,20 @@ module _ (words : ℕ → ℕ → ℕ × ℕ) (at : Sets) (over : Ends) (by : Te
           cc
 
   -- one that has executed something has its replica
-  pub has_one : ((node : ℕ) → is_member base.core.members node ≡ true → HasReplica (view_at births front) base.core.id node) → (node : ℕ) → 1 ≤ next_in base node (view_at births front base.core.id node) → HasReplica (view_at births front) base.core.id node
-  has_one born node some = by_view (view_at births front name node) refl some
+  pub has_one : ((node : ℕ) → is_member base.core.members node ≡ true → HasReplica (view_at births prefix) base.core.id node) → (node : ℕ) → 1 ≤ next_in base node (view_at births prefix base.core.id node) → HasReplica (view_at births prefix) base.core.id node
+  has_one born node some = by_view (view_at births prefix name node) refl some
     where
-      first : (b : Bool) → is_member base.core.members node ≡ b → 1 ≤ cond b 1 0 → HasReplica (view_at births front) base.core.id node
+      first : (b : Bool) → is_member base.core.members node ≡ b → 1 ≤ cond b 1 0 → HasReplica (view_at births prefix) base.core.id node
       first true is low = born node is
       first false is low = absurd (omega (arith, low))
 
-      by_view : (o : Option ReplicaState) → view_at births front base.core.id node ≡ o → 1 ≤ next_in base node o → HasReplica (view_at births front) base.core.id node
+      by_view : (o : Option ReplicaState) → view_at births prefix base.core.id node ≡ o → 1 ≤ next_in base node o → HasReplica (view_at births prefix) base.core.id node
       by_view (Some r) e low = (r, e)
       by_view None e low = first (is_member base.core.members node) refl low
 
-  module _ (none : (who : ℕ) → marks_at (players words births) front base.core.id who ≡ []) where
-    pub even : IsEven at (progress_at births front base t.course) × (t.course.gone ≡ false → IsEvenLed at (progress_at births front base t.course))
-    even = quiet-even at now (marks_at (players words births) front name) t.one.log.rosters none t.led.followed.follows
+  module _ (none : (who : ℕ) → marks_at (players words births) prefix base.core.id who ≡ []) where
+    pub even : IsEven at (progress_at births prefix base t.course) × (t.course.gone ≡ false → IsEvenLed at (progress_at births prefix base t.course))
+    even = quiet-even at now (marks_at (players words births) prefix name) t.one.log.rosters none t.led.followed.follows
 
     -- where none leads, the group is gone
     pub over_then : t.course.runs ≡ false → t.course.gone ≡ true

@@ -17,18 +17,18 @@ use Rattle.sc_live_plain.specs.Definitions.{replicas_after}
 use Rattle.sc_live_answers.specs.Definitions.{IsCalmJournal, IsPrefixOf, PrefixesAreFound, FirstGroupsAreReached}
 use Rattle.sc_live_answers.proofs.LinkLogs.{of_up_to}
 
-module _ (bounded : ValidScenariosAreBounded) (finds : PrefixesAreFound) (words : ℕ → ℕ → ℕ × ℕ) (scenario : Scenario) (journal front : Rows) (calm : IsCalmJournal words scenario journal) (is : IsPrefixOf journal front) where
+module _ (bounded : ValidScenariosAreBounded) (finds : PrefixesAreFound) (words : ℕ → ℕ → ℕ × ℕ) (scenario : Scenario) (journal prefix : Rows) (calm : IsCalmJournal words scenario journal) (is : IsPrefixOf journal prefix) where
   bound : IsBounded scenario
   bound = bounded scenario calm.valid
 
-  timely : AreInTime (players words (births as_nodes scenario)) front
+  timely : AreInTime (players words (births as_nodes scenario)) prefix
   timely = λ before row after e. calm.timely before row (after ++ is.more) (is.is ∙ (ap (λ rows. rows ++ is.more) e ∙ append_assoc before (row ∷ after) is.more))
 
-  of_member : (base : Base) → Among base scenario.groups → (node : ℕ) → is_member base.core.members node ≡ true → HasReplica (replicas_after scenario front) base.core.id node
+  of_member : (base : Base) → Among base scenario.groups → (node : ℕ) → is_member base.core.members node ≡ true → HasReplica (replicas_after scenario prefix) base.core.id node
   of_member base a node m =
       let one = view_born scenario bound base a node ∙ cond-true (is_member base.core.members node) (Some (born_replica slots_ahead node base)) None m in
-      let later = replicas_last words scenario [] front base.core.id node (born_replica slots_ahead node base) timely one in
-      (later.0, (finds words scenario journal front calm is).views base.core.id node ∙ later.1)
+      let later = replicas_last words scenario [] prefix base.core.id node (born_replica slots_ahead node base) timely one in
+      (later.0, (finds words scenario journal prefix calm is).views base.core.id node ∙ later.1)
 
   some_member : (base : Base) → Among base scenario.groups → 1 ≤ length base.core.members
   some_member base a =
@@ -36,13 +36,13 @@ module _ (bounded : ValidScenariosAreBounded) (finds : PrefixesAreFound) (words 
       let line = bound.each p.0 (record { lo = 0; members = [] }) p.1 in
       subst (λ (b : Base). 1 ≤ length b.core.members) p.2 line.roster.some
 
-  of_first : (first : Base) (others : List Base) → scenario.groups ≡ first ∷ others → HasReplica (replicas_after scenario front) first.core.id (least_of first.core.members)
+  of_first : (first : Base) (others : List Base) → scenario.groups ≡ first ∷ others → HasReplica (replicas_after scenario prefix) first.core.id (least_of first.core.members)
   of_first first others e =
       let a : Among first scenario.groups = subst (Among first) (sym e) (inl refl) in
       of_member first a (least_of first.core.members) (least_in first.core.members (some_member first a))
 
 pub first_groups_are_reached : ValidScenariosAreBounded → PrefixesAreFound → FirstGroupsAreReached
 first_groups_are_reached bounded finds = record {
-  members = λ words scenario journal front base calm is a node m. of_member bounded finds words scenario journal front calm is base a node m;
-  first = λ words scenario journal front first others calm is e. of_first bounded finds words scenario journal front calm is first others e;
+  members = λ words scenario journal prefix base calm is a node m. of_member bounded finds words scenario journal prefix calm is base a node m;
+  first = λ words scenario journal prefix first others calm is e. of_first bounded finds words scenario journal prefix calm is first others e;
 }

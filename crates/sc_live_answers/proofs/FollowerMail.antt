@@ -73,8 +73,8 @@ module _ (words : ℕ → ℕ → ℕ × ℕ) (births : List (Seat Player)) (row
   same_is x e = same_some (view_at births (with_event rows seat event) base.core.id seat.who) x after.0 e row.is
 
   -- if it runs after it, it has elected itself by an entry that it learns
-  told_last : after.0.running ≡ true → (slot : ℕ) × (taken_mark base.core.id (mails rows) event ≡ Some (Tells slot))
-  told_last runs = elim g.step.row [
+  last_entry_sent : after.0.running ≡ true → (slot : ℕ) × (taken_mark base.core.id (mails rows) event ≡ Some (Tells slot))
+  last_entry_sent runs = elim g.step.row [
     | RowPasses e idle ↦ elim idle.view [
       | inl stays ↦ absurd (stopped (ap (λ (x : ReplicaState). x.running) (sym (same_is r (stays ∙ row.was))) ∙ off))
       | inr born ↦ (let bad : Some r ≡ None = sym row.was ∙ born.0 in cc)
@@ -115,7 +115,7 @@ module _ (words : ℕ → ℕ → ℕ × ℕ) (births : List (Seat Player)) (row
   module _ (off : r.running ≡ false) where
     rested : (mailed mail.from mail.body (r, [])).0.0.running ≡ true → works (mailed mail.from mail.body (r, [])).0.0 ≡ []
     rested runs =
-        let told = told_last words births rows seat (Deliver number) base h.guided h.taking.timely r (mailed mail.from mail.body (r, [])).0 row_here off runs in
+        let told = last_entry_sent words births rows seat (Deliver number) base h.guided h.taking.timely r (mailed mail.from mail.body (r, [])).0 row_here off runs in
         let is : mark_of base.core.id mail.from mail.body ≡ Some (Tells told.0) = sym (ap (mark_in base.core.id) h.taking.sent) ∙ told.1 in
         let learn = tells_body base.core.id mail.from told.0 mail.body is in
         subst (λ b. works (mailed mail.from b (r, [])).0.0 ≡ []) (sym learn.2) (tables-rest.learn mail.from learn.0 told.0 learn.1 r (h.idle off)).work

@@ -66,35 +66,35 @@ went_some group into (x ∷ rs) r a named gone = by (λ more. went_some group in
     by rest true t = some x.group.core.gone refl (and_parts (same_draw (name_of x) group) (is_some x.group.core.gone) t).1
     by rest false f = rest (there a f)
 
-module _ (bounded : ValidScenariosAreBounded) (named : LawfulReplicasAreNamedOnce) (led_once : LedStandOnce) (finds : PrefixesAreFound) (words : ℕ → ℕ → ℕ × ℕ) (scenario : Scenario) (journal front : Rows) (q : IsQuietPrefix words scenario journal front) where
+module _ (bounded : ValidScenariosAreBounded) (named : LawfulReplicasAreNamedOnce) (led_once : LedStandOnce) (finds : PrefixesAreFound) (words : ℕ → ℕ → ℕ × ℕ) (scenario : Scenario) (journal prefix : Rows) (q : IsQuietPrefix words scenario journal prefix) where
   abbrev seats : List (Seat Player)
   seats = births as_nodes scenario
 
   abbrev all : List ReplicaState
-  all = all_replicas seats front
+  all = all_replicas seats prefix
 
   abbrev at : Draw → ℕ → Option ReplicaState
-  at = replicas_after scenario front
+  at = replicas_after scenario prefix
 
   abbrev seat_of : ℕ → Seat Player
   seat_of me = node_seat as_nodes scenario.groups scenario.policy me
 
-  found : IsFoundPrefix words scenario journal front
-  found = finds words scenario journal front q.calm q.begins
+  found : IsFoundPrefix words scenario journal prefix
+  found = finds words scenario journal prefix q.calm q.begins
 
   -- ---- seat by seat
 
-  from_seats : (ss : List (Seat Player)) (r : ReplicaState) → Among r (all_replicas ss front) → (seat : Seat Player) × Among seat ss × Among r (replicas_of (value player_table seat front))
+  from_seats : (ss : List (Seat Player)) (r : ReplicaState) → Among r (all_replicas ss prefix) → (seat : Seat Player) × Among seat ss × Among r (replicas_of (value player_table seat prefix))
   from_seats [] r a = absurd a
-  from_seats (seat ∷ ss) r a = elim (Among-either r (replicas_of (value player_table seat front)) (all_replicas ss front) a) [
+  from_seats (seat ∷ ss) r a = elim (Among-either r (replicas_of (value player_table seat prefix)) (all_replicas ss prefix) a) [
     | inl here ↦ (seat, inl refl, here)
     | inr more ↦ (let f = from_seats ss r more in (f.0, inr f.1, f.2))
   ]
 
-  into_seats : (ss : List (Seat Player)) (seat : Seat Player) (r : ReplicaState) → Among seat ss → Among r (replicas_of (value player_table seat front)) → Among r (all_replicas ss front)
+  into_seats : (ss : List (Seat Player)) (seat : Seat Player) (r : ReplicaState) → Among seat ss → Among r (replicas_of (value player_table seat prefix)) → Among r (all_replicas ss prefix)
   into_seats [] seat r a here = absurd a
-  into_seats (s ∷ ss) seat r (inl e) here = Among-left r (replicas_of (value player_table s front)) (all_replicas ss front) (subst (λ x. Among r (replicas_of (value player_table x front))) (sym e) here)
-  into_seats (s ∷ ss) seat r (inr more) here = Among-right r (replicas_of (value player_table s front)) (all_replicas ss front) (into_seats ss seat r more here)
+  into_seats (s ∷ ss) seat r (inl e) here = Among-left r (replicas_of (value player_table s prefix)) (all_replicas ss prefix) (subst (λ x. Among r (replicas_of (value player_table x prefix))) (sym e) here)
+  into_seats (s ∷ ss) seat r (inr more) here = Among-right r (replicas_of (value player_table s prefix)) (all_replicas ss prefix) (into_seats ss seat r more here)
 
   no_client : (player : Player) (r : ReplicaState) → IsClient player → Among r (replicas_of player) → ⊥
   no_client (Node node) r is a = is
@@ -111,22 +111,22 @@ module _ (bounded : ValidScenariosAreBounded) (named : LawfulReplicasAreNamedOnc
             let own = ap (λ (s : Seat Player). s.who) m.2 in
             let low = within.0 in
             let high = within.1 in
-            (m.0, found.views (name_of r) m.0 ∙ of_node m.0 (omega (arith, own, low)) (omega (arith, own, high)) (value player_table (seat_of m.0) front) refl (subst (λ s. Among r (replicas_of (value player_table s front))) (sym m.2) f.2)))
-        | inr client ↦ absurd (no_client (value player_table f.0 front) r (replayed_client f.0.who front f.0.actor [] (client_among scenario.groups scenario.clients f.0 client)) f.2)
+            (m.0, found.views (name_of r) m.0 ∙ of_node m.0 (omega (arith, own, low)) (omega (arith, own, high)) (value player_table (seat_of m.0) prefix) refl (subst (λ s. Among r (replicas_of (value player_table s prefix))) (sym m.2) f.2)))
+        | inr client ↦ absurd (no_client (value player_table f.0 prefix) r (replayed_client f.0.who prefix f.0.actor [] (client_among scenario.groups scenario.clients f.0 client)) f.2)
       ]
     where
-      of_node : (me : ℕ) → 1 ≤ me → me ≤ scenario.nodes → (p : Player) → value player_table (seat_of me) front ≡ p → Among r (replicas_of p) → view_at seats front (name_of r) me ≡ Some r
+      of_node : (me : ℕ) → 1 ≤ me → me ≤ scenario.nodes → (p : Player) → value player_table (seat_of me) prefix ≡ p → Among r (replicas_of p) → view_at seats prefix (name_of r) me ≡ Some r
       of_node me low high (Client client) is a = absurd a
       of_node me low high (Node state) is a =
-          ap (replica_in (name_of r) front) (seat_in scenario.groups scenario.policy scenario.nodes 1 me (client_seats scenario.groups scenario.clients) low (omega (arith, high)))
-          ∙ (ap (λ (p : Player). replica_of (name_of r) (view_replicas p)) is ∙ found_once state.replicas r (named words scenario front me state q.calm.valid found.lawful low high is) a)
+          ap (replica_in (name_of r) prefix) (seat_in scenario.groups scenario.policy scenario.nodes 1 me (client_seats scenario.groups scenario.clients) low (omega (arith, high)))
+          ∙ (ap (λ (p : Player). replica_of (name_of r) (view_replicas p)) is ∙ found_once state.replicas r (named words scenario prefix me state q.calm.valid found.lawful low high is) a)
 
   -- each replica that is seen is among all
   record IsAmong (name : Draw) (r : ReplicaState) : Type 0 where
     seat : Seat Player
     seated : Among seat seats
     state : NodeState
-    is : value player_table seat front ≡ Node state
+    is : value player_table seat prefix ≡ Node state
     here : replica_of name state.replicas ≡ Some r
 
   seen_all : (name : Draw) (me : ℕ) (r : ReplicaState) → at name me ≡ Some r → IsAmong name r
@@ -134,11 +134,11 @@ module _ (bounded : ValidScenariosAreBounded) (named : LawfulReplicasAreNamedOnc
       let home = found.homes name me (r, e) in
       let low = home.0 in
       let high = home.1 in
-      by (value player_table (seat_of me) front) refl
-      (sym (ap (replica_in name front) (seat_in scenario.groups scenario.policy scenario.nodes 1 me (client_seats scenario.groups scenario.clients) low (omega (arith, high)))) ∙ (sym (found.views name me) ∙ e))
+      by (value player_table (seat_of me) prefix) refl
+      (sym (ap (replica_in name prefix) (seat_in scenario.groups scenario.policy scenario.nodes 1 me (client_seats scenario.groups scenario.clients) low (omega (arith, high)))) ∙ (sym (found.views name me) ∙ e))
       (Among-left (seat_of me) (map seat_of (numbers_from 1 scenario.nodes)) (client_seats scenario.groups scenario.clients) (map_among seat_of (numbers_from 1 scenario.nodes) me (to_numbers 1 scenario.nodes me low (omega (arith, high)))))
     where
-      by : (p : Player) → value player_table (seat_of me) front ≡ p → replica_of name (view_replicas p) ≡ Some r → Among (seat_of me) seats → IsAmong name r
+      by : (p : Player) → value player_table (seat_of me) prefix ≡ p → replica_of name (view_replicas p) ≡ Some r → Among (seat_of me) seats → IsAmong name r
       by (Client client) is w a = absurd (none-some r w)
       by (Node state) is w a = record { seat = seat_of me; seated = a; state = state; is = is; here = w }
 
@@ -162,9 +162,9 @@ module _ (bounded : ValidScenariosAreBounded) (named : LawfulReplicasAreNamedOnc
   seen_none name none = went_none name all (λ r a same. (let s = all_seen r a in none s.0 r (ap (λ n. at n s.0) (sym same) ∙ s.1)))
 
   -- each that went has a name
-  pub gone_named : (name : Draw) (into : Route) → went_in name all ≡ Some into → Among name (names_at seats front)
+  pub gone_named : (name : Draw) (into : Route) → went_in name all ≡ Some into → Among name (names_at seats prefix)
   gone_named name into e =
       let g = gone_seen name into e in
       let s = seen_all name g.0 g.1 g.2 in
-      let led : is_led seats front name ≡ true = led_by seats front name s.seat s.seated (ap (leads name) s.is ∙ (ap is_leading s.here ∙ or_right g.1.running (is_some g.1.group.core.gone) (ap is_some g.3))) in
-      once_among name (names_at seats front) (led_once seats front (length front) name (omega arith) (subst (λ rows. is_led seats rows name ≡ true) (sym (take_all (length front) front (omega arith))) led))
+      let led : is_led seats prefix name ≡ true = led_by seats prefix name s.seat s.seated (ap (leads name) s.is ∙ (ap is_leading s.here ∙ or_right g.1.running (is_some g.1.group.core.gone) (ap is_some g.3))) in
+      once_among name (names_at seats prefix) (led_once seats prefix (length prefix) name (omega arith) (subst (λ rows. is_led seats rows name ≡ true) (sym (take_all (length prefix) prefix (omega arith))) led))

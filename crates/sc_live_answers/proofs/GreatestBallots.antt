@@ -5,7 +5,7 @@ use Rattle.sc_base.specs.Definitions.{Drawer, next_name, same_ballot, is_member,
 use Rattle.sc_node_table.specs.Values.{Ballot, Draw, Op, Offer, Watch, Command, Call, Prepared as PreparedAct, RecordVote, Finish, Watched, RecordWatch, Base, Route, OrderLine, OrderRefusal, Outcome, Past, Vote, AnswerBody, Mail, MailBody, Request, Answer, Prepare, Promise, Accept, Accepted, Nack, Learn, Ask, Install, TxPrepare, TxVote, TxOutcome, TxElsewhere, TxWatch, TxWatched, Told, Report}
 use Rattle.sc_cmd.specs.declared.votes.Past.TheVariants as Cast
 use Rattle.sc_cmd.specs.declared.votes.Vote.TheVariants as Vows
-use Rattle.sc_node_table.specs.Definitions.{has_act, with_act, act_queued, elected, stopped, entered, is_among, looked_for, looked, executed_one, executed_ready, executed, named, jumped, ordered_command, untaken, taken_or_told, ordered_row, pumped, call_of, without_call, ReplicaState, Place, Executed, childless, next, members, set_at, settled, last_slot, forgotten, first_ballot, installed_replica, refused_at, queued, requested, request_row, looked_up, took_over, install_row, mailed, made_by, asked_next, noted_outcome, standing_vote, sent_elsewhere, offered_by, offer_row, watched_by, watch_row, awaits_vote, awaits_watch, vote_queued, vote_met, vote_row, watch_queued, watch_met, watched_row, elsewhere_row, is_bound, outcome_row, leads, promise_row, voted, accepted_row}
+use Rattle.sc_node_table.specs.Definitions.{has_act, with_act, act_queued, elected, stopped, entered, is_among, looked_for, looked, executed_one, executed_ready, executed, named, jumped, ordered_command, untaken, queued_or_refused, ordered_row, pumped, queued_number, without_request, ReplicaState, Place, Executed, childless, next, members, set_at, settled, last_slot, forgotten, first_ballot, installed_replica, refused_at, queued, requested, request_row, looked_up, took_over, install_row, mailed, made_by, asked_next, noted_outcome, standing_vote, sent_elsewhere, offered_by, offer_row, watched_by, watch_row, awaits_vote, awaits_watch, vote_queued, vote_met, vote_row, watch_queued, watch_met, watched_row, elsewhere_row, is_bound, outcome_row, leads, promise_row, voted, accepted_row}
 use Rattle.sc_law_walks.proofs.Lemmas.{idle_ready, idle_pump, either_way}
 use Rattle.sc_live_steps.specs.following.Definitions.{Stays, MayElect}
 use Rattle.sc_live_steps.proofs.FollowingProofs.Lemmas.{looked_same, place2, over, over_off, looks, told_is}
@@ -81,14 +81,14 @@ module _ (r : ReplicaState) where
 
   queued_idly : (o : Option ℕ) (client seq : ℕ) (op : Op) (place : Place) → Idly place → Idly (queued o client seq op place)
   unfolding queued
-  queued_idly None client seq op (q, mails) k = pumped_idly (record q { calls = q.calls ++ Call client seq op ∷ [] }, mails) k
+  queued_idly None client seq op (q, mails) k = pumped_idly (record q { backlog = q.backlog ++ Call client seq op ∷ [] }, mails) k
   queued_idly (Some seen) client seq op (q, mails) k =
-      either_way Idly (nat_le seq seen) (q, mails) (pumped (record q { calls = without_call q.calls client ++ Call client seq op ∷ [] }, mails)) k (pumped_idly (record q { calls = without_call q.calls client ++ Call client seq op ∷ [] }, mails) k)
+      either_way Idly (nat_le seq seen) (q, mails) (pumped (record q { backlog = without_request q.backlog client ++ Call client seq op ∷ [] }, mails)) k (pumped_idly (record q { backlog = without_request q.backlog client ++ Call client seq op ∷ [] }, mails) k)
 
   requested_idly : (o : Option AnswerBody) (client seq : ℕ) (op : Op) (place : Place) → Idly place → Idly (requested o client seq op place)
   unfolding requested
   requested_idly (Some answer) client seq op (q, mails) k = k
-  requested_idly None client seq op (q, mails) k = queued_idly (call_of q.calls client) client seq op (q, mails) k
+  requested_idly None client seq op (q, mails) k = queued_idly (queued_number q.backlog client) client seq op (q, mails) k
 
   request_idly : (client seq : ℕ) (op : Op) (place : Place) → Idly place → Idly (request_row client seq op place)
   unfolding request_row
@@ -158,9 +158,9 @@ module _ (r : ReplicaState) where
 
   -- ---- orders
 
-  taken_idly : (o : Option OrderRefusal) (number : ℕ) (command : Command) (place : Place) → Idly place → Idly (taken_or_told o number command place)
+  taken_idly : (o : Option OrderRefusal) (number : ℕ) (command : Command) (place : Place) → Idly place → Idly (queued_or_refused o number command place)
   taken_idly (Some why) number command (q, mails) k = k
-  taken_idly None number command (q, mails) k = pumped_idly (record q { calls = q.calls ++ command ∷ [] }, mails) k
+  taken_idly None number command (q, mails) k = pumped_idly (record q { backlog = q.backlog ++ command ∷ [] }, mails) k
 
   pub order_idly : (drawer : Drawer) (line : OrderLine) → r.running ≡ false → Idly (ordered_row drawer line (r, []))
   unfolding ordered_row

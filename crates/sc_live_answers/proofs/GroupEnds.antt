@@ -121,7 +121,7 @@ module _ (bounded : ValidScenariosAreBounded) (begin : ValidScenariosBeginWell) 
       entered_ends : (number : ℕ) (mail : Mail) (slot : ℕ) (command : Command) → numbered (mails rows) number ≡ Some mail → mail.body ≡ Learn base.core.id slot command → slot ≡ next r
           → is_some (entered command r).group.core.gone ≡ over_at ahead base journal (next (entered command r))
       entered_ends number mail slot command sent is at =
-          let t = subst (λ n. IsLearnt (rule ahead base) h n command) at (said rows has.more has.front number mail (Learn base.core.id slot command) sent is (same_name base.core.id base.core.id refl)) in
+          let t = subst (λ n. IsLearnt (rule ahead base) h n command) at (said rows has.more has.prefix number mail (Learn base.core.id slot command) sent is (same_name base.core.id base.core.id refl)) in
           along_ends (entered command r) (entered_along ahead group.open_slots base first_members h lawful_steps all all_prefixes command r k t)
 
       voted_rests : r.running ≡ true → r.group.core.gone ≡ None → (number : ℕ) (mail : Mail) (ballot : Ballot) (slot : ℕ) → numbered (mails rows) number ≡ Some mail → mail.body ≡ AcceptedMail base.core.id ballot slot
@@ -131,7 +131,7 @@ module _ (bounded : ValidScenariosAreBounded) (begin : ValidScenariosBeginWell) 
           subst (λ b. next (mailed mail.from b (r, [])).0.0 ≤ over_slot) (sym is) (by (cases_lt over_slot (next r)) (cases_lt over_slot (next (accepted_row mail.from ballot slot (r, [])).0.0)))
         where
           did : (command : Command) × Among (Accepted mail.from ballot slot command) h
-          did = said rows has.more has.front number mail (AcceptedMail base.core.id ballot slot) sent is (same_name base.core.id base.core.id refl)
+          did = said rows has.more has.prefix number mail (AcceptedMail base.core.id ballot slot) sent is (same_name base.core.id base.core.id refl)
 
           stood : over_at ahead base journal (next r) ≡ false
           stood = sym replica_ends ∙ ap is_some stands

@@ -45,11 +45,11 @@ later_over over into (c ∷ log) group (suc some) (suc more) low is = later_over
 module _ (bounded : ValidScenariosAreBounded) (named : LawfulReplicasAreNamedOnce) (led_once : LedStandOnce) (finds : PrefixesAreFound) (executed : QuietLogsAreExecuted) (agrees : RoutesInPrefixesAgree) (last : ReplicasLast) (run : ReplicasRunLogs) (see_replicas : ViewsAreReplicas) (over : EntriesLeaveOver) (turns : TurnsGoOn)
     (words : ℕ → ℕ → ℕ × ℕ) (scenario : Scenario) (journal quiet more : Rows) (group : Draw) (q : IsQuietPrefix words scenario journal quiet) (free : AreAllFree scenario quiet) (l : IsQuietPrefix words scenario journal (quiet ++ more)) (alone : OnlyOneEnds scenario quiet (quiet ++ more) group) where
   -- a replica has the journal's state at its next slot
-  runs : (front : Rows) (f : IsQuietPrefix words scenario journal front) (base : Base) → Among base (groups_at as_nodes scenario.groups journal) → (node : ℕ) (r : ReplicaState) → view_at (births as_nodes scenario) front base.core.id node ≡ Some r → r.group ≡ state_at as_nodes base journal (next r)
-  runs front f base a node r e =
+  runs : (prefix : Rows) (f : IsQuietPrefix words scenario journal prefix) (base : Base) → Among base (groups_at as_nodes scenario.groups journal) → (node : ℕ) (r : ReplicaState) → view_at (births as_nodes scenario) prefix base.core.id node ≡ Some r → r.group ≡ state_at as_nodes base journal (next r)
+  runs prefix f base a node r e =
       let g : IsGroupOf as_nodes words scenario journal base = record { open_slots = refl; valid = f.calm.valid; lawful = f.calm.lawful; stands = a } in
-      let v = see_replicas as_nodes words scenario journal base g front f.begins.more f.begins.is node r e in
-      (run as_nodes words scenario journal base g front v.0 v.1 r v.2).1
+      let v = see_replicas as_nodes words scenario journal base g prefix f.begins.more f.begins.is node r e in
+      (run as_nodes words scenario journal base g prefix v.0 v.1 r v.2).1
 
   -- one that was gone is gone still, by the same route
   still_gone : (name : Draw) (node : ℕ) (r : ReplicaState) (into : Route) → replicas_after scenario quiet name node ≡ Some r → r.group.core.gone ≡ Some into

@@ -18,10 +18,10 @@ use Rattle.sc_live_answers.proofs.DeliveredMail.{finds}
 
 module _ (bounded : ValidScenariosAreBounded) where
   pub group_mail_finds : GroupMailFinds
-  group_mail_finds chart words by scenario journal front rows seat number mail node base course m needs =
+  group_mail_finds chart words by scenario journal prefix rows seat number mail node base course m needs =
       let fine = bounded scenario m.group.valid in
       let all : List (Seat Player) = births as_nodes scenario in
       let comes = Each-among (λ (x : Mail). may_come x.from x.body ≡ true) (mails rows) mail
       (mail_comes words scenario rows fine (in_time_before (players words all) rows (row_of player_table seat rows (Deliver number)) m.meets.timely))
       (number_among (mails rows) number mail m.meets.delivers.sent) in
-      finds (logged_sets as_nodes base journal) (over_at as_nodes base journal) by words all front rows seat number mail node base course m.meets (all_apart scenario fine) (scenarios_well_born scenario) comes m.named chart.ways chart.groups m.once needs
+      finds (logged_sets as_nodes base journal) (over_at as_nodes base journal) by words all prefix rows seat number mail node base course m.meets (all_apart scenario fine) (scenarios_well_born scenario) comes m.named chart.ways chart.groups m.once needs

@@ -26,44 +26,44 @@ use Rattle.sc_live_answers.proofs.QuietPrefixGroupLogs.{prefix_timely, newest_th
 use Rattle.sc_live_answers.proofs.LinkLogs.{found}
 
 module _ (bounded : ValidScenariosAreBounded) (begin : ValidScenariosBeginWell) (allowed : TakenOrdersAreAllowed) (wishes : TakenWishesAreAllowed) (positions : WishesAreAtPositions) (free : OtherNamesAreFree)
-    (wb : ScenariosAreWellBorn) (begin_taught : GroupsBeginTaught) (through : GroupsAreAskedThrough) (no_mail : NoMailForStrangers) (finds : PrefixesAreFound) (made : ChildrenAreMade) (words : ℕ → ℕ → ℕ × ℕ) (scenario : Scenario) (journal front : Rows) (q : IsQuietPrefix words scenario journal front) where
+    (wb : ScenariosAreWellBorn) (begin_taught : GroupsBeginTaught) (through : GroupsAreAskedThrough) (no_mail : NoMailForStrangers) (finds : PrefixesAreFound) (made : ChildrenAreMade) (words : ℕ → ℕ → ℕ × ℕ) (scenario : Scenario) (journal prefix : Rows) (q : IsQuietPrefix words scenario journal prefix) where
   bound : IsBounded scenario
   bound = bounded scenario q.calm.valid
 
-  seen : IsFoundPrefix words scenario journal front
-  seen = finds words scenario journal front q.calm q.begins
+  seen : IsFoundPrefix words scenario journal prefix
+  seen = finds words scenario journal prefix q.calm q.begins
 
-  are_found : AreFound as_nodes scenario.groups front
-  are_found = found bounded begin allowed wishes positions free words scenario front q.calm.valid seen.lawful
+  are_found : AreFound as_nodes scenario.groups prefix
+  are_found = found bounded begin allowed wishes positions free words scenario prefix q.calm.valid seen.lawful
 
-  timely : AreInTime (players words (births as_nodes scenario)) front
-  timely = prefix_timely words scenario journal front q
+  timely : AreInTime (players words (births as_nodes scenario)) prefix
+  timely = prefix_timely words scenario journal prefix q
 
-  first_member : (base : Base) → Among base (groups_at as_nodes scenario.groups front) → is_member base.core.members base.core.first ≡ true
-  first_member base a = begun_first as_nodes scenario bound front base a
+  first_member : (base : Base) → Among base (groups_at as_nodes scenario.groups prefix) → is_member base.core.members base.core.first ≡ true
+  first_member base a = begun_first as_nodes scenario bound prefix base a
 
   -- the first members of a group have replicas
   abbrev HasAll : Base → Type 0
-  HasAll base = (who : ℕ) → is_member base.core.members who ≡ true → HasReplica (view_at (births as_nodes scenario) front) base.core.id who
+  HasAll base = (who : ℕ) → is_member base.core.members who ≡ true → HasReplica (view_at (births as_nodes scenario) prefix) base.core.id who
 
   -- those of a group of the scenario from birth on
   from_birth : (base : Base) → Among base scenario.groups → HasAll base
   from_birth base a who member =
       let one = view_born scenario bound base a who ∙ cond-true (is_member base.core.members who) (Some (born_replica slots_ahead who base)) None member in
-      let later = replicas_last words scenario [] front base.core.id who (born_replica slots_ahead who base) timely one in
+      let later = replicas_last words scenario [] prefix base.core.id who (born_replica slots_ahead who base) timely one in
       (later.0, later.1)
 
   -- and those of a child since they learnt of it
-  child_has : (parent base : Base) → Among parent (groups_at as_nodes scenario.groups front) → HasAll parent → (slot : ℕ) → slot ≤ length (decided_log as_nodes parent front) → IsBirth (decided_log as_nodes parent journal) parent slot base → HasAll base
+  child_has : (parent base : Base) → Among parent (groups_at as_nodes scenario.groups prefix) → HasAll parent → (slot : ℕ) → slot ≤ length (decided_log as_nodes parent prefix) → IsBirth (decided_log as_nodes parent journal) parent slot base → HasAll base
   child_has parent base here has slot low b who member =
-      let k = executed wb begin_taught through no_mail words scenario journal front parent q finds here has in
+      let k = executed wb begin_taught through no_mail words scenario journal prefix parent q finds here has in
       let by = slot_leaders_at as_nodes scenario parent journal in
       let t = q.sent parent (seen.later parent here) in
-      let on = made words by scenario journal front q.begins.more parent k.0.quiet.group q.begins.is timely t.one t.so in
-      let last = newest_there by words scenario journal front parent k.0.course k.0.quiet in
-      let silent : (who_ : ℕ) → marks_at (players words (births as_nodes scenario)) front parent.core.id who_ ≡ [] = λ who_. none by words scenario journal front parent k.0.course k.0.quiet who_ in
-      let within : next_in parent last.0 (view_at (births as_nodes scenario) front parent.core.id last.0) ≤ on.course.newest =
-      subst (λ (ms : List Mark). reached (next_in parent last.0 (view_at (births as_nodes scenario) front parent.core.id last.0)) ms ≤ on.course.newest) (silent last.0) (on.led.followed.follows.within last.0) in
+      let on = made words by scenario journal prefix q.begins.more parent k.0.quiet.group q.begins.is timely t.one t.so in
+      let last = newest_there by words scenario journal prefix parent k.0.course k.0.quiet in
+      let silent : (who_ : ℕ) → marks_at (players words (births as_nodes scenario)) prefix parent.core.id who_ ≡ [] = λ who_. none by words scenario journal prefix parent k.0.course k.0.quiet who_ in
+      let within : next_in parent last.0 (view_at (births as_nodes scenario) prefix parent.core.id last.0) ≤ on.course.newest =
+      subst (λ (ms : List Mark). reached (next_in parent last.0 (view_at (births as_nodes scenario) prefix parent.core.id last.0)) ms ≤ on.course.newest) (silent last.0) (on.led.followed.follows.within last.0) in
       let is = ap (next_in parent last.0) last.2 in
       let top = last.3 in
       let log = k.1 in
@@ -72,22 +72,22 @@ module _ (bounded : ValidScenariosAreBounded) (begin : ValidScenariosBeginWell) 
         | inr a ↦ absurd (subst (Among (Tells slot)) (silent who) a)
       ]
 
-  descends : (depth : ℕ) (base : Base) → Descends as_nodes scenario.groups front depth base → HasAll base
+  descends : (depth : ℕ) (base : Base) → Descends as_nodes scenario.groups prefix depth base → HasAll base
   descends zero base a = from_birth base a
   descends (suc depth) base (parent, d, a) =
       let here = are_found.all parent (depth, d) in
       let on = seen.goes_on parent here in
-      let s = birth_slot parent (decided_log as_nodes parent front) on.0 (decided_log as_nodes parent journal) base on.1 a in
+      let s = birth_slot parent (decided_log as_nodes parent prefix) on.0 (decided_log as_nodes parent journal) base on.1 a in
       child_has parent base here (descends depth parent d) s.0 s.1 s.2
 
-  has_all : (base : Base) → Among base (groups_at as_nodes scenario.groups front) → HasAll base
+  has_all : (base : Base) → Among base (groups_at as_nodes scenario.groups prefix) → HasAll base
   has_all base a = (let f = are_found.only base a in descends f.0 base f.1)
 
-  pub all_there : (base : Base) → Among base (groups_at as_nodes scenario.groups front) → IsThere (births as_nodes scenario) front base.core.id
+  pub all_there : (base : Base) → Among base (groups_at as_nodes scenario.groups prefix) → IsThere (births as_nodes scenario) prefix base.core.id
   all_there base a = (let has = has_all base a base.core.first (first_member base a) in (base.core.first, has.0, has.1))
 
   -- what has a replica is a group of the prefix
-  pub members_there : (base : Base) → Among base (groups_at as_nodes scenario.groups journal) → IsThere (births as_nodes scenario) front base.core.id → HasAll base
+  pub members_there : (base : Base) → Among base (groups_at as_nodes scenario.groups journal) → IsThere (births as_nodes scenario) prefix base.core.id → HasAll base
   members_there base a there =
       let of = seen.replicas base.core.id there.0 there.1 (seen.views base.core.id there.0 ∙ there.2) in
       subst HasAll (seen.apart of.base base (seen.later of.base of.among) a of.named) (has_all of.base of.among)
@@ -101,4 +101,4 @@ pub prefix_groups_have_replicas : Stands PrefixGroupsHaveReplicas
 prefix_groups_have_replicas = all_there
 
 pub prefix_members_have_replicas : Stands PrefixMembersHaveReplicas
-prefix_members_have_replicas bounded begin allowed wishes positions free wb begin_taught through no_mail finds made words scenario journal front base q a there = members_there bounded begin allowed wishes positions free wb begin_taught through no_mail finds made words scenario journal front q base a there
+prefix_members_have_replicas bounded begin allowed wishes positions free wb begin_taught through no_mail finds made words scenario journal prefix base q a there = members_there bounded begin allowed wishes positions free wb begin_taught through no_mail finds made words scenario journal prefix q base a there

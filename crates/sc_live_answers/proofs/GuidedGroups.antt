@@ -71,11 +71,11 @@ module _ (rosters_law : SlotsHaveRosters) (logs_law : ReplicasRunLogs) (views_la
 
 -- ---- a prefix
 
-module _ (found_law : PrefixesAreFound) (words : ℕ → ℕ → ℕ × ℕ) (scenario : Scenario) (journal rows : Rows) (calm : IsCalmJournal words scenario journal) (front : IsPrefixOf journal rows) where
+module _ (found_law : PrefixesAreFound) (words : ℕ → ℕ → ℕ × ℕ) (scenario : Scenario) (journal rows : Rows) (calm : IsCalmJournal words scenario journal) (prefix : IsPrefixOf journal rows) where
   -- a group that has a replica is one of the journal
   pub named_there : (name : Draw) → IsThere (births as_nodes scenario) rows name → IsNamedGroup scenario journal name
   named_there name there =
-      let found = found_law words scenario journal rows calm front in
+      let found = found_law words scenario journal rows calm prefix in
       let of = found.replicas name there.0 there.1 (found.views name there.0 ∙ there.2) in
       (of.base, found.later of.base of.among, of.named)
 
@@ -83,7 +83,7 @@ module _ (found_law : PrefixesAreFound) (words : ℕ → ℕ → ℕ × ℕ) (sc
 
 module _ (few_law : SlotsAreLeft) (logs_law : ReplicasRunLogs) (views_law : ViewsAreReplicas) (rosters_law : SlotsHaveRosters) (next_law : NextRowsAreSent) (newest_law : NewestStay) (found_law : PrefixesAreFound) (no_law : NoMailForStrangers)
     (words : ℕ → ℕ → ℕ × ℕ) (scenario : Scenario) (journal rows : Rows) (seat : Seat Player) (event : Event OrderLine) (calm : IsCalmJournal words scenario journal)
-    (front : IsPrefixOf journal (with_event rows seat event)) (seated : IsSeat (births as_nodes scenario) seat) (timely : AreInTime (players words (births as_nodes scenario)) (with_event rows seat event)) (sent : AreSent words scenario journal rows)
+    (prefix : IsPrefixOf journal (with_event rows seat event)) (seated : IsSeat (births as_nodes scenario) seat) (timely : AreInTime (players words (births as_nodes scenario)) (with_event rows seat event)) (sent : AreSent words scenario journal rows)
     (reached_so : (base : Base) (among : Among base (groups_at as_nodes scenario.groups journal)) → IsReachedSo (births as_nodes scenario) rows base (sent base among).course)
     (young : (base : Base) → Among base (groups_at as_nodes scenario.groups journal) → IsQuietWhileYoung words (births as_nodes scenario) rows base) where
   abbrev s : System Player Mail OrderLine
@@ -95,8 +95,8 @@ module _ (few_law : SlotsAreLeft) (logs_law : ReplicasRunLogs) (views_law : View
   pub before : AreInTime s rows
   before = in_time_before s rows row timely
 
-  pub split : journal ≡ rows ++ (row ∷ front.more)
-  split = front.is ∙ append_assoc rows (row ∷ []) front.more
+  pub split : journal ≡ rows ++ (row ∷ prefix.more)
+  split = prefix.is ∙ append_assoc rows (row ∷ []) prefix.more
 
   pub group : (base : Base) → Among base (groups_at as_nodes scenario.groups journal) → IsGroupOf as_nodes words scenario journal base
   group base among = record { open_slots = refl; valid = calm.valid; lawful = calm.lawful; stands = among }
@@ -113,7 +113,7 @@ module _ (few_law : SlotsAreLeft) (logs_law : ReplicasRunLogs) (views_law : View
 
   pub steps : (base : Base) (among : Among base (groups_at as_nodes scenario.groups journal))
       → IsSentStep (logged_sets as_nodes base journal) (over_at as_nodes base journal) (slot_leaders_at as_nodes scenario base journal) words (births as_nodes scenario) rows seat event base (sent base among).course
-  steps base among = next_law words scenario journal base (group base among) calm.timely (few base) rows front.more seat event front.is seated (sent base among) (young base among)
+  steps base among = next_law words scenario journal base (group base among) calm.timely (few base) rows prefix.more seat event prefix.is seated (sent base among) (young base among)
 
   abbrev pub sent_after : AreSent words scenario journal (with_event rows seat event)
   sent_after base among = (steps base among).through
@@ -139,13 +139,13 @@ module _ (few_law : SlotsAreLeft) (logs_law : ReplicasRunLogs) (views_law : View
     log = (steps base among).through.one;
     sends = (steps base among).through.so;
     bonds = bonds base;
-    was_bound = bound_by base among rows (row ∷ front.more) split;
-    is_bound = bound_by base among (with_event rows seat event) front.more front.is;
+    was_bound = bound_by base among rows (row ∷ prefix.more) split;
+    is_bound = bound_by base among (with_event rows seat event) prefix.more prefix.is;
     reached = reached_so base among;
   }
 
   pub here : IsPrefixOf journal rows
-  here = record { more = row ∷ front.more; is = split }
+  here = record { more = row ∷ prefix.more; is = split }
 
   pub named : (name : Draw) → IsThere (births as_nodes scenario) rows name → IsNamedGroup scenario journal name
   named = named_there found_law words scenario journal rows calm here
@@ -167,13 +167,13 @@ module _ (few_law : SlotsAreLeft) (logs_law : ReplicasRunLogs) (views_law : View
         → IsReachedSo (births as_nodes scenario) (with_event rows seat event) base through.course
     reached_after is_young there_then = elim (there_or (births as_nodes scenario) rows base.core.id) [
       | inl there ↦ was_there there there_then
-      | inr nowhere ↦ reached_even rosters_law logs_law views_law words scenario journal (with_event rows seat event) front.more base (group base among) front.is through (no_mail (is_young nowhere)) there_then
+      | inr nowhere ↦ reached_even rosters_law logs_law views_law words scenario journal (with_event rows seat event) prefix.more base (group base among) prefix.is through (no_mail (is_young nowhere)) there_then
     ]
       where
         no_mail : IsYoungAt words (births as_nodes scenario) (with_event rows seat event) base → (who : ℕ) → marks_at s (with_event rows seat event) base.core.id who ≡ []
         no_mail y who = elim (cases_Bool (is_born s who)) [
           | inl t ↦ no_marks_of base.core.id (rest s (with_event rows seat event) who) (y.unsent who t)
-          | inr f ↦ no_law.strangers words scenario journal (with_event rows seat event) calm front sent_after base.core.id who f
+          | inr f ↦ no_law.strangers words scenario journal (with_event rows seat event) calm prefix sent_after base.core.id who f
         ]
 
 -- ---- a delivery

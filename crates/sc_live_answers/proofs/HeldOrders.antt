@@ -1,7 +1,7 @@
 -- An order stays held by a group from row to row, or its result is reported.
 use Rattle.std.proofs.Common.{◌≡◌, ◌⊎◌, ℕ, Bool, true, false, List, [], ◌∷◌, ◌++◌, Some, inl, inr, refl, sym, ◌∙◌, ap, subst}
 use Rattle.sc_base.specs.Definitions.{Among, Each}
-use Rattle.sc_policy.specs.Definitions.{is_told}
+use Rattle.sc_policy.specs.Definitions.{is_reported}
 use Rattle.sc_node_table.specs.Values.{Draw, Command, Seat, Deliver, Flight}
 use Rattle.sc_actor.specs.Definitions.{mails, numbers_of, row_of}
 use Rattle.sc_actor.proofs.Lemmas.{mails-snoc}
@@ -99,7 +99,7 @@ pub record AreLeaders (n : ℕ) (births : List (Seat Player)) (rows then : Rows)
   pub entries : (name : Draw) (node : ℕ) (r : ReplicaState) → view_at births rows name node ≡ Some r → r.running ≡ true → (flight : Flight Command) → Among flight r.leader.flights → IsTrueEntry r.me r.group flight.value
   pub alone : (name : Draw) (node : ℕ) (r : ReplicaState) → view_at births then name node ≡ Some r → r.running ≡ true → LeadsAlone births then name node r
 
-module _ (n : ℕ) (told : is_told n ≡ true) (words : ℕ → ℕ → ℕ × ℕ) (births : List (Seat Player)) (quiet rows : Rows) (seat : Seat Player) (number : ℕ) (born : IsSeat births seat) (timely : AreInTime (players words births) (with_event rows seat (Deliver number)))
+module _ (n : ℕ) (told : is_reported n ≡ true) (words : ℕ → ℕ → ℕ × ℕ) (births : List (Seat Player)) (quiet rows : Rows) (seat : Seat Player) (number : ℕ) (born : IsSeat births seat) (timely : AreInTime (players words births) (with_event rows seat (Deliver number)))
     (finds : FindsOrder words births rows seat (Deliver number)) (stage : Stage) (stands : IsAt stage (scene_at births rows)) (done : Each (HasDone births quiet rows) (doers_of stage))
     (new : (group : Draw) (chief : ℕ) (tx : Draw) → stage ≡ Ordered group chief (Opens tx) → (r : ReplicaState) → view_at births rows group chief ≡ Some r → has_named r.group.core tx ≡ false) (l : AreLeaders n births rows (with_event rows seat (Deliver number))) where
   abbrev now : Scene

@@ -3,7 +3,7 @@ use Rattle.std.proofs.Common.{◌≡◌, ◌⊎◌, ℕ, ◌≤◌, ◌&&◌, na
 use Rattle.std.specs.Prelude.{is_some}
 use Rattle.std.proofs.lemmas.Bool.{and_parts, leb-true, lt-ltb}
 use Rattle.sc_base.specs.Definitions.{Among, Each, next_name}
-use Rattle.sc_policy.specs.Definitions.{is_told}
+use Rattle.sc_policy.specs.Definitions.{is_reported}
 use Rattle.sc_node_table.specs.Values.{Draw, Command, OrderLine, OrderRefusal, Refused, Mail, Node, Client, Seat, Go, Input, Row, Report}
 use Rattle.sc_cmd.specs.declared.orders.OrderRefusal.TheVariants.{NotLeader}
 use Rattle.sc_actor.specs.declared.rows.Event.TheVariants.{Told}
@@ -16,7 +16,7 @@ use Rattle.sc_paxos_words.specs.Definitions.{must_without, names_above, chosen_v
 use Rattle.sc_live_orderly.specs.Definitions.{AreInTime, GivesAllowedOrder}
 use Rattle.sc_law_walks.proofs.Lemmas.{either_way}
 use Rattle.sc_scenario.specs.declared.scenarios.Scenario.{Scenario}
-use Rattle.sc_node_table.specs.Definitions.{NodeState, told_desk, replica_of, group_of_order, ordered_of, untaken, taken_or_told, ordered_command, ordered_row, ReplicaState, Place, next, last_slot, settled, may_offer, first_set}
+use Rattle.sc_node_table.specs.Definitions.{NodeState, result_sent, replica_of, group_of_order, ordered_of, untaken, queued_or_refused, ordered_command, ordered_row, ReplicaState, Place, next, last_slot, settled, may_offer, first_set}
 use Rattle.sc_sound.specs.Definitions.{Player, player_table, node_seat, births, as_nodes}
 use Rattle.sc_live_steps.specs.calm.Definitions.{players, IsAtRest, Rows}
 use Rattle.sc_live_steps.specs.orders.Definitions.{MayFile}
@@ -46,16 +46,16 @@ given_rows rows row line g = elim (Among-either g.row rows (row ∷ []) g.among)
 
 -- an order that a calm journal gives is one for a node of the scenario, and its number is no policy's
 pub given_allowed : (words : ℕ → ℕ → ℕ × ℕ) (scenario : Scenario) (journal rows : Rows) (row : Row Mail OrderLine) (line : OrderLine) → IsCalmJournal words scenario journal → IsPrefixOf journal (rows ++ row ∷ []) → row.event ≡ Told line
-    → ((1 ≤ row.who) × (row.who ≤ scenario.nodes)) × (is_told line.number ≡ true)
-given_allowed words scenario journal rows row line calm front e =
-    let among : Among row journal = subst (Among row) (sym front.is) (Among-left row (rows ++ row ∷ []) front.more (Among-right row rows (row ∷ []) (inl refl))) in
+    → ((1 ≤ row.who) × (row.who ≤ scenario.nodes)) × (is_reported line.number ≡ true)
+given_allowed words scenario journal rows row line calm prefix e =
+    let among : Among row journal = subst (Among row) (sym prefix.is) (Among-left row (rows ++ row ∷ []) prefix.more (Among-right row rows (row ∷ []) (inl refl))) in
     let given : may_be_given scenario row.who line ≡ true = subst (GivesAllowedOrder (may_be_given scenario) row.who) e (Each-among (λ (r : Row Mail OrderLine). GivesAllowedOrder (may_be_given scenario) r.who r.event) journal row calm.given among) in
     let parts = and_parts (nat_le 1 row.who && nat_le row.who scenario.nodes) (names_nodes scenario.nodes line.order && nat_le 1 line.number) given in
     let node = and_parts (nat_le 1 row.who) (nat_le row.who scenario.nodes) parts.0 in
     let number = and_parts (names_nodes scenario.nodes line.order) (nat_le 1 line.number) parts.1 in
     ((leb-true 1 row.who node.0, leb-true row.who scenario.nodes node.1), told_by line.number (leb-true 1 line.number number.1))
   where
-    told_by : (n : ℕ) → 1 ≤ n → is_told n ≡ true
+    told_by : (n : ℕ) → 1 ≤ n → is_reported n ≡ true
     told_by n low = lt-ltb 0 n (omega (arith, low))
 
 -- ---- who is born as a node stays one
@@ -98,7 +98,7 @@ module _ (words : ℕ → ℕ → ℕ × ℕ) (scenario : Scenario) (quiet : Row
   abbrev sent : List Mail
   sent = (row_of player_table seat quiet (Told line)).sent
 
-  reports : (me : ℕ) (why : OrderRefusal) → sent ≡ told_desk me line.number (Refused why) [] → Result
+  reports : (me : ℕ) (why : OrderRefusal) → sent ≡ result_sent me line.number (Refused why) [] → Result
   reports me why e =
       inl (subst (λ ms. IsReported ms line.number) (sym (mails-snoc quiet (row_of player_table seat quiet (Told line))))
       (reported_behind line.number (mails quiet) sent (subst (λ ms. IsReported ms line.number) (sym e) (desk_reports me line.number (Refused why) []))))
@@ -123,9 +123,9 @@ module _ (words : ℕ → ℕ → ℕ × ℕ) (scenario : Scenario) (quiet : Row
       abbrev rest : IsAtRest r × (r.running ≡ true → r.leader.reports ≡ []) × (next r ≤ last_slot)
       rest = rests (group_of_order line.order) seat.who r (view_was all quiet seat Go (group_of_order line.order) seated (Node node) is ∙ here)
 
-      refused : (why : OrderRefusal) → untaken node.draws line r ≡ Some why → ordered_row node.draws line (r, []) ≡ (r, told_desk r.me line.number (Refused why) [])
+      refused : (why : OrderRefusal) → untaken node.draws line r ≡ Some why → ordered_row node.draws line (r, []) ≡ (r, result_sent r.me line.number (Refused why) [])
       unfolding ordered_row
-      refused why e = ap (λ (x : Option OrderRefusal). taken_or_told x line.number (ordered_command (next_name node.draws) line.number line.order) (r, [])) e
+      refused why e = ap (λ (x : Option OrderRefusal). queued_or_refused x line.number (ordered_command (next_name node.draws) line.number line.order) (r, [])) e
 
       -- one that takes it has its command as its one work
       taken : untaken node.draws line r ≡ None → Result

@@ -58,7 +58,7 @@ module _ (at : Sets) (course : Course) (command : Command) (place : Place) (led 
   past = entries_lead at course command place led is_next
 
   on_led : IsOn command place.0 mid.0 → IsLed at course mid.0
-  on_led on = subst (IsLed at course) (sym on.is) (stays_led at course command place.0 led ready is_next on.acts on.calls on.stands on.stays)
+  on_led on = subst (IsLed at course) (sym on.is) (stays_led at course command place.0 led ready is_next on.acts on.backlog on.stands on.stays)
 
   up_on : IsOn command place.0 mid.0 → next mid.0 ≡ next place.0 + 1
   up_on on = ap next on.is ∙ entered_next command place.0

@@ -21,18 +21,18 @@ use Rattle.sc_live_answers.proofs.Frames.{found_once, nodes_numbered}
 
 pub resting_known : PrefixesAreFound → RoutesInPrefixesAgree → NoMailForStrangers → ValidJournalsAreSound → ValidEntriesAreLogs → RestingPrefixesAreKnown
 resting_known found_law agree_law no_law sound_law logs_law words scenario first journal quiet far calm rests room = record {
-  one = (sound_law as_nodes refl words scenario calm.valid journal calm.lawful quiet rests.front.more rests.front.is).whole;
-  logs = logs_law as_nodes refl words scenario calm.valid quiet (prefix_lawful words scenario journal quiet calm.lawful rests.front);
-  agree = agree_law words scenario journal quiet (record { calm = calm; begins = rests.front; quiet = rests.calm; sent = rests.sent });
-  homes = λ rows front. (found_law words scenario journal rows calm front).homes;
+  one = (sound_law as_nodes refl words scenario calm.valid journal calm.lawful quiet rests.prefix.more rests.prefix.is).whole;
+  logs = logs_law as_nodes refl words scenario calm.valid quiet (prefix_lawful words scenario journal quiet calm.lawful rests.prefix);
+  agree = agree_law words scenario journal quiet (record { calm = calm; begins = rests.prefix; quiet = rests.calm; sent = rests.sent });
+  homes = λ rows prefix. (found_law words scenario journal rows calm prefix).homes;
   born = λ base among who member. no_law.born words scenario journal calm base among who member;
   room = room;
 }
 
-module _ (all_bounded : ValidScenariosAreBounded) (once_law : LawfulReplicasAreNamedOnce) (found_law : PrefixesAreFound) (plain_law : SentReplicas) (words : ℕ → ℕ → ℕ × ℕ) (scenario : Scenario) (journal rows : Rows) (calm : IsCalmJournal words scenario journal) (front : IsPrefixOf journal rows)
+module _ (all_bounded : ValidScenariosAreBounded) (once_law : LawfulReplicasAreNamedOnce) (found_law : PrefixesAreFound) (plain_law : SentReplicas) (words : ℕ → ℕ → ℕ × ℕ) (scenario : Scenario) (journal rows : Rows) (calm : IsCalmJournal words scenario journal) (prefix : IsPrefixOf journal rows)
     (sent : AreSent words scenario journal rows) (me : ℕ) (node : NodeState) (one : 1 ≤ me) (most : me ≤ scenario.nodes) (is : value player_table (node_seat as_nodes scenario.groups scenario.policy me) rows ≡ Node node) where
   found : IsFoundPrefix words scenario journal rows
-  found = found_law words scenario journal rows calm front
+  found = found_law words scenario journal rows calm prefix
 
   may_pump : (r : ReplicaState) → Among r node.replicas → MayPump r
   may_pump r a =

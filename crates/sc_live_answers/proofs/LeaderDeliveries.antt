@@ -3,7 +3,7 @@ use Rattle.std.proofs.Common.{◌≡◌, ℕ, Bool, eqb, true, false, true≢fal
 use Rattle.std.proofs.lemmas.Bool.{cases_Bool, eq-eqb, eqb-true, cond-true, cond-false}
 use Rattle.std.specs.Option.{option_map}
 use Rattle.sc_base.specs.Definitions.{Among, is_member}
-use Rattle.sc_policy.specs.Definitions.{is_told}
+use Rattle.sc_policy.specs.Definitions.{is_reported}
 use Rattle.sc_node_table.specs.Values.{Ballot, Draw, Command, OrderLine, Mail, MailBody, Request, Answer, Prepare, Promise, Accept, Accepted, Nack, Learn, Ask, Install, TxPrepare, TxVote, TxOutcome, TxElsewhere, TxWatch, TxWatched, Told as ToldMail, Node, Client, Seat, Event, Deliver, Got, Flight}
 use Rattle.sc_machine_table.specs.Definitions.{Group, applied}
 use Rattle.sc_client_table.specs.Definitions.{Client as ClientState}
@@ -32,7 +32,7 @@ some_or_none (x ∷ xs) = inr (λ e. cc)
 pub data HasActed (r : ReplicaState) (after : Place) : Type 0 where
   Waited : after.0.running ≡ r.running → after.0.group ≡ r.group → (works r ≡ []) ⊎ (works after.0 ≡ works r) → HasActed r after
   Ran : (flight : Flight Command) (work : Work) → Among flight r.leader.flights → works r ≡ work ∷ [] → work_by flight.value ≡ Some work → works after.0 ≡ [] → after.0.group ≡ (applied r.group flight.value).0
-      → (StaysIn flight.value r.me r.group → after.0.running ≡ true) → ((n : ℕ) → is_told n ≡ true → EndsOrder n flight.value r.group → IsReported after.1 n) → HasActed r after
+      → (StaysIn flight.value r.me r.group → after.0.running ≡ true) → ((n : ℕ) → is_reported n ≡ true → EndsOrder n flight.value r.group → IsReported after.1 n) → HasActed r after
 
 -- so it has taken a step
 pub steps_of : (r : ReplicaState) (after : Place) → HasActed r after → HasStepped r after.0
@@ -54,8 +54,8 @@ files_work work r sent after may w = Waited w.running w.group (inl may.idle)
 
 flies_work : (flight : Flight Command) (work : Work) (r : ReplicaState) → FliesLone flight r → work_by flight.value ≡ Some work → works r ≡ work ∷ []
 flies_work flight work r flies is =
-    ap (λ l. l ++ (works_in r.calls ++ (works_flying r.leader.flights ++ works_ready r.ready))) flies.acts
-    ∙ (ap (λ l. l ++ (works_flying r.leader.flights ++ works_ready r.ready)) flies.calls
+    ap (λ l. l ++ (works_in r.backlog ++ (works_flying r.leader.flights ++ works_ready r.ready))) flies.acts
+    ∙ (ap (λ l. l ++ (works_flying r.leader.flights ++ works_ready r.ready)) flies.backlog
     ∙ (ap (λ l. works_flying l ++ works_ready r.ready) flies.flights
     ∙ (ap (λ l. works_flying (flight ∷ []) ++ works_ready l) flies.ready ∙ ap (λ o. (listed o ++ []) ++ []) is)))
 
@@ -168,9 +168,9 @@ module _ (words : ℕ → ℕ → ℕ × ℕ) (births : List (Seat Player)) (row
     module _ (node : NodeState) (is : value player_table seat rows ≡ Node node) (mail : Mail) (at : numbered (mails rows) number ≡ Some mail) where
       makes : (step : NodeState × List Mail) → on_mail mail.from mail.body node ≡ step → replica_of name step.0.replicas ≡ replica_of name node.replicas → Fate name
       makes step e stays =
-          let does = ap (λ (x : NodeState × List Mail). (Node x.0, x.1)) e in
+          let response = ap (λ (x : NodeState × List Mail). (Node x.0, x.1)) e in
           let input = ap (option_map Got) at in
-          Same (now_is births rows seat event node born is step (Some (Got mail)) input does name ∙ (stays ∙ sym (was_is births rows seat event node born is step (Some (Got mail)) input does name)))
+          Same (now_is births rows seat event node born is step (Some (Got mail)) input response name ∙ (stays ∙ sym (was_is births rows seat event node born is step (Some (Got mail)) input response name)))
 
       module _ (group : Draw) (t : IsTaking words births rows seat number mail group node) where
         takes_by : (o : Option ReplicaState) → replica_of group node.replicas ≡ o → on_mail mail.from mail.body node ≡ taken_by o group mail.from mail.body node

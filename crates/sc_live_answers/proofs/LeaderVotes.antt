@@ -238,8 +238,8 @@ module _ (words : ℕ → ℕ → ℕ × ℕ) (births : List (Seat Player)) (row
         let place : flight.slot ≡ next r = (let top = known_slot in omega (arith, low, at_slot, bound, top)) in
         let one = works_one words births rows seat number mail base node r h runs under in
         let some : Among work.0 (works r) =
-        among-right work.0 (works_in r.acts) (works_in r.calls ++ (works_flying r.leader.flights ++ works_ready r.ready))
-        (among-right work.0 (works_in r.calls) (works_flying r.leader.flights ++ works_ready r.ready)
+        among-right work.0 (works_in r.acts) (works_in r.backlog ++ (works_flying r.leader.flights ++ works_ready r.ready))
+        (among-right work.0 (works_in r.backlog) (works_flying r.leader.flights ++ works_ready r.ready)
         (among-left work.0 (works_flying r.leader.flights) (works_ready r.ready) (work_flies r.leader.flights flight work.0 f.0 work.1))) in
         let only : works r ≡ work.0 ∷ [] = one.1 ∙ only_work one.0 work.0 (subst (Among work.0) one.1 some) in
         let flies = fly_lone work.0 flight r runs (free_of words births rows seat number mail base node r h runs) only lone.flights lone.ready f.0 place in

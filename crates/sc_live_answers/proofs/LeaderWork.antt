@@ -24,8 +24,8 @@ use Rattle.sc_live_answers.proofs.CountableVotes.{work_flies}
 
 pub is_work_of : (r : ReplicaState) (flight : Flight Command) (work : Work) → Among flight r.leader.flights → work_by flight.value ≡ Some work → Among work (works r)
 is_work_of r flight work a e =
-    among-right work (works_in r.acts) (works_in r.calls ++ (works_flying r.leader.flights ++ works_ready r.ready))
-    (among-right work (works_in r.calls) (works_flying r.leader.flights ++ works_ready r.ready) (among-left work (works_flying r.leader.flights) (works_ready r.ready) (work_flies r.leader.flights flight work a e)))
+    among-right work (works_in r.acts) (works_in r.backlog ++ (works_flying r.leader.flights ++ works_ready r.ready))
+    (among-right work (works_in r.backlog) (works_flying r.leader.flights ++ works_ready r.ready) (among-left work (works_flying r.leader.flights) (works_ready r.ready) (work_flies r.leader.flights flight work a e)))
 
 -- a party to which an outcome comes: it voted, it has its leader, and it is bound
 pub record IsEnding (stage : Stage) (name tx : Draw) : Type 0 where
@@ -101,7 +101,7 @@ not_some (Some into) e = absurd (true≢false e)
 
 module _ (tells : ReplicasAreRecorded) (words : ℕ → ℕ → ℕ × ℕ) (scenario : Scenario) (first : Base) (journal quiet rows : Rows) (name : Draw) (node : ℕ) (r : ReplicaState) (stage : Stage) (l : LeadsSince words scenario first journal quiet rows name node r stage) where
   pub timely : AreInTime (players words (births as_nodes scenario)) rows
-  timely = prefix_in_time words (births as_nodes scenario) rows l.front.more (subst (AreInTime (players words (births as_nodes scenario))) l.front.is l.calm.timely)
+  timely = prefix_in_time words (births as_nodes scenario) rows l.prefix.more (subst (AreInTime (players words (births as_nodes scenario))) l.prefix.is l.calm.timely)
 
   pub me_is : r.me ≡ node
   me_is = (journals_idle words scenario rows name node r timely l.leads.is_there).0
@@ -121,7 +121,7 @@ module _ (tells : ReplicasAreRecorded) (words : ℕ → ℕ → ℕ × ℕ) (sce
   -- where its group was there, the group stands, and it is a member
   module _ (there : IsThere (births as_nodes scenario) quiet name) where
     base : (base : Base) × IsGroupOf as_nodes words scenario journal base × (base.core.id ≡ name)
-    base = base_of tells words scenario first journal quiet rows l.front.more l.front.is l.calm l.rests l.seen name there
+    base = base_of tells words scenario first journal quiet rows l.prefix.more l.prefix.is l.calm l.rests l.seen name there
 
     pub stands_in : (r.group.core.gone ≡ None) × (is_member (members r) r.me ≡ true)
     stands_in =

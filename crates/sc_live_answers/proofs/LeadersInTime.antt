@@ -55,8 +55,8 @@ sent_so seats all rows more base e so = record {
 }
 
 module _ (well : ScenariosAreWellBorn) (kept : ScenariosAreKeptBorn) (keeps : ReplicasAreKept) (go_on : EventsGoOn) (one_log : LedLogsAreOne) (rosters : SlotsHaveRosters) (begins : GroupsBeginLed) where
-  module _ (words : ℕ → ℕ → ℕ × ℕ) (scenario : Scenario) (journal front rest : Rows) (base : Base) (group : IsGroupOf as_nodes words scenario journal base) (few : AreFew as_nodes scenario journal base) (split : journal ≡ front ++ rest)
-      (so : IsSentSo (births as_nodes scenario) front base) where
+  module _ (words : ℕ → ℕ → ℕ × ℕ) (scenario : Scenario) (journal prefix rest : Rows) (base : Base) (group : IsGroupOf as_nodes words scenario journal base) (few : AreFew as_nodes scenario journal base) (split : journal ≡ prefix ++ rest)
+      (so : IsSentSo (births as_nodes scenario) prefix base) where
     abbrev all : List (Seat Player)
     all = births as_nodes scenario
 
@@ -90,7 +90,7 @@ module _ (well : ScenariosAreWellBorn) (kept : ScenariosAreKeptBorn) (keeps : Re
       counted : CountedIn rows
 
     -- what begins the first rows begins the journal
-    whole : (rows more : Rows) → front ≡ rows ++ more → journal ≡ rows ++ (more ++ rest)
+    whole : (rows more : Rows) → prefix ≡ rows ++ more → journal ≡ rows ++ (more ++ rest)
     whole rows more e = split ∙ (ap (λ l. l ++ rest) e ∙ append_assoc rows more rest)
 
     has_leaders : (rows more : Rows) → journal ≡ rows ++ more → ((before : Rows) (row : Row Mail OrderLine) (after : Rows) → rows ≡ before ++ row ∷ after → (mail : Mail) → Among mail (mails before) → GivesAllowedOrder mail) → CountedIn rows
@@ -122,7 +122,7 @@ module _ (well : ScenariosAreWellBorn) (kept : ScenariosAreKeptBorn) (keeps : Re
 
     -- ---- one row more
 
-    module _ (rows : Rows) (seat : Seat Player) (event : Event OrderLine) (more : Rows) (starts : front ≡ with_event rows seat event ++ more) (born : IsSeat (births as_nodes scenario) seat) (calm : IsCalmEvent (players words (births as_nodes scenario)) rows seat.who event)
+    module _ (rows : Rows) (seat : Seat Player) (event : Event OrderLine) (more : Rows) (starts : prefix ≡ with_event rows seat event ++ more) (born : IsSeat (births as_nodes scenario) seat) (calm : IsCalmEvent (players words (births as_nodes scenario)) rows seat.who event)
         (timely : AreInTime (players words (births as_nodes scenario)) (with_event rows seat event)) (g : Goes rows) where
       abbrev then_ : Rows
       then_ = with_event rows seat event
@@ -150,7 +150,7 @@ module _ (well : ScenariosAreWellBorn) (kept : ScenariosAreKeptBorn) (keeps : Re
       one = one_log as_nodes words by scenario journal then_ (more ++ rest) base group in_journal (has_leaders then_ (more ++ rest) in_journal sent_then counted_then)
 
       step : IsLedStep at over by words all rows seat event base g.course
-      step = go_on at over by words all then_ base (well scenario) one (sent_so all front then_ more base starts so) rows seat event g.course (record { more = []; is = sym (append-nil then_) }) born calm timely g.led
+      step = go_on at over by words all then_ base (well scenario) one (sent_so all prefix then_ more base starts so) rows seat event g.course (record { more = []; is = sym (append-nil then_) }) born calm timely g.led
 
       -- the newest state is no older
       rises : (later : Course) → IsGroupRow at over by all rows seat event base g.course later → g.course.newest ≤ later.newest
@@ -225,7 +225,7 @@ module _ (well : ScenariosAreWellBorn) (kept : ScenariosAreKeptBorn) (keeps : Re
 
     -- ---- all rows
 
-    after_row : (rows : Rows) (row : Row Mail OrderLine) → AreInTime (players words all) (rows ++ row ∷ []) → ((more : Rows) → front ≡ rows ++ more → Goes rows) → (more : Rows) → front ≡ (rows ++ row ∷ []) ++ more → Goes (rows ++ row ∷ [])
+    after_row : (rows : Rows) (row : Row Mail OrderLine) → AreInTime (players words all) (rows ++ row ∷ []) → ((more : Rows) → prefix ≡ rows ++ more → Goes rows) → (more : Rows) → prefix ≡ (rows ++ row ∷ []) ++ more → Goes (rows ++ row ∷ [])
     after_row rows row timely was more is =
         let calm = (last_in_time (players words all) rows row timely).0 in
         subst (λ (r : Row Mail OrderLine). Goes (rows ++ r ∷ [])) (sym calm.row_is)
@@ -235,30 +235,30 @@ module _ (well : ScenariosAreWellBorn) (kept : ScenariosAreKeptBorn) (keeps : Re
     begin : IsLedOn at over by words all [] base → Goes []
     begin led = record { course = led.0; led = led.1; fresh = λ slot least. refl; sent = tt; counted = λ before seat event r after i. absurd (none_behind before (row_of player_table seat before event) i.more i.is) }
 
-    goes_through : AreInTime (players words (births as_nodes scenario)) front → IsLedOn at over by words all [] base → Goes front
-    goes_through timely led = by_time (players words all) (λ rows. (more : Rows) → front ≡ rows ++ more → Goes rows) (λ more e. begin led) after_row front timely [] (sym (append-nil front))
+    goes_through : AreInTime (players words (births as_nodes scenario)) prefix → IsLedOn at over by words all [] base → Goes prefix
+    goes_through timely led = by_time (players words all) (λ rows. (more : Rows) → prefix ≡ rows ++ more → Goes rows) (λ more e. begin led) after_row prefix timely [] (sym (append-nil prefix))
 
-    pub led_through : AreInTime (players words (births as_nodes scenario)) front → IsLedOn at over by words all [] base → IsLedOn at over by words all front base × HasLeaders as_nodes by scenario journal front base
+    pub led_through : AreInTime (players words (births as_nodes scenario)) prefix → IsLedOn at over by words all [] base → IsLedOn at over by words all prefix base × HasLeaders as_nodes by scenario journal prefix base
     led_through timely led =
         let g = goes_through timely led in
-        ((g.course, g.led), has_leaders front rest split (λ before row after e mail a. Each-among GivesAllowedOrder (mails front) mail g.sent (sent_before front before (row ∷ after) mail e a)) g.counted)
+        ((g.course, g.led), has_leaders prefix rest split (λ before row after e mail a. Each-among GivesAllowedOrder (mails prefix) mail g.sent (sent_before prefix before (row ∷ after) mail e a)) g.counted)
 
   pub groups_are_led : GroupsAreLed
-  groups_are_led words scenario journal front more base group timely few split so =
-      led_through words scenario journal front more base group few split so (λ before row after e. timely before row (after ++ more) (split ∙ (ap (λ l. l ++ more) e ∙ append_assoc before (row ∷ after) more)))
+  groups_are_led words scenario journal prefix more base group timely few split so =
+      led_through words scenario journal prefix more base group few split so (λ before row after e. timely before row (after ++ more) (split ∙ (ap (λ l. l ++ more) e ∙ append_assoc before (row ∷ after) more)))
       (begins words (slot_leaders_at as_nodes scenario base journal) scenario journal base group)
 
   pub led_rows_go_on : LedRowsGoOn
-  led_rows_go_on words scenario journal front more base group timely few split so rows seat event row born calm =
+  led_rows_go_on words scenario journal prefix more base group timely few split so rows seat event row born calm =
       let this : Row Mail OrderLine = row_of player_table seat rows event in
-      let begins_prefix : front ≡ rows ++ (this ∷ row.more) = row.is ∙ append_assoc rows (this ∷ []) row.more in
+      let begins_prefix : prefix ≡ rows ++ (this ∷ row.more) = row.is ∙ append_assoc rows (this ∷ []) row.more in
       let begins_all : journal ≡ rows ++ ((this ∷ row.more) ++ more) = split ∙ (ap (λ l. l ++ more) begins_prefix ∙ append_assoc rows (this ∷ row.more) more) in
       let with_this : journal ≡ with_event rows seat event ++ (row.more ++ more) = split ∙ (ap (λ l. l ++ more) row.is ∙ append_assoc (with_event rows seat event) row.more more) in
-      let led = (groups_are_led words scenario journal rows ((this ∷ row.more) ++ more) base group timely few begins_all (sent_so (births as_nodes scenario) front rows (this ∷ row.more) base begins_prefix so)).0 in
-      let has = (groups_are_led words scenario journal front more base group timely few split so).1 in
-      let one = one_log as_nodes words (slot_leaders_at as_nodes scenario base journal) scenario journal front more base group split has in (
+      let led = (groups_are_led words scenario journal rows ((this ∷ row.more) ++ more) base group timely few begins_all (sent_so (births as_nodes scenario) prefix rows (this ∷ row.more) base begins_prefix so)).0 in
+      let has = (groups_are_led words scenario journal prefix more base group timely few split so).1 in
+      let one = one_log as_nodes words (slot_leaders_at as_nodes scenario base journal) scenario journal prefix more base group split has in (
         led.0,
         led.1,
-        go_on (logged_sets as_nodes base journal) (over_at as_nodes base journal) (slot_leaders_at as_nodes scenario base journal) words (births as_nodes scenario) front base (well scenario) one so rows seat event led.0 row born calm
+        go_on (logged_sets as_nodes base journal) (over_at as_nodes base journal) (slot_leaders_at as_nodes scenario base journal) words (births as_nodes scenario) prefix base (well scenario) one so rows seat event led.0 row born calm
             (λ before other after e. timely before other (after ++ (row.more ++ more)) (with_this ∙ (ap (λ l. l ++ (row.more ++ more)) e ∙ append_assoc before (other ∷ after) (row.more ++ more)))) led.1,
       )

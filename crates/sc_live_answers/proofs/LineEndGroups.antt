@@ -72,26 +72,26 @@ module _ (words : ℕ → ℕ → ℕ × ℕ) (scenario : Scenario) (begins : Is
     idle client seq held =
         leader_idle (IsBegun scenario rows) frame frame_is g.r leads.1 (λ slot voters e node m. counted slot voters node m (g.between.votes slot voters (ap (λ o. votes_in o slot) g.there ∙ e) node m)) client seq held
 
-    call_of : (command : Command) → IsPlainCommand (IsBegun scenario rows) frame command → (client : ℕ) × (seq : ℕ) × (op : _) × (command ≡ Call client seq op)
-    call_of command p = call_is (IsBegun scenario rows) frame frame_is 0 0 [] 0 (λ x y. ⊥) command p
+    queued_number : (command : Command) → IsPlainCommand (IsBegun scenario rows) frame command → (client : ℕ) × (seq : ℕ) × (op : _) × (command ≡ Call client seq op)
+    queued_number command p = call_is (IsBegun scenario rows) frame frame_is 0 0 [] 0 (λ x y. ⊥) command p
 
-    no_calls : (calls : List Command) → g.r.calls ≡ calls → calls ≡ []
+    no_calls : (backlog : List Command) → g.r.backlog ≡ backlog → backlog ≡ []
     no_calls [] e = refl
-    no_calls (command ∷ calls) e = (let c = call_of command (subst (Each (IsPlainCommand (IsBegun scenario rows) frame)) e leads.1.leader.calls).0 in
+    no_calls (command ∷ backlog) e = (let c = queued_number command (subst (Each (IsPlainCommand (IsBegun scenario rows) frame)) e leads.1.leader.backlog).0 in
         absurd (idle c.0 c.1 (record { number = c.1; op = c.2; later = omega arith; where_ = inl (subst (Among (Call c.0 c.1 c.2)) (sym e) (inl c.3)) })))
 
     no_flights : (flights : List (Flight Command)) → g.r.leader.flights ≡ flights → flights ≡ []
     no_flights [] e = refl
-    no_flights (flight ∷ flights) e = (let c = call_of flight.value (subst (Each (IsPlainFlight (IsBegun scenario rows) frame)) e leads.1.leader.flights).0.is_call in
+    no_flights (flight ∷ flights) e = (let c = queued_number flight.value (subst (Each (IsPlainFlight (IsBegun scenario rows) frame)) e leads.1.leader.flights).0.is_call in
         absurd (idle c.0 c.1 (record { number = c.1; op = c.2; later = omega arith; where_ = inr (inl (flight, subst (Among flight) (sym e) (inl refl), c.3)) })))
 
     no_ready : (ready : List (ℕ × Command)) → g.r.ready ≡ ready → ready ≡ []
     no_ready [] e = refl
-    no_ready (entry ∷ ready) e = (let c = call_of entry.1 (subst (Each (λ (x : ℕ × Command). IsPlainCommand (IsBegun scenario rows) frame x.1)) e leads.1.leader.ready).0 in
+    no_ready (entry ∷ ready) e = (let c = queued_number entry.1 (subst (Each (λ (x : ℕ × Command). IsPlainCommand (IsBegun scenario rows) frame x.1)) e leads.1.leader.ready).0 in
         absurd (idle c.0 c.1 (record { number = c.1; op = c.2; later = omega arith; where_ = inr (inr (entry.0, subst (Among (entry.0, Call c.0 c.1 c.2)) (sym e) (inl (ap (λ (x : Command). (entry.0, x)) c.3)))) })))
 
-    pub calls_none : g.r.calls ≡ []
-    calls_none = no_calls g.r.calls refl
+    pub calls_none : g.r.backlog ≡ []
+    calls_none = no_calls g.r.backlog refl
 
     pub flights_none : g.r.leader.flights ≡ []
     flights_none = no_flights g.r.leader.flights refl
@@ -125,14 +125,14 @@ module _ (words : ℕ → ℕ → ℕ × ℕ) (scenario : Scenario) (begins : Is
         record {
           free = ap (λ (c : Core). c.lock) h.core_is ∙ rest.free;
           acts = p.acts;
-          calls = ap (λ (x : ReplicaState). x.calls) (sym same) ∙ calls_none;
+          backlog = ap (λ (x : ReplicaState). x.backlog) (sym same) ∙ calls_none;
           waits = p.waits;
           flights = ap (λ (x : ReplicaState). x.leader.flights) (sym same) ∙ flights_none;
           ready = ap (λ (x : ReplicaState). x.ready) (sym same) ∙ ready_none;
         }
     rests_at node r e first rest h (inl (p, inr f)) =
-        record { free = ap (λ (c : Core). c.lock) h.core_is ∙ rest.free; acts = p.acts; calls = f.1.calls; waits = p.waits; flights = f.1.flights; ready = f.1.ready }
+        record { free = ap (λ (c : Core). c.lock) h.core_is ∙ rest.free; acts = p.acts; backlog = f.1.backlog; waits = p.waits; flights = f.1.flights; ready = f.1.ready }
     rests_at node r e first rest h (inr left) = elim (h.rest) [
       | inr member ↦ absurd (both_ways (is_member frame.core.members node) left.left member)
-      | inl s ↦ record { free = ap (λ (c : Core). c.lock) h.core_is ∙ rest.free; acts = s.acts_are ∙ rest.acts; calls = left.follower.calls; waits = s.waits_are ∙ rest.waits; flights = left.follower.flights; ready = left.follower.ready }
+      | inl s ↦ record { free = ap (λ (c : Core). c.lock) h.core_is ∙ rest.free; acts = s.acts_are ∙ rest.acts; backlog = left.follower.backlog; waits = s.waits_are ∙ rest.waits; flights = left.follower.flights; ready = left.follower.ready }
     ]

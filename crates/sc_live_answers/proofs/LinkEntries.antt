@@ -29,50 +29,50 @@ use Rattle.sc_live_answers.proofs.BoundGroups.{stays_or_ends, takes_node}
 
 module _ (sources : Sources) (bases : List Base) (start : BeginInPlace sources bases) (entries : List LogEntry) (all_allowed : AreAllowed sources (first_recorded bases) entries) where
   abbrev pub at_prefix : List LogEntry → StoryWorld
-  at_prefix front = recorded_after (first_recorded bases) front
+  at_prefix prefix = recorded_after (first_recorded bases) prefix
 
   abbrev pub groups_then : List LogEntry → Groups
-  groups_then front = groups_in (at_prefix front).store.groups
+  groups_then prefix = groups_in (at_prefix prefix).store.groups
 
-  kept : (front more : List LogEntry) → entries ≡ front ++ more → KeptWorld sources.owner (at_prefix front)
-  kept front more are = kept_after sources (first_recorded bases) front (at_start sources bases start) (allowed_parts sources (first_recorded bases) front more (subst (AreAllowed sources (first_recorded bases)) are all_allowed)).0
+  kept : (prefix more : List LogEntry) → entries ≡ prefix ++ more → KeptWorld sources.owner (at_prefix prefix)
+  kept prefix more are = kept_after sources (first_recorded bases) prefix (at_start sources bases start) (allowed_parts sources (first_recorded bases) prefix more (subst (AreAllowed sources (first_recorded bases)) are all_allowed)).0
 
-  next_allowed : (front : List LogEntry) (e : LogEntry) (more : List LogEntry) → entries ≡ front ++ e ∷ more → IsAllowed sources (at_prefix front).stories e.group e.command
-  next_allowed front e more are = (allowed_parts sources (first_recorded bases) front (e ∷ more) (subst (AreAllowed sources (first_recorded bases)) are all_allowed)).1.0
+  next_allowed : (prefix : List LogEntry) (e : LogEntry) (more : List LogEntry) → entries ≡ prefix ++ e ∷ more → IsAllowed sources (at_prefix prefix).stories e.group e.command
+  next_allowed prefix e more are = (allowed_parts sources (first_recorded bases) prefix (e ∷ more) (subst (AreAllowed sources (first_recorded bases)) are all_allowed)).1.0
 
   -- what is allowed stays so to the end
-  to_end : (front more : List LogEntry) → entries ≡ front ++ more → (name : Draw) (command : Command) → IsAllowed sources (at_prefix front).stories name command → IsAllowed sources (stories_of bases entries) name command
-  to_end front more are name command a =
-      let parts = allowed_parts sources (first_recorded bases) front more (subst (AreAllowed sources (first_recorded bases)) are all_allowed) in
-      subst (λ (w : StoryWorld). IsAllowed sources w.stories name command) (sym (ap (recorded_after (first_recorded bases)) are ∙ recorded_append (first_recorded bases) front more))
-      (allowed_entries_stay_allowed sources bases front more start parts.0 parts.1 name command a)
+  to_end : (prefix more : List LogEntry) → entries ≡ prefix ++ more → (name : Draw) (command : Command) → IsAllowed sources (at_prefix prefix).stories name command → IsAllowed sources (stories_of bases entries) name command
+  to_end prefix more are name command a =
+      let parts = allowed_parts sources (first_recorded bases) prefix more (subst (AreAllowed sources (first_recorded bases)) are all_allowed) in
+      subst (λ (w : StoryWorld). IsAllowed sources w.stories name command) (sym (ap (recorded_after (first_recorded bases)) are ∙ recorded_append (first_recorded bases) prefix more))
+      (allowed_entries_stay_allowed sources bases prefix more start parts.0 parts.1 name command a)
 
-  longer : (front : List LogEntry) (e : LogEntry) (more : List LogEntry) → entries ≡ front ++ e ∷ more → entries ≡ (front ++ e ∷ []) ++ more
-  longer front e more are = are ∙ sym (append_assoc front (e ∷ []) more)
+  longer : (prefix : List LogEntry) (e : LogEntry) (more : List LogEntry) → entries ≡ prefix ++ e ∷ more → entries ≡ (prefix ++ e ∷ []) ++ more
+  longer prefix e more are = are ∙ sym (append_assoc prefix (e ∷ []) more)
 
-  next_world : (front : List LogEntry) (e : LogEntry) → at_prefix (front ++ e ∷ []) ≡ recorded_next (at_prefix front) e
-  next_world front e = recorded_append (first_recorded bases) front (e ∷ [])
+  next_world : (prefix : List LogEntry) (e : LogEntry) → at_prefix (prefix ++ e ∷ []) ≡ recorded_next (at_prefix prefix) e
+  next_world prefix e = recorded_append (first_recorded bases) prefix (e ∷ [])
 
   -- a group that an entry names, and every other one
-  own_then : (front : List LogEntry) (e : LogEntry) (s : Group) → groups_then front e.group ≡ Some s → groups_then (front ++ e ∷ []) e.group ≡ Some (applied s e.command).0
-  own_then front e s found =
-      ap (λ (w : StoryWorld). named_group e.group w.store.groups) (next_world front e) ∙ logs_make_states (at_prefix front).store e.group s found (e ∷ []) ∙ ap (λ cs. Some (state_after s cs)) (own_first e.group e [] refl)
+  own_then : (prefix : List LogEntry) (e : LogEntry) (s : Group) → groups_then prefix e.group ≡ Some s → groups_then (prefix ++ e ∷ []) e.group ≡ Some (applied s e.command).0
+  own_then prefix e s found =
+      ap (λ (w : StoryWorld). named_group e.group w.store.groups) (next_world prefix e) ∙ logs_make_states (at_prefix prefix).store e.group s found (e ∷ []) ∙ ap (λ cs. Some (state_after s cs)) (own_first e.group e [] refl)
 
-  other_then : (front : List LogEntry) (e : LogEntry) (name : Draw) (p : Group) → (e.group ≡ name → ⊥) → groups_then front name ≡ Some p → groups_then (front ++ e ∷ []) name ≡ Some p
-  other_then front e name p ne found =
-      ap (λ (w : StoryWorld). named_group name w.store.groups) (next_world front e) ∙ logs_make_states (at_prefix front).store name p found (e ∷ []) ∙ ap (λ cs. Some (state_after p cs)) (other_first name e [] ne)
+  other_then : (prefix : List LogEntry) (e : LogEntry) (name : Draw) (p : Group) → (e.group ≡ name → ⊥) → groups_then prefix name ≡ Some p → groups_then (prefix ++ e ∷ []) name ≡ Some p
+  other_then prefix e name p ne found =
+      ap (λ (w : StoryWorld). named_group name w.store.groups) (next_world prefix e) ∙ logs_make_states (at_prefix prefix).store name p found (e ∷ []) ∙ ap (λ cs. Some (state_after p cs)) (other_first name e [] ne)
 
-  module _ (Were : Draw → ℕ → Type 0) (were : (front more : List LogEntry) → entries ≡ front ++ more → (name : Draw) (u : Group) → groups_then front name ≡ Some u → Good Were name u.core.members) where
+  module _ (Were : Draw → ℕ → Type 0) (were : (prefix more : List LogEntry) → entries ≡ prefix ++ more → (name : Draw) (u : Group) → groups_then prefix name ≡ Some u → Good Were name u.core.members) where
     -- a node moves to a group that has promised, and the story says so
     pub record Moves (name : Draw) (node : ℕ) : Type 0 where
       pub tx : Draw
       pub offer : Offer
       pub part : offer.part ≡ name
-      pub front : List LogEntry
+      pub prefix : List LogEntry
       pub more : List LogEntry
-      pub are : entries ≡ front ++ more
+      pub are : entries ≡ prefix ++ more
       pub group : Group
-      pub is : groups_then front name ≡ Some group
+      pub is : groups_then prefix name ≡ Some group
       pub lock : group.core.lock ≡ Promised tx offer
       pub told : IsAllowed sources (stories_of bases entries) name (Finish tx (Migrated node))
 
@@ -88,26 +88,26 @@ module _ (sources : Sources) (bases : List Base) (start : BeginInPlace sources b
       same_outcome : (o : Outcome) → IsAllowed sources (stories_of bases entries) name (Finish tx o) → o ≡ Migrated node
       same_outcome o a = (let same : a.0 ≡ told.0 = same_Some a.0 told.0 (sym a.1 ∙ told.1) in same_Some o (Migrated node) (sym a.2 ∙ (ap (λ (y : Story). y.outcome) same ∙ told.2)))
 
-      walk : (more front : List LogEntry) → entries ≡ front ++ more → (p : Group) → groups_then front name ≡ Some p → p.core.lock ≡ Promised tx offer → Were name node
-      walk [] front are p is lock = absurd (free_promised p.core.lock (free p (ap (λ es. groups_then es name) (are ∙ append-nil front) ∙ is)) lock)
-      walk (e ∷ more) front are p is lock = elim (draw_cases e.group name) [
-        | inr ne ↦ walk more (front ++ e ∷ []) (longer front e more are) p (other_then front e name p ne is) lock
+      walk : (more prefix : List LogEntry) → entries ≡ prefix ++ more → (p : Group) → groups_then prefix name ≡ Some p → p.core.lock ≡ Promised tx offer → Were name node
+      walk [] prefix are p is lock = absurd (free_promised p.core.lock (free p (ap (λ es. groups_then es name) (are ∙ append-nil prefix) ∙ is)) lock)
+      walk (e ∷ more) prefix are p is lock = elim (draw_cases e.group name) [
+        | inr ne ↦ walk more (prefix ++ e ∷ []) (longer prefix e more are) p (other_then prefix e name p ne is) lock
         | inl same ↦ (
-            let now : groups_then (front ++ e ∷ []) name ≡ Some (applied p e.command).0 = ap (groups_then (front ++ e ∷ [])) (sym same) ∙ own_then front e p (ap (groups_then front) same ∙ is) in
+            let now : groups_then (prefix ++ e ∷ []) name ≡ Some (applied p e.command).0 = ap (groups_then (prefix ++ e ∷ [])) (sym same) ∙ own_then prefix e p (ap (groups_then prefix) same ∙ is) in
             elim (stays_or_ends p tx offer lock e.command) [
-              | inl stays ↦ walk more (front ++ e ∷ []) (longer front e more are) (applied p e.command).0 now stays
+              | inl stays ↦ walk more (prefix ++ e ∷ []) (longer prefix e more are) (applied p e.command).0 now stays
               | inr end ↦ (
-                  let may = subst (λ n. IsAllowed sources (at_prefix front).stories n e.command) same (next_allowed front e more are) in
-                  let last = to_end front (e ∷ more) are name (Finish tx end.outcome) (subst (IsAllowed sources (at_prefix front).stories name) end.by may) in
+                  let may = subst (λ n. IsAllowed sources (at_prefix prefix).stories n e.command) same (next_allowed prefix e more are) in
+                  let last = to_end prefix (e ∷ more) are name (Finish tx end.outcome) (subst (IsAllowed sources (at_prefix prefix).stories name) end.by may) in
                   let takes = ap (λ o. participant_after o p offer) (sym (same_outcome end.outcome last)) ∙ end.takes in
-                  (were (front ++ e ∷ []) more (longer front e more are) name (applied p e.command).0 now).1 node
+                  (were (prefix ++ e ∷ []) more (longer prefix e more are) name (applied p e.command).0 now).1 node
                   (ap (λ (g : Group). is_member g.core.members node) end.is ∙ takes_node p tx offer lock node end.left takes))
             ])
       ]
 
     pub moved : (name : Draw) → ((u : Group) → groups_then entries name ≡ Some u → u.core.lock ≡ Free) → (node : ℕ) → Come name node → Were name node
     moved name free node (inl was) = was
-    moved name free node (inr m) = walk name free node m.tx m.offer m.told m.more m.front m.are m.group m.is m.lock
+    moved name free node (inr m) = walk name free node m.tx m.offer m.told m.more m.prefix m.are m.group m.is m.lock
 
     -- ---- one more entry
 
@@ -118,12 +118,12 @@ module _ (sources : Sources) (bases : List Base) (start : BeginInPlace sources b
     abbrev pub AreLinkedSo : Groups → Stories → Type 0
     AreLinkedSo gs ys = ((name : Draw) (u : Group) → gs name ≡ Some u → IsLinkedSo Were Come come u.core) × ((tx : Draw) (y : Story) → ys tx ≡ Some y → GivesAllowedOrder Were Come come y)
 
-    module _ (front : List LogEntry) (e : LogEntry) (more : List LogEntry) (are : entries ≡ front ++ e ∷ more) (s : Group) (found : groups_then front e.group ≡ Some s) where
+    module _ (prefix : List LogEntry) (e : LogEntry) (more : List LogEntry) (are : entries ≡ prefix ++ e ∷ more) (s : Group) (found : groups_then prefix e.group ≡ Some s) where
       abbrev gs : Groups
-      gs = groups_then front
+      gs = groups_then prefix
 
       abbrev ys : Stories
-      ys = (at_prefix front).stories
+      ys = (at_prefix prefix).stories
 
       abbrev r : Group × Effect
       r = applied s e.command
@@ -131,23 +131,23 @@ module _ (sources : Sources) (bases : List Base) (start : BeginInPlace sources b
       abbrev division : Option Division
       division = division_of s.core e.command r.1
 
-      k : KeptWorld sources.owner (at_prefix front)
-      k = kept front (e ∷ more) are
+      k : KeptWorld sources.owner (at_prefix prefix)
+      k = kept prefix (e ∷ more) are
 
       may : IsAllowed sources ys e.group e.command
-      may = next_allowed front e more are
+      may = next_allowed prefix e more are
 
       facts : Facts sources.owner gs ys
       facts = k.kept.0
 
       named : s.core.id ≡ e.group
-      named = found_name e.group (at_prefix front).store.groups s found
+      named = found_name e.group (at_prefix prefix).store.groups s found
 
       here : gs s.core.id ≡ Some s
       here = ap gs named ∙ found
 
       new_child : (d : Division) → division ≡ Some d → gs d.child ≡ None
-      new_child d is = (fits sources (arcs_in (at_prefix front).store.ring) gs ys e.group s k.kept found e.command may).births d is
+      new_child d is = (fits sources (arcs_in (at_prefix prefix).store.ring) gs ys e.group s k.kept found e.command may).births d is
 
       new_base : (o : Option Division) → ((d : Division) → o ≡ Some d → gs d.child ≡ None) → (base : Base) → option_map (λ (d : Division). child_of s d.at d.child) o ≡ Some base → put gs s.core.id (Some r.0) base.core.id ≡ None
       new_base None fresh base q = absurd (none-some base q)
@@ -155,13 +155,13 @@ module _ (sources : Sources) (bases : List Base) (start : BeginInPlace sources b
           let id : d.child ≡ base.core.id = ap (λ (b : Base). b.core.id) (same_Some (child_of s d.at d.child) base q) in
           at-other gs s.core.id (Some r.0) base.core.id (λ w. some_none s (sym here ∙ (ap gs (sym w) ∙ (ap gs (sym id) ∙ fresh d refl)))) ∙ (ap gs (sym id) ∙ fresh d refl)
 
-      names_now : (h : Draw) → groups_then (front ++ e ∷ []) h ≡ with_child (put gs s.core.id (Some r.0)) (birth_of s e.command r.1) h
+      names_now : (h : Draw) → groups_then (prefix ++ e ∷ []) h ≡ with_child (put gs s.core.id (Some r.0)) (birth_of s e.command r.1) h
       names_now h =
-          ap (λ (w : StoryWorld). named_group h w.store.groups) (next_world front e)
-          ∙ (ap (λ o. named_group h (after_command (at_prefix front).store o e.command).groups) found
-          ∙ groups_are s r.0 (birth_of s e.command r.1) (at_prefix front).store.groups (applied_same s e.command).0 here (new_base division new_child) h)
+          ap (λ (w : StoryWorld). named_group h w.store.groups) (next_world prefix e)
+          ∙ (ap (λ o. named_group h (after_command (at_prefix prefix).store o e.command).groups) found
+          ∙ groups_are s r.0 (birth_of s e.command r.1) (at_prefix prefix).store.groups (applied_same s e.command).0 here (new_base division new_child) h)
 
-      child_now : (d : Division) → division ≡ Some d → groups_then (front ++ e ∷ []) d.child ≡ Some (group_of (child_of s d.at d.child))
+      child_now : (d : Division) → division ≡ Some d → groups_then (prefix ++ e ∷ []) d.child ≡ Some (group_of (child_of s d.at d.child))
       child_now d is =
           names_now d.child ∙ (ap (λ o. with_child (put gs s.core.id (Some r.0)) (option_map (λ (x : Division). child_of s x.at x.child) o) d.child) is
           ∙ at-same (put gs s.core.id (Some r.0)) d.child (Some (group_of (child_of s d.at d.child))))
@@ -225,38 +225,38 @@ module _ (sources : Sources) (bases : List Base) (start : BeginInPlace sources b
       moves_there tx vote by node is w =
           let decided : (applied s (RecordVote tx vote by)).1 ≡ Was.Decided (Migrated node) = ap (λ c. (applied s c).1) (sym is) ∙ w in
           let has = has_promised tx by node vote (subst (IsAllowed sources ys e.group) is may) s.core.lock refl decided in
-          let there : named_group e.group (world_of bases front).groups ≡ Some s = ap (λ (x : StoreWorld). named_group e.group x.groups) (sym (store_after (first_recorded bases) front)) ∙ found in
+          let there : named_group e.group (world_of bases prefix).groups ≡ Some s = ap (λ (x : StoreWorld). named_group e.group x.groups) (sym (store_after (first_recorded bases) prefix)) ∙ found in
           let makes = (groups_allow_others sources e.group s).votes tx vote by (Migrated node) decided s.core.succ.group in
           inr (record {
             tx = tx;
             offer = has.offer;
             part = has.part;
-            front = front;
+            prefix = prefix;
             more = e ∷ more;
             are = are;
             group = has.group;
             is = ap gs (sym has.part) ∙ has.is;
             lock = has.lock;
             told = subst (λ es. IsAllowed sources (stories_of bases es) s.core.succ.group (Finish tx (Migrated node))) (sym are)
-                (allows sources bases start front e s there s.core.succ.group (Finish tx (Migrated node)) (subst (λ c. MakesAllowed sources e.group s c s.core.succ.group (Finish tx (Migrated node))) (sym is) makes) more (subst (AreAllowed sources (first_recorded bases)) are all_allowed));
+                (allows sources bases start prefix e s there s.core.succ.group (Finish tx (Migrated node)) (subst (λ c. MakesAllowed sources e.group s c s.core.succ.group (Finish tx (Migrated node))) (sym is) makes) more (subst (AreAllowed sources (first_recorded bases)) are all_allowed));
           })
 
       module _ (linked : AreLinkedSo gs ys) where
-        landed : Lands Were Come come sources gs ys e.group s facts found (linked.0 e.group s found) linked.1 (were front (e ∷ more) are e.group s found) e.command r
+        landed : Lands Were Come come sources gs ys e.group s facts found (linked.0 e.group s found) linked.1 (were prefix (e ∷ more) are e.group s found) e.command r
         landed =
-            lands Were Come come sources gs ys e.group s facts found (linked.0 e.group s found) linked.1 (were front (e ∷ more) are e.group s found) e.command may
-            (were (front ++ e ∷ []) more (longer front e more are) e.group r.0 (own_then front e s found))
-            (λ d is. were (front ++ e ∷ []) more (longer front e more are) d.child (group_of (child_of s d.at d.child)) (child_now d is)) moves_there
+            lands Were Come come sources gs ys e.group s facts found (linked.0 e.group s found) linked.1 (were prefix (e ∷ more) are e.group s found) e.command may
+            (were (prefix ++ e ∷ []) more (longer prefix e more are) e.group r.0 (own_then prefix e s found))
+            (λ d is. were (prefix ++ e ∷ []) more (longer prefix e more are) d.child (group_of (child_of s d.at d.child)) (child_now d is)) moves_there
 
         linked_group : (h : Draw) (u : Group) → IsOneOf h u → IsLinkedSo Were Come come u.core
         linked_group h u (inl is) = subst (λ (g : Group). IsLinkedSo Were Come come g.core) (sym is) landed.core
         linked_group h u (inr (inl was)) = linked.0 h u was
         linked_group h u (inr (inr c)) = subst (λ (g : Group). IsLinkedSo Were Come come g.core) c.2 (landed.born c.0 c.1)
 
-        stories_now : (at_prefix (front ++ e ∷ [])).stories ≡ stories_after s e.command r.1 ys
-        stories_now = ap (λ (w : StoryWorld). w.stories) (next_world front e) ∙ ap (λ o. recorded_stories ys o e.command) found
+        stories_now : (at_prefix (prefix ++ e ∷ [])).stories ≡ stories_after s e.command r.1 ys
+        stories_now = ap (λ (w : StoryWorld). w.stories) (next_world prefix e) ∙ ap (λ o. recorded_stories ys o e.command) found
 
-        linked_next : AreLinkedSo (groups_then (front ++ e ∷ [])) (at_prefix (front ++ e ∷ [])).stories
+        linked_next : AreLinkedSo (groups_then (prefix ++ e ∷ [])) (at_prefix (prefix ++ e ∷ [])).stories
         linked_next = (
           λ h u w. linked_group h u (who_now division refl h u (sym (names_now h) ∙ w)),
           λ tx y w. landed.told tx y (ap (λ (z : Stories). z tx) (sym stories_now) ∙ w),
@@ -264,16 +264,16 @@ module _ (sources : Sources) (bases : List Base) (start : BeginInPlace sources b
 
     -- ---- after each prefix
 
-    linked_on : (front : List LogEntry) (e : LogEntry) (more : List LogEntry) → entries ≡ front ++ e ∷ more → (o : Option Group) → groups_then front e.group ≡ o → AreLinkedSo (groups_then front) (at_prefix front).stories
-        → AreLinkedSo (groups_then (front ++ e ∷ [])) (at_prefix (front ++ e ∷ [])).stories
-    linked_on front e more are (Some s) found k = linked_next front e more are s found k
-    linked_on front e more are None found k =
-        let same : at_prefix (front ++ e ∷ []) ≡ at_prefix front = next_world front e ∙ ap (λ o. record { store = after_command (at_prefix front).store o e.command; stories = recorded_stories (at_prefix front).stories o e.command }) found in
+    linked_on : (prefix : List LogEntry) (e : LogEntry) (more : List LogEntry) → entries ≡ prefix ++ e ∷ more → (o : Option Group) → groups_then prefix e.group ≡ o → AreLinkedSo (groups_then prefix) (at_prefix prefix).stories
+        → AreLinkedSo (groups_then (prefix ++ e ∷ [])) (at_prefix (prefix ++ e ∷ [])).stories
+    linked_on prefix e more are (Some s) found k = linked_next prefix e more are s found k
+    linked_on prefix e more are None found k =
+        let same : at_prefix (prefix ++ e ∷ []) ≡ at_prefix prefix = next_world prefix e ∙ ap (λ o. record { store = after_command (at_prefix prefix).store o e.command; stories = recorded_stories (at_prefix prefix).stories o e.command }) found in
         subst (λ (w : StoryWorld). AreLinkedSo (groups_in w.store.groups) w.stories) (sym same) k
 
-    linked_from : (more front : List LogEntry) → entries ≡ front ++ more → AreLinkedSo (groups_then front) (at_prefix front).stories → AreLinkedSo (groups_then entries) (at_prefix entries).stories
-    linked_from [] front are k = subst (λ es. AreLinkedSo (groups_then es) (at_prefix es).stories) (sym (are ∙ append-nil front)) k
-    linked_from (e ∷ more) front are k = linked_from more (front ++ e ∷ []) (longer front e more are) (linked_on front e more are (groups_then front e.group) refl k)
+    linked_from : (more prefix : List LogEntry) → entries ≡ prefix ++ more → AreLinkedSo (groups_then prefix) (at_prefix prefix).stories → AreLinkedSo (groups_then entries) (at_prefix entries).stories
+    linked_from [] prefix are k = subst (λ es. AreLinkedSo (groups_then es) (at_prefix es).stories) (sym (are ∙ append-nil prefix)) k
+    linked_from (e ∷ more) prefix are k = linked_from more (prefix ++ e ∷ []) (longer prefix e more are) (linked_on prefix e more are (groups_then prefix e.group) refl k)
 
     pub all_linked : ((base : Base) → Among base bases → Good Were base.core.succ.group base.core.succ.members) → AreLinkedSo (groups_then entries) (at_prefix entries).stories
     all_linked begin = linked_from entries [] refl (

@@ -30,32 +30,32 @@ pub use Rattle.sc_live_journals.proofs.RowsProofs.GroupBeginnings.{of_up_to}
 
 -- ---- two prefixes of a list
 
-record IsAhead {X : Type 0} (front more first rest : List X) : Type 0 where
+record IsAhead {X : Type 0} (prefix more first rest : List X) : Type 0 where
   mid : List X
-  is : front ≡ first ++ mid
+  is : prefix ≡ first ++ mid
   left : rest ≡ mid ++ more
 
-record IsBehind {X : Type 0} (front more first rest : List X) : Type 0 where
+record IsBehind {X : Type 0} (prefix more first rest : List X) : Type 0 where
   mid : List X
-  is : first ≡ front ++ mid
+  is : first ≡ prefix ++ mid
   left : more ≡ mid ++ rest
 
 head_is : {X : Type 0} (x y : X) (xs ys : List X) → x ∷ xs ≡ y ∷ ys → (x ≡ y) × (xs ≡ ys)
 head_is x y xs ys e = (cc, cc)
 
-two_prefixes : {X : Type 0} (front more first rest : List X) → front ++ more ≡ first ++ rest → IsAhead front more first rest ⊎ IsBehind front more first rest
-two_prefixes front more [] rest e = inl (record { mid = front; is = refl; left = sym e })
+two_prefixes : {X : Type 0} (prefix more first rest : List X) → prefix ++ more ≡ first ++ rest → IsAhead prefix more first rest ⊎ IsBehind prefix more first rest
+two_prefixes prefix more [] rest e = inl (record { mid = prefix; is = refl; left = sym e })
 two_prefixes [] more (y ∷ first) rest e = inr (record { mid = y ∷ first; is = refl; left = e })
-two_prefixes (x ∷ front) more (y ∷ first) rest e =
-    let h = head_is x y (front ++ more) (first ++ rest) e in
-    elim (two_prefixes front more first rest h.1) [
-      | inl a ↦ inl (record { mid = a.mid; is = ap (λ z. z ∷ front) h.0 ∙ ap (λ l. y ∷ l) a.is; left = a.left })
+two_prefixes (x ∷ prefix) more (y ∷ first) rest e =
+    let h = head_is x y (prefix ++ more) (first ++ rest) e in
+    elim (two_prefixes prefix more first rest h.1) [
+      | inl a ↦ inl (record { mid = a.mid; is = ap (λ z. z ∷ prefix) h.0 ∙ ap (λ l. y ∷ l) a.is; left = a.left })
       | inr b ↦ inr (record { mid = b.mid; is = ap (λ z. z ∷ first) (sym h.0) ∙ ap (λ l. x ∷ l) b.is; left = b.left })
     ]
 
-take_front : {X : Type 0} (xs ys : List X) → take (length xs) (xs ++ ys) ≡ xs
-take_front [] ys = refl
-take_front (x ∷ xs) ys = ap (λ l. x ∷ l) (take_front xs ys)
+take_prefix : {X : Type 0} (xs ys : List X) → take (length xs) (xs ++ ys) ≡ xs
+take_prefix [] ys = refl
+take_prefix (x ∷ xs) ys = ap (λ l. x ∷ l) (take_prefix xs ys)
 
 -- ---- the groups of a scenario
 
@@ -114,12 +114,12 @@ module _ (bounded : ValidScenariosAreBounded) (begin : ValidScenariosBeginWell) 
       within : after ≤ length (decided_log as_nodes base rows)
       is : u ≡ state_after (group_of base) (take after (decided_log as_nodes base rows))
 
-    after_prefix : (base : Base) (b : IsBorn scenario.groups entries base (decided_log as_nodes base rows)) (front more : List LogEntry) → entries ≡ front ++ more → (u : Group) → named_group base.core.id (world_of scenario.groups front).groups ≡ Some u → IsAfter base u
-    after_prefix base b front more are u found_ = elim (two_prefixes front more b.first b.rest (sym are ∙ b.are)) [
+    after_prefix : (base : Base) (b : IsBorn scenario.groups entries base (decided_log as_nodes base rows)) (prefix more : List LogEntry) → entries ≡ prefix ++ more → (u : Group) → named_group base.core.id (world_of scenario.groups prefix).groups ≡ Some u → IsAfter base u
+    after_prefix base b prefix more are u found_ = elim (two_prefixes prefix more b.first b.rest (sym are ∙ b.are)) [
       | inl a ↦ (
           let log : List Command = log_in base.core.id a.mid in
           let whole : decided_log as_nodes base rows ≡ log ++ log_in base.core.id more = sym b.log_is ∙ (ap (log_in base.core.id) a.left ∙ log_append base.core.id a.mid more) in
-          let there : named_group base.core.id (world_of scenario.groups front).groups ≡ Some (state_after (group_of base) log) =
+          let there : named_group base.core.id (world_of scenario.groups prefix).groups ≡ Some (state_after (group_of base) log) =
           ap (λ es. named_group base.core.id (world_of scenario.groups es).groups) a.is
           ∙ (ap (λ (w : StoreWorld). named_group base.core.id w.groups) (world_append (first_world scenario.groups) b.first a.mid) ∙ logs_make_states (world_of scenario.groups b.first) base.core.id (group_of base) b.there a.mid) in
           let len = ap length whole in
@@ -127,25 +127,25 @@ module _ (bounded : ValidScenariosAreBounded) (begin : ValidScenariosBeginWell) 
           record {
             after = length log;
             within = omega (arith, len, both);
-            is = same_Some u (state_after (group_of base) log) (sym found_ ∙ there) ∙ ap (state_after (group_of base)) (sym (ap (take (length log)) whole ∙ take_front log (log_in base.core.id more)));
+            is = same_Some u (state_after (group_of base) log) (sym found_ ∙ there) ∙ ap (state_after (group_of base)) (sym (ap (take (length log)) whole ∙ take_prefix log (log_in base.core.id more)));
           })
       | inr h ↦ (
-          let none : log_in base.core.id h.mid ≡ [] = right_none (log_in base.core.id front) (log_in base.core.id h.mid) (sym (log_append base.core.id front h.mid) ∙ (ap (log_in base.core.id) (sym h.is) ∙ b.silent)) in
+          let none : log_in base.core.id h.mid ≡ [] = right_none (log_in base.core.id prefix) (log_in base.core.id h.mid) (sym (log_append base.core.id prefix h.mid) ∙ (ap (log_in base.core.id) (sym h.is) ∙ b.silent)) in
           let there : named_group base.core.id (world_of scenario.groups b.first).groups ≡ Some u =
           ap (λ es. named_group base.core.id (world_of scenario.groups es).groups) h.is
-          ∙ (ap (λ (w : StoreWorld). named_group base.core.id w.groups) (world_append (first_world scenario.groups) front h.mid)
-          ∙ (logs_make_states (world_of scenario.groups front) base.core.id u found_ h.mid ∙ ap (λ cs. Some (state_after u cs)) none)) in
+          ∙ (ap (λ (w : StoreWorld). named_group base.core.id w.groups) (world_append (first_world scenario.groups) prefix h.mid)
+          ∙ (logs_make_states (world_of scenario.groups prefix) base.core.id u found_ h.mid ∙ ap (λ cs. Some (state_after u cs)) none)) in
           record { after = 0; within = omega arith; is = same_Some u (group_of base) (sym there ∙ b.there) })
     ]
 
-    were : (front more : List LogEntry) → entries ≡ front ++ more → (name : Draw) (u : Group) → groups_then sources scenario.groups well.place entries told.allowed front name ≡ Some u → Good Were name u.core.members
-    were front more are name u e =
-        let there : named_group name (world_of scenario.groups front).groups ≡ Some u = ap (λ (w : StoreWorld). named_group name w.groups) (sym (store_after (first_recorded scenario.groups) front)) ∙ e in
-        let last = stays_there (world_of scenario.groups front) name u there more in
+    were : (prefix more : List LogEntry) → entries ≡ prefix ++ more → (name : Draw) (u : Group) → groups_then sources scenario.groups well.place entries told.allowed prefix name ≡ Some u → Good Were name u.core.members
+    were prefix more are name u e =
+        let there : named_group name (world_of scenario.groups prefix).groups ≡ Some u = ap (λ (w : StoreWorld). named_group name w.groups) (sym (store_after (first_recorded scenario.groups) prefix)) ∙ e in
+        let last = stays_there (world_of scenario.groups prefix) name u there more in
         let whole : named_group name (world_at as_nodes scenario.groups rows).groups ≡ Some last.0 =
-        ap (λ es. named_group name (world_of scenario.groups es).groups) are ∙ (ap (λ (w : StoreWorld). named_group name w.groups) (world_append (first_world scenario.groups) front more) ∙ last.1) in
+        ap (λ es. named_group name (world_of scenario.groups es).groups) are ∙ (ap (λ (w : StoreWorld). named_group name w.groups) (world_append (first_world scenario.groups) prefix more) ∙ last.1) in
         let who = told.who name last.0 whole in
-        let a = after_prefix who.0 (told.born who.0 who.1) front more are u (ap (λ n. named_group n (world_of scenario.groups front).groups) who.2 ∙ there) in
+        let a = after_prefix who.0 (told.born who.0 who.1) prefix more are u (ap (λ n. named_group n (world_of scenario.groups prefix).groups) who.2 ∙ there) in
         let roster = members_stay_rosters (group_of who.0) (take a.after (decided_log as_nodes who.0 rows)) (roster_of who.0 (found.all who.0 who.1)) in (
           subst (λ (g : Group). 1 ≤ length g.core.members) (sym a.is) roster.some,
           λ node m. record { base = who.0; among = found.all who.0 who.1; named = who.2; after = a.after; within = a.within; member = ap (λ (g : Group). is_member g.core.members node) (sym a.is) ∙ m },

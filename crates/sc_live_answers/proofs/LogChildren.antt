@@ -68,7 +68,7 @@ module _ (bounded : ValidScenariosAreBounded) (begin : ValidScenariosBeginWell) 
           → (child : Base) → IsBirth all base slot child → is_member child.core.members r.me ≡ true → Among child (mailed mail.from mail.body (r, [])).1
       unfolding mailed
       learnt number mail slot command sent is at low child b member =
-          let t : IsLearnt (rule ahead base) h slot command = said rows has.more has.front number mail (Learn base.core.id slot command) sent is (same_name base.core.id base.core.id refl) in
+          let t : IsLearnt (rule ahead base) h slot command = said rows has.more has.prefix number mail (Learn base.core.id slot command) sent is (same_name base.core.id base.core.id refl) in
           subst (λ (m : MailBody). Among child (mailed mail.from m (r, [])).1) (sym is)
           (learn_creates ahead group.open_slots base first_members h lawful_steps all all_prefixes r.me mail.from slot command r k refl t at low child b member)
 
@@ -76,7 +76,7 @@ module _ (bounded : ValidScenariosAreBounded) (begin : ValidScenariosBeginWell) 
           → (at : ℕ) (child : Base) → next r ≤ at → at < next (mailed mail.from mail.body (r, [])).0.0 → IsBirth all base at child → is_member child.core.members r.me ≡ true → Among child (mailed mail.from mail.body (r, [])).1
       unfolding mailed
       voted runs number mail ballot slot sent is at child least most b member =
-          let did : (command : Command) × Among (Accepted mail.from ballot slot command) h = said rows has.more has.front number mail (AcceptedMail base.core.id ballot slot) sent is (same_name base.core.id base.core.id refl) in
+          let did : (command : Command) × Among (Accepted mail.from ballot slot command) h = said rows has.more has.prefix number mail (AcceptedMail base.core.id ballot slot) sent is (same_name base.core.id base.core.id refl) in
           subst (λ (m : MailBody). Among child (mailed mail.from m (r, [])).1) (sym is)
           (vote_creates ahead group.open_slots base first_members h lawful_steps all all_prefixes r.me r k refl runs
           (opens sources ahead words scenario route well journal orders group.lawful base group.stands rows seat node r has group.open_slots)

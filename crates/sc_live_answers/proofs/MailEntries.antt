@@ -2,12 +2,12 @@
 use Rattle.std.proofs.Common.{◌≡◌, ◌⊎◌, ℕ, suc, ◌+◌, ◌-◌, ◌^◌, ◌&&◌, not, nat_lt, eqb, Bool, true, false, cond, List, [], ◌∷◌, ◌++◌, length, Option, Some, None, inl, inr, refl, ◌∙◌, ap, subst, arith}
 use Rattle.std.specs.List.{filter}
 use Rattle.std.proofs.lemmas.Bool.{cond_both, eqb-true, eq-eqb, and_parts}
-use Rattle.sc_node_table.specs.Values.{Ballot, Command, Noop, Call, Base, Effect, Route, ToldResult, AnswerBody, Mail, MailBody, Request, Answer, Prepare, Promise, Accept, Accepted, Nack, Learn, Ask, Install, TxPrepare, TxVote, TxOutcome, TxElsewhere, TxWatch, TxWatched, Told, Counted, Chosen, NotYet}
+use Rattle.sc_node_table.specs.Values.{Ballot, Command, Noop, Call, Base, Effect, Route, OrderResult, AnswerBody, Mail, MailBody, Request, Answer, Prepare, Promise, Accept, Accepted, Nack, Learn, Ask, Install, TxPrepare, TxVote, TxOutcome, TxElsewhere, TxWatch, TxWatched, Told, Counted, Chosen, NotYet}
 use Rattle.sc_mail.specs.declared.bodies.AnswerBody.TheVariants as Answers
 use Rattle.sc_base.specs.Definitions.{is_member, least_of}
 use Rattle.sc_machine_table.specs.Definitions.{child_by, Group, state_after, applied}
 use Rattle.sc_paxos_words.specs.Definitions.{LeaderState, without_flight_at, counted, AcceptorState}
-use Rattle.sc_node_table.specs.Definitions.{elected, ended, stopped, entered, answer_of, told_call, order_result, told_effect, announced, learnt_to, welcomed, slot_lost, landed, left_gone, left, is_among, looked_for, looked, executed_one, child_at, next_child, has_room, next_ready, ending, executed_ready, executed, install_to, asked_to_promise, welcomed_all, sent, pumped, put_back, ReplicaState, Place, Executed, childless, name_of, next, members, flying, set_at, last_slot, forgotten, learn_row, mailed, with_slot, without_slot, before_of, spoken, leads, readied, vote_tallied, voted, accepted_row}
+use Rattle.sc_node_table.specs.Definitions.{elected, ended, stopped, entered, answer_of, answered_or_put_back, order_result, effect_reported, announced, learnt_to, welcomed, slot_lost, landed, left_gone, left, is_among, looked_for, looked, executed_one, child_at, next_child, has_room, next_ready, ending, executed_ready, executed, install_to, asked_to_promise, welcomed_all, sent, pumped, put_back, ReplicaState, Place, Executed, childless, name_of, next, members, flying, set_at, last_slot, forgotten, learn_row, mailed, with_slot, without_slot, before_of, spoken, leads, readied, vote_tallied, voted, accepted_row}
 use Rattle.sc_node_table.specs.declared.Before.{Before}
 use Rattle.sc_law_walks.proofs.Lemmas.{entered_next, either_way}
 use Rattle.sc_live_answers.proofs.Parts.{pumps, announces, speaks, teaches, welcomes, loses, leaves, looks, request_rests, prepare_rests, accept_rests, promise_rests, nack_rests, ask_rests, offer_rests, watch_rests, vote_rests, watched_rests, elsewhere_rests, outcome_rests}
@@ -28,22 +28,22 @@ module _ (rs : List (ℕ × Command)) where
   abbrev R : Place → Type 0
   R place = place.0.ready ≡ rs
 
-  ready_called : (answer : Option AnswerBody) (command : Command) (place : Place) → R place → R (told_call answer command place)
-  unfolding told_call
+  ready_called : (answer : Option AnswerBody) (command : Command) (place : Place) → R place → R (answered_or_put_back answer command place)
+  unfolding answered_or_put_back
   ready_called (Some answer) (Call client seq op) (r, mails) k = k
   ready_called None (Call client seq op) (r, mails) k = ready_back (Call client seq op) r ∙ k
   ready_called (Some answer) _ place k = k
   ready_called None _ place k = k
 
-  ready_effect : (result : Option ToldResult) (command : Command) (place : Place) → R place → R (told_effect result command place)
-  unfolding told_effect
+  ready_effect : (result : Option OrderResult) (command : Command) (place : Place) → R place → R (effect_reported result command place)
+  unfolding effect_reported
   ready_effect None command place k = k
   ready_effect (Some result) command (r, mails) k = k
 
   ready_announced : (c : Bool) (effect : Effect) (command : Command) (place : Place) → R place → R (announced c effect command place)
   unfolding announced
   ready_announced c effect command place k =
-      ready_effect (order_result command effect) command (cond c (told_call (answer_of effect) command place) place) (either_way R c (told_call (answer_of effect) command place) place (ready_called (answer_of effect) command place k) k)
+      ready_effect (order_result command effect) command (cond c (answered_or_put_back (answer_of effect) command place) place) (either_way R c (answered_or_put_back (answer_of effect) command place) place (ready_called (answer_of effect) command place k) k)
 
   ready_spoken : (c : Bool) (before : Before) (effect : Effect) (command : Command) (place : Place) → R place → R (spoken c before effect command place)
   unfolding spoken
@@ -118,7 +118,7 @@ pub record IsOne (r : ReplicaState) (command : Command) (after : ReplicaState) :
 landed_at : (c : Bool) (slot : ℕ) (command : Command) (g : Group) (me n : ℕ) (place : Place) → At g me n place.0 → At g me n (landed c slot command place).0
 unfolding landed
 landed_at c slot command g me n (r, mails) k =
-    loses (At g me n) (λ x acceptor hint top running leader ready acts calls waits q. q) c command (flying r slot) (record r { leader = without_flight_at slot r.leader; ready = without_slot r.ready slot }) k
+    loses (At g me n) (λ x acceptor hint top running leader ready acts backlog waits q. q) c command (flying r slot) (record r { leader = without_flight_at slot r.leader; ready = without_slot r.ready slot }) k
 
 landed_ready : (c : Bool) (slot : ℕ) (command : Command) (rs : List (ℕ × Command)) (place : Place) → place.0.ready ≡ rs → (landed c slot command place).0.ready ≡ without_slot rs slot
 unfolding landed
@@ -144,8 +144,8 @@ one_is c command r mails =
     let place3 : Place = learnt_to c (members r) (next r) command place2 in
     let place4 : Place = welcomed c (members r) place3 in
     let place5 : Place = landed c (next r) command place4 in
-    let any : (x : ReplicaState) (acceptor : AcceptorState Command) (hint : Option ℕ) (top : Ballot) (running : Bool) (leader : LeaderState Command) (ready : List (ℕ × Command)) (acts calls : List Command) (waits : ℕ) → At g r.me n x
-    → At g r.me n (record x { acceptor = acceptor; hint = hint; top = top; running = running; leader = leader; ready = ready; acts = acts; calls = calls; waits = waits }) = λ x acceptor hint top running leader ready acts calls waits q. q in
+    let any : (x : ReplicaState) (acceptor : AcceptorState Command) (hint : Option ℕ) (top : Ballot) (running : Bool) (leader : LeaderState Command) (ready : List (ℕ × Command)) (acts backlog : List Command) (waits : ℕ) → At g r.me n x
+    → At g r.me n (record x { acceptor = acceptor; hint = hint; top = top; running = running; leader = leader; ready = ready; acts = acts; backlog = backlog; waits = waits }) = λ x acceptor hint top running leader ready acts backlog waits q. q in
     let k1 : At g r.me n place1.0 = announces (At g r.me n) any c effect command place0 (entered_at command r) in
     let k2 : At g r.me n place2.0 = speaks (At g r.me n) any c (before_of r.group.core) effect command place1 k1 in
     let k3 : At g r.me n place3.0 = teaches (At g r.me n) any c (members r) (next r) command place2 k2 in
@@ -169,7 +169,7 @@ pub record IsLogged (r : ReplicaState) (e : Executed) : Type 0 where
 
 -- a pump behind it
 pump_at : (g : Group) (me n : ℕ) (place : Place) → At g me n place.0 → At g me n (pumped place).0
-pump_at g me n place k = pumps (At g me n) (λ x acceptor hint top running leader ready acts calls waits q. q) place k
+pump_at g me n place k = pumps (At g me n) (λ x acceptor hint top running leader ready acts backlog waits q. q) place k
 
 -- one entry before others
 entry_before : (r : ReplicaState) (command : Command) (x : ReplicaState) (e : Executed) → IsOne r command x → IsLogged x e → IsLogged r (ending (next_child command r) e)
@@ -314,9 +314,9 @@ module _ (r : ReplicaState) (mails : List Mail) where
   abbrev P : ReplicaState → Type 0
   P = At r.group r.me (next r)
 
-  any : (x : ReplicaState) (acceptor : AcceptorState Command) (hint : Option ℕ) (top : Ballot) (running : Bool) (leader : LeaderState Command) (ready : List (ℕ × Command)) (acts calls : List Command) (waits : ℕ) → P x
-      → P (record x { acceptor = acceptor; hint = hint; top = top; running = running; leader = leader; ready = ready; acts = acts; calls = calls; waits = waits })
-  any x acceptor hint top running leader ready acts calls waits q = q
+  any : (x : ReplicaState) (acceptor : AcceptorState Command) (hint : Option ℕ) (top : Ballot) (running : Bool) (leader : LeaderState Command) (ready : List (ℕ × Command)) (acts backlog : List Command) (waits : ℕ) → P x
+      → P (record x { acceptor = acceptor; hint = hint; top = top; running = running; leader = leader; ready = ready; acts = acts; backlog = backlog; waits = waits })
+  any x acceptor hint top running leader ready acts backlog waits q = q
 
   here : P r
   here = (refl, refl, refl)

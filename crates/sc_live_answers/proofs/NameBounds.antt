@@ -101,13 +101,13 @@ module _ (all_bounded : ValidScenariosAreBounded) (led_once : LedStandOnce) (fou
           by (name ∷ more) e led = absurd (new_name (names_at all quiet) (name ∷ more) e name led.0 (inl refl) (quiet_named name (was name (there_led then name led.0))))
 
       -- no name but the child's comes in while an order is under way
-      module _ (task : Task) (front : IsPrefixOf journal (rows ++ row ∷ [])) (created : AreCreatedByOrder scenario journal quiet (rows ++ row ∷ []) task) where
+      module _ (task : Task) (prefix : IsPrefixOf journal (rows ++ row ∷ [])) (created : AreCreatedByOrder scenario journal quiet (rows ++ row ∷ []) task) where
         old_or : (name : Draw) → is_led all (rows ++ row ∷ []) name ≡ true → Among name (names_at all quiet) ⊎ (name ≡ task.name)
         old_or name led = elim (there_or all quiet name) [
           | inl there ↦ inl (quiet_named name there)
           | inr nowhere ↦ (
               let there = there_led then name led in
-              let g : IsNamedGroup scenario journal name = named_there found_law words scenario journal then calm front name there in
+              let g : IsNamedGroup scenario journal name = named_there found_law words scenario journal then calm prefix name there in
               inr (sym g.2 ∙ (created.only g.0 g.1 (subst (IsNowhere all quiet) (sym g.2) nowhere) (subst (IsThere all then) (sym g.2) there)).1))
         ]
 
@@ -143,6 +143,6 @@ names_stay all_bounded led_once found_law = record {
   born = λ words scenario journal calm. born_few all_bounded led_once found_law words scenario journal calm;
   asked = λ words scenario first journal quiet rows row calm rests. none_new all_bounded led_once found_law words scenario journal calm first quiet rests rows row;
   begins = λ births quiet task. inl refl;
-  goes_on = λ words scenario first journal quiet rows seat event task calm rests front created has. keeps all_bounded led_once found_law words scenario journal calm first quiet rests rows (row_of player_table seat rows event) task front created has;
+  goes_on = λ words scenario first journal quiet rows seat event task calm rests prefix created has. keeps all_bounded led_once found_law words scenario journal calm first quiet rests rows (row_of player_table seat rows event) task prefix created has;
   over = over_few;
 }

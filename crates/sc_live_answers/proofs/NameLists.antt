@@ -146,12 +146,12 @@ apart_few (name ∷ names) others apart within =
     let two = length-append p.0 (name ∷ p.1) in
     omega (arith, rest, one, all, two)
   where
-    left : (front back : List Draw) (group : Draw) → (group ≡ name → ⊥) → Among group (front ++ name ∷ back) → Among group (front ++ back)
-    left front back group ne a = elim (Among-either group front (name ∷ back) a) [
-      | inl b ↦ Among-left group front back b
+    left : (prefix back : List Draw) (group : Draw) → (group ≡ name → ⊥) → Among group (prefix ++ name ∷ back) → Among group (prefix ++ back)
+    left prefix back group ne a = elim (Among-either group prefix (name ∷ back) a) [
+      | inl b ↦ Among-left group prefix back b
       | inr b ↦ behind b
     ]
       where
-        behind : Among group (name ∷ back) → Among group (front ++ back)
+        behind : Among group (name ∷ back) → Among group (prefix ++ back)
         behind (inl e) = absurd (ne (sym e))
-        behind (inr b) = Among-right group front back b
+        behind (inr b) = Among-right group prefix back b

@@ -32,41 +32,41 @@ child_members group c child who e = by (division_of group.core c (applied group 
 
 -- ---- slots
 
-front_of : (xs ys : List Command) → take (length xs) (xs ++ ys) ≡ xs
-front_of [] ys = refl
-front_of (x ∷ xs) ys = ap (λ l. x ∷ l) (front_of xs ys)
+prefix_of : (xs ys : List Command) → take (length xs) (xs ++ ys) ≡ xs
+prefix_of [] ys = refl
+prefix_of (x ∷ xs) ys = ap (λ l. x ∷ l) (prefix_of xs ys)
 
 -- what a log goes on with, at its place
 record IsAfter (group : Group) (log : List Command) (child : Base) : Type 0 where
-  front : List Command
+  prefix : List Command
   command : Command
   rest : List Command
-  is : log ≡ front ++ command ∷ rest
-  child_is : child_by (state_after group front) command ≡ Some child
+  is : log ≡ prefix ++ command ∷ rest
+  child_is : child_by (state_after group prefix) command ≡ Some child
 
 named_after : (group : Group) (log : List Command) (child : Base) → Among child (children_of group log) → IsAfter group log child
 named_after group [] child a = absurd a
 named_after group (c ∷ log) child a = elim (Among-either child (option_to_list (birth_of group c (applied group c).1)) (children_of (applied group c).0 log) a) [
-  | inl here ↦ record { front = []; command = c; rest = log; is = refl; child_is = births_are_children group c ∙ option_is (birth_of group c (applied group c).1) child here }
-  | inr later ↦ (let k = named_after (applied group c).0 log child later in record { front = c ∷ k.front; command = k.command; rest = k.rest; is = ap (λ l. c ∷ l) k.is; child_is = k.child_is })
+  | inl here ↦ record { prefix = []; command = c; rest = log; is = refl; child_is = births_are_children group c ∙ option_is (birth_of group c (applied group c).1) child here }
+  | inr later ↦ (let k = named_after (applied group c).0 log child later in record { prefix = c ∷ k.prefix; command = k.command; rest = k.rest; is = ap (λ l. c ∷ l) k.is; child_is = k.child_is })
 ]
 
 -- a child that a log names has a slot of it, also where the log goes on
 pub birth_slot : (base : Base) (log more all : List Command) (child : Base) → all ≡ log ++ more → Among child (children_of (group_of base) log) → (slot : ℕ) × (slot ≤ length log) × IsBirth all base slot child
 birth_slot base log more all child is a =
     let k = named_after (group_of base) log child a in
-    let whole : all ≡ k.front ++ k.command ∷ (k.rest ++ more) = is ∙ (ap (λ l. l ++ more) k.is ∙ append_assoc k.front (k.command ∷ k.rest) more) in
-    let push = length_push k.front k.command in
-    let one : length k.front + 1 - 1 ≡ length k.front = omega arith in
-    let two : length k.front + 1 ≡ length (k.front ++ k.command ∷ []) = omega (arith, push) in
-    let regroup : k.front ++ k.command ∷ (k.rest ++ more) ≡ (k.front ++ k.command ∷ []) ++ (k.rest ++ more) = sym (append_assoc k.front (k.command ∷ []) (k.rest ++ more)) in (
-      length k.front + 1,
-      low k.front k.command k.rest log k.is,
+    let whole : all ≡ k.prefix ++ k.command ∷ (k.rest ++ more) = is ∙ (ap (λ l. l ++ more) k.is ∙ append_assoc k.prefix (k.command ∷ k.rest) more) in
+    let push = length_push k.prefix k.command in
+    let one : length k.prefix + 1 - 1 ≡ length k.prefix = omega arith in
+    let two : length k.prefix + 1 ≡ length (k.prefix ++ k.command ∷ []) = omega (arith, push) in
+    let regroup : k.prefix ++ k.command ∷ (k.rest ++ more) ≡ (k.prefix ++ k.command ∷ []) ++ (k.rest ++ more) = sym (append_assoc k.prefix (k.command ∷ []) (k.rest ++ more)) in (
+      length k.prefix + 1,
+      low k.prefix k.command k.rest log k.is,
       record {
-        front = k.front;
+        prefix = k.prefix;
         command = k.command;
-        before = ap (λ n. take n all) one ∙ (ap (take (length k.front)) whole ∙ front_of k.front (k.command ∷ (k.rest ++ more)));
-        upto = ap (λ n. take n all) two ∙ (ap (take (length (k.front ++ k.command ∷ []))) (whole ∙ regroup) ∙ front_of (k.front ++ k.command ∷ []) (k.rest ++ more));
+        before = ap (λ n. take n all) one ∙ (ap (take (length k.prefix)) whole ∙ prefix_of k.prefix (k.command ∷ (k.rest ++ more)));
+        upto = ap (λ n. take n all) two ∙ (ap (take (length (k.prefix ++ k.command ∷ []))) (whole ∙ regroup) ∙ prefix_of (k.prefix ++ k.command ∷ []) (k.rest ++ more));
         child_is = k.child_is;
       },
     )
@@ -80,7 +80,7 @@ birth_slot base log more all child is a =
 
 -- none is named at no slot
 pub no_birth : (all : List Command) (base : Base) (child : Base) → IsBirth all base 0 child → ⊥
-no_birth all base child b = none b.front b.command b.upto
+no_birth all base child b = none b.prefix b.command b.upto
   where
     none : (xs : List Command) (c : Command) → [] ≡ xs ++ c ∷ [] → ⊥
     none [] c e = cc

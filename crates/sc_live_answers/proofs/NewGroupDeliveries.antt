@@ -284,10 +284,10 @@ module _ (laws : OfJournals) (well : ScenariosAreWellBorn) (keeps : DeliveriesKe
           p = w.named t.group seat.who t.r t.was
 
           was : (k : ℕ) × (next t.r ≡ suc k) × (t.r.group ≡ state_after (group_of p.0) (take k (decided_log as_nodes p.0 journal)))
-          was = state_of laws words scenario journal w.calm p.0 p.1 rows w.under.front seat.who t.r (ap (λ n. view_at (births as_nodes scenario) rows n seat.who) p.2 ∙ t.was)
+          was = state_of laws words scenario journal w.calm p.0 p.1 rows w.under.prefix seat.who t.r (ap (λ n. view_at (births as_nodes scenario) rows n seat.who) p.2 ∙ t.was)
 
           is_now : (k : ℕ) × (next made.0.0 ≡ suc k) × (made.0.0.group ≡ state_after (group_of p.0) (take k (decided_log as_nodes p.0 journal)))
-          is_now = state_of laws words scenario journal w.calm p.0 p.1 after w.goes.front seat.who made.0.0 (ap (λ n. view_at (births as_nodes scenario) after n seat.who) p.2 ∙ t.is)
+          is_now = state_of laws words scenario journal w.calm p.0 p.1 after w.goes.prefix seat.who made.0.0 (ap (λ n. view_at (births as_nodes scenario) after n seat.who) p.2 ∙ t.is)
 
           one_more : is_now.0 ≡ suc was.0
           one_more = (let before = was.1 in let then = is_now.1 in omega (arith, before, then, next_is))

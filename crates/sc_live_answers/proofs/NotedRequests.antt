@@ -88,18 +88,18 @@ none_stored : (key value : List ℕ) → get none_held key ≡ Some value → �
 none_stored key value e = none-some value (sym (get-empty (slice_cmp nat_cmp) key) ∙ e)
 
 module _ (bounded : ValidScenariosAreBounded) (begin : ValidScenariosBeginWell) (allowed : TakenOrdersAreAllowed) (wishes : TakenWishesAreAllowed) (positions : WishesAreAtPositions) (free_names : OtherNamesAreFree) (sounds : ValidJournalsAreSound) (entries : ValidEntriesAreLogs) (begun : IssuedAreBegun)
-    (haves : FreeGroupsHaveArcs) (executed : QuietLogsAreExecuted) (finds : PrefixesAreFound) (words : ℕ → ℕ → ℕ × ℕ) (scenario : Scenario) (journal front : Rows) (q : IsQuietPrefix words scenario journal front) (there : AreAllThere scenario front) (free : AreAllFree scenario front) where
-  sound : IsSound as_nodes scenario front q.begins.more
-  sound = sounds as_nodes refl words scenario q.calm.valid journal q.calm.lawful front q.begins.more q.begins.is
+    (haves : FreeGroupsHaveArcs) (executed : QuietLogsAreExecuted) (finds : PrefixesAreFound) (words : ℕ → ℕ → ℕ × ℕ) (scenario : Scenario) (journal prefix : Rows) (q : IsQuietPrefix words scenario journal prefix) (there : AreAllThere scenario prefix) (free : AreAllFree scenario prefix) where
+  sound : IsSound as_nodes scenario prefix q.begins.more
+  sound = sounds as_nodes refl words scenario q.calm.valid journal q.calm.lawful prefix q.begins.more q.begins.is
 
   abbrev history : List Entry
-  history = history_at as_nodes scenario.groups front
+  history = history_at as_nodes scenario.groups prefix
 
-  timely : AreInTime (players words (births as_nodes scenario)) front
-  timely = prefix_timely words scenario journal front q
+  timely : AreInTime (players words (births as_nodes scenario)) prefix
+  timely = prefix_timely words scenario journal prefix q
 
   -- each entry of the history is a request that was begun
-  is_begun : (entry : Entry) → Among entry history → IsBegun scenario front entry.client entry.seq entry.op
+  is_begun : (entry : Entry) → Among entry history → IsBegun scenario prefix entry.client entry.seq entry.op
   is_begun entry a =
       let r = ready bounded begin allowed wishes positions free_names words scenario journal q.calm.valid q.calm.lawful in
       let place = among_place history entry a in
@@ -114,37 +114,37 @@ module _ (bounded : ValidScenariosAreBounded) (begin : ValidScenariosBeginWell) 
         client_is = sym asked.2.client;
         from_one = asked.2.first;
         op_is = asked.2.op;
-        low = begun words scenario r.first r.others front asked.0 entry.seq t.issued q.calm.valid r.groups timely asked.1 (ap (λ n. issue_row n entry.seq front) (sym asked.2.client) ∙ t.is_issued);
+        low = begun words scenario r.first r.others prefix asked.0 entry.seq t.issued q.calm.valid r.groups timely asked.1 (ap (λ n. issue_row n entry.seq prefix) (sym asked.2.client) ∙ t.is_issued);
       }
 
-  written : (value : List ℕ) → IsWrittenIn history value → IsWrittenValue (IsBegun scenario front) value
+  written : (value : List ℕ) → IsWrittenIn history value → IsWrittenValue (IsBegun scenario prefix) value
   written value w = record { client = w.entry.client; seq = w.entry.seq; op = w.entry.op; is_begun = is_begun w.entry w.among; writes = w.wrote }
 
-  module _ (base : Base) (a : Among base (groups_at as_nodes scenario.groups front)) where
+  module _ (base : Base) (a : Among base (groups_at as_nodes scenario.groups prefix)) where
     -- what it noted has its entry in the history
-    noted : (client : ℕ) (note : Noted) → get (decided_state as_nodes base front).clients client ≡ Some note → HasEntry history client note.seq note.reply
+    noted : (client : ℕ) (note : Noted) → get (decided_state as_nodes base prefix).clients client ≡ Some note → HasEntry history client note.seq note.reply
     noted client note e =
-        let l = (found executed finds words scenario journal front q).lawful in
-        let s = sources bounded begin allowed wishes positions free_names words scenario front q.calm.valid l in
-        let r = ready bounded begin allowed wishes positions free_names words scenario front q.calm.valid l in
-        let w = well bounded begin allowed wishes positions free_names words scenario front q.calm.valid l in
-        let t = turn bounded begin allowed wishes positions free_names words scenario front q.calm.valid l in
-        (entries_make_one_map allowed_entries_make_one_map s as_nodes scenario.groups w.place r.bare front t).notes base a (decided_log as_nodes base front) [] (sym (append-nil (decided_log as_nodes base front))) client note e
+        let l = (found executed finds words scenario journal prefix q).lawful in
+        let s = sources bounded begin allowed wishes positions free_names words scenario prefix q.calm.valid l in
+        let r = ready bounded begin allowed wishes positions free_names words scenario prefix q.calm.valid l in
+        let w = well bounded begin allowed wishes positions free_names words scenario prefix q.calm.valid l in
+        let t = turn bounded begin allowed wishes positions free_names words scenario prefix q.calm.valid l in
+        (entries_make_one_map allowed_entries_make_one_map s as_nodes scenario.groups w.place r.bare prefix t).notes base a (decided_log as_nodes base prefix) [] (sym (append-nil (decided_log as_nodes base prefix))) client note e
 
-    op_noted : (client : ℕ) (note : Noted) → get (decided_state as_nodes base front).clients client ≡ Some note → (op : Op) × IsBegun scenario front client note.seq op
-    op_noted client note e = (let h = noted client note e in (h.entry.op, subst (λ n. IsBegun scenario front n note.seq h.entry.op) h.client_is (subst (λ n. IsBegun scenario front h.entry.client n h.entry.op) h.seq_is (is_begun h.entry h.stands))))
+    op_noted : (client : ℕ) (note : Noted) → get (decided_state as_nodes base prefix).clients client ≡ Some note → (op : Op) × IsBegun scenario prefix client note.seq op
+    op_noted client note e = (let h = noted client note e in (h.entry.op, subst (λ n. IsBegun scenario prefix n note.seq h.entry.op) h.client_is (subst (λ n. IsBegun scenario prefix h.entry.client n h.entry.op) h.seq_is (is_begun h.entry h.stands))))
 
-    value_replied : (client : ℕ) (note : Noted) → get (decided_state as_nodes base front).clients client ≡ Some note → (value : List ℕ) → note.reply.old ≡ Some value → IsWrittenValue (IsBegun scenario front) value
+    value_replied : (client : ℕ) (note : Noted) → get (decided_state as_nodes base prefix).clients client ≡ Some note → (value : List ℕ) → note.reply.old ≡ Some value → IsWrittenValue (IsBegun scenario prefix) value
     value_replied client note e value old =
         let h = noted client note e in
         elim (replied_from history none_held sound.whole.legal.replay h.entry h.stands value (ap (λ (r : Reply). r.old) h.reply_is ∙ old)) [ inl none ↦ absurd (none_stored none.0 value none.1) | inr w ↦ written value w ]
 
-    value_stored : (decided_state as_nodes base front).core.gone ≡ None → (key value : List ℕ) → get (decided_state as_nodes base front).pairs key ≡ Some value → IsWrittenValue (IsBegun scenario front) value
+    value_stored : (decided_state as_nodes base prefix).core.gone ≡ None → (key value : List ℕ) → get (decided_state as_nodes base prefix).pairs key ≡ Some value → IsWrittenValue (IsBegun scenario prefix) value
     value_stored stands key value e =
-        let f = found executed finds words scenario journal front q in
-        let c = cut_of scenario front sound.whole (entries as_nodes refl words scenario q.calm.valid front f.lawful) (λ one other x y w. f.apart one other (f.later one x) (f.later other y) w) free
-        (λ b x s. haves words scenario front b q.calm.valid f.lawful x (free b x) s) base a stands in
-        let pairs = sound.whole.parts c.cut c.among (decided_state as_nodes base front) c.own in
+        let f = found executed finds words scenario journal prefix q in
+        let c = cut_of scenario prefix sound.whole (entries as_nodes refl words scenario q.calm.valid prefix f.lawful) (λ one other x y w. f.apart one other (f.later one x) (f.later other y) w) free
+        (λ b x s. haves words scenario prefix b q.calm.valid f.lawful x (free b x) s) base a stands in
+        let pairs = sound.whole.parts c.cut c.among (decided_state as_nodes base prefix) c.own in
         let in_part = sym (get-part (contents_after none_held history) (holds_key c.cut.arc) key) ∙ (ap (λ (m : Contents). get m key) (sym pairs) ∙ e) in
         elim (stored_from history none_held key value (of_part (holds_key c.cut.arc key) in_part)) [ inl none ↦ absurd (none_stored key value none) | inr w ↦ written value w ]
       where
@@ -152,9 +152,9 @@ module _ (bounded : ValidScenariosAreBounded) (begin : ValidScenariosBeginWell) 
         of_part true w = w
         of_part false w = absurd (none-some value w)
 
-  plain : (group : Draw) (stands : StandsQuiet (replicas_after scenario front) group) → IsPlainGroup (IsBegun scenario front) (frame_at_rest stands.lead) stands.lead.group
+  plain : (group : Draw) (stands : StandsQuiet (replicas_after scenario prefix) group) → IsPlainGroup (IsBegun scenario prefix) (frame_at_rest stands.lead) stands.lead.group
   plain group stands =
-      let new = newest_of_group executed finds words scenario journal front q there group stands.lead stands.newest in
+      let new = newest_of_group executed finds words scenario journal prefix q there group stands.lead stands.newest in
       let base = new.0.base in
       let state = new.1.state in
       record {
@@ -165,5 +165,5 @@ module _ (bounded : ValidScenariosAreBounded) (begin : ValidScenariosBeginWell) 
       }
 
 pub prefix_notes_are_begun : ValidScenariosAreBounded → ValidScenariosBeginWell → TakenOrdersAreAllowed → TakenWishesAreAllowed → WishesAreAtPositions → OtherNamesAreFree → ValidJournalsAreSound → ValidEntriesAreLogs → IssuedAreBegun → FreeGroupsHaveArcs → QuietLogsAreExecuted → PrefixesAreFound → PrefixGroupsHaveReplicas → PrefixNotesAreBegun
-prefix_notes_are_begun bounded begin allowed wishes positions free_names sounds entries begun haves executed finds there words scenario journal front q free =
-    plain bounded begin allowed wishes positions free_names sounds entries begun haves executed finds words scenario journal front q (there words scenario journal front q) free
+prefix_notes_are_begun bounded begin allowed wishes positions free_names sounds entries begun haves executed finds there words scenario journal prefix q free =
+    plain bounded begin allowed wishes positions free_names sounds entries begun haves executed finds words scenario journal prefix q (there words scenario journal prefix q) free

@@ -7,7 +7,7 @@ use Rattle.sc_base.specs.Definitions.{Each, Drawer, next_name}
 use Rattle.sc_node_table.specs.Values.{Draw, Command, Core, Free, Order, OrderLine, OrderRefusal, Refused, AnswerBody, Mail, Told, Must}
 use Rattle.sc_cmd.specs.declared.orders.Order.TheVariants as An
 use Rattle.sc_cmd.specs.declared.orders.OrderRefusal.TheVariants.{NotLeader}
-use Rattle.sc_node_table.specs.Definitions.{answered, group_of_order, ordered_command, untaken, taken_or_told, ordered_row, Found, is_act, waits, turned_down, next_call, from_calls, from_acts, from_queues, found_by, found_for, offered, pumped_from, pumped, ReplicaState, Place, name_of, next, settled, may_offer, first_set, taken_at, under_way, is_idle, open_slots, last_slot, slots_ahead}
+use Rattle.sc_node_table.specs.Definitions.{answered, group_of_order, ordered_command, untaken, queued_or_refused, ordered_row, Found, is_act, waits, turned_down, next_queued, from_backlog, from_acts, from_queues, found_by, found_for, offered, pumped_from, pumped, ReplicaState, Place, name_of, next, settled, may_offer, first_set, taken_at, under_way, is_idle, open_slots, last_slot, slots_ahead}
 use Rattle.sc_live_steps.specs.calm.Definitions.{IsAtRest}
 use Rattle.sc_live_answers.specs.Definitions.{is_split}
 use Rattle.sc_live_answers.proofs.Affairs.{Affair, BeginsFree}
@@ -34,18 +34,18 @@ settled_by false false why other e = cc
 
 -- the first of what waits is found, if it waits for nothing and is not turned down
 one_found : (me : ℕ) (idle : Bool) (core : Core) (command : Command) (mails : List Mail) (N : Option Command × List Command × List Mail → Type 0) → waits idle core.lock command ≡ false → turned_down core command ≡ None → N (Some command, [], mails)
-    → N (next_call me idle core (command ∷ []) mails)
-unfolding next_call
+    → N (next_queued me idle core (command ∷ []) mails)
+unfolding next_queued
 one_found me idle core command mails N w t n =
-    subst (λ b. N (cond b (None, command ∷ [], mails) (elim (turned_down core command) [ None ↦ (Some command, [], mails) | Some answer ↦ next_call me idle core [] (answered me core.id answer command mails) ]))) (sym w)
-    (subst (λ (o : Option AnswerBody). N (elim o [ None ↦ (Some command, [], mails) | Some answer ↦ next_call me idle core [] (answered me core.id answer command mails) ])) (sym t) n)
+    subst (λ b. N (cond b (None, command ∷ [], mails) (elim (turned_down core command) [ None ↦ (Some command, [], mails) | Some answer ↦ next_queued me idle core [] (answered me core.id answer command mails) ]))) (sym w)
+    (subst (λ (o : Option AnswerBody). N (elim o [ None ↦ (Some command, [], mails) | Some answer ↦ next_queued me idle core [] (answered me core.id answer command mails) ])) (sym t) n)
 
-module _ (a : Affair) (begins : BeginsFree a) (g : Draw) (r : ReplicaState) (rest : IsAtRest r) (named : name_of r ≡ g) (plain : r.running ≡ true → r.leader.reports ≡ []) (low : next r ≤ last_slot) (many : length r.sets ≡ slots_ahead) (command : Command) (does : a.Does g command)
+module _ (a : Affair) (begins : BeginsFree a) (g : Draw) (r : ReplicaState) (rest : IsAtRest r) (named : name_of r ≡ g) (plain : r.running ≡ true → r.leader.reports ≡ []) (low : next r ≤ last_slot) (many : length r.sets ≡ slots_ahead) (command : Command) (response : a.Does g command)
     (goes : (waits true Free command ≡ false) × (turned_down r.group.core command ≡ None)) where
   held : Held a g r
   held = (
     named,
-    rest.calls,
+    rest.backlog,
     subst (Each (a.Does g)) (sym rest.acts) tt,
     subst (Each (λ flight. a.Does g flight.value)) (sym rest.flights) tt,
     subst (Each (λ (entry : ℕ × Command). a.Does g entry.1)) (sym rest.ready) tt,
@@ -55,7 +55,7 @@ module _ (a : Affair) (begins : BeginsFree a) (g : Draw) (r : ReplicaState) (res
 
   -- with the command that waits
   abbrev asked : ReplicaState
-  asked = record r { calls = r.calls ++ command ∷ [] }
+  asked = record r { backlog = r.backlog ++ command ∷ [] }
 
   none_under : under_way asked ≡ []
   none_under = none_taken asked (open_slots asked) rest.flights rest.ready
@@ -68,13 +68,13 @@ module _ (a : Affair) (begins : BeginsFree a) (g : Draw) (r : ReplicaState) (res
 
   -- the command that waits is found
   abbrev rested : Place
-  rested = (record r { calls = [] }, [])
+  rested = (record r { backlog = [] }, [])
 
-  calls_of : (P : Found → Type 0) → P (Some command, rested) → P (from_calls (asked, []))
-  unfolding from_calls
+  calls_of : (P : Found → Type 0) → P (Some command, rested) → P (from_backlog (asked, []))
+  unfolding from_backlog
   calls_of P p =
-      subst (λ (cs : List Command). (let found = next_call r.me (is_idle asked) r.group.core (cs ++ command ∷ []) [] in P (found.0, (record asked { calls = found.1 }, found.2)))) (sym rest.calls)
-      (one_found r.me (is_idle asked) r.group.core command [] (λ found. P (found.0, (record asked { calls = found.1 }, found.2))) waiting goes.1 p)
+      subst (λ (cs : List Command). (let found = next_queued r.me (is_idle asked) r.group.core (cs ++ command ∷ []) [] in P (found.0, (record asked { backlog = found.1 }, found.2)))) (sym rest.backlog)
+      (one_found r.me (is_idle asked) r.group.core command [] (λ found. P (found.0, (record asked { backlog = found.1 }, found.2))) waiting goes.1 p)
 
   acts_of : (P : Found → Type 0) → P (Some command, rested) → P (from_acts r.acts (asked, []))
   acts_of P p = subst (λ (acts : List Command). P (from_acts acts (asked, []))) (sym rest.acts) (calls_of P p)
@@ -83,7 +83,7 @@ module _ (a : Affair) (begins : BeginsFree a) (g : Draw) (r : ReplicaState) (res
   unfolding from_queues
   queues_of P p = subst (λ (cs : List Command). P (cond (list_any is_act cs) (None, (asked, [])) (from_acts r.acts (asked, [])))) (sym none_under) (acts_of P p)
 
-  without_calls : Held a g (record r { calls = [] })
+  without_calls : Held a g (record r { backlog = [] })
   without_calls = (held.0, refl, held.2, held.3, held.4, held.5, held.6)
 
   free_slot : (slot : ℕ) → taken_at asked slot ≡ None
@@ -107,7 +107,7 @@ module _ (a : Affair) (begins : BeginsFree a) (g : Draw) (r : ReplicaState) (res
         subst (λ (o : Option Command). Fine a g (cond (is_some o) (pumped_from (next r + 1) sets (asked, [])) (cond (may_offer r set) (then_ set sets (found_for (next r) (asked, []))) (asked, [])))) (sym (free_slot (next r)))
         (subst (λ b. Fine a g (cond b (then_ set sets (found_for (next r) (asked, []))) (asked, []))) (sym may)
         (slot_of (next r) (λ found. Fine a g (then_ set sets found))
-        (from_pumps a g (next r + 1) sets (offered (next r) set command rested) (slot_offered a g (next r) set command rested does ((without_calls, tt), plain running))).0))
+        (from_pumps a g (next r + 1) sets (offered (next r) set command rested) (slot_offered a g (next r) set command rested response ((without_calls, tt), plain running))).0))
 
     pump_offers : Fine a g (pumped (asked, []))
     unfolding pumped
@@ -127,7 +127,7 @@ order_fine drawer line r rest named plain low many = by (untaken drawer line r) 
     command : Command
     command = ordered_command (next_name drawer) line.number line.order
 
-    by : (o : Option OrderRefusal) → untaken drawer line r ≡ o → Fine (affair_of line.number (is_split line.order) (group_of_order line.order) (next_name drawer)) (group_of_order line.order) (taken_or_told o line.number (ordered_command (next_name drawer) line.number line.order) (r, []))
+    by : (o : Option OrderRefusal) → untaken drawer line r ≡ o → Fine (affair_of line.number (is_split line.order) (group_of_order line.order) (next_name drawer)) (group_of_order line.order) (queued_or_refused o line.number (ordered_command (next_name drawer) line.number line.order) (r, []))
     by (Some why) e = (
       held (affair_of line.number (is_split line.order) (group_of_order line.order) (next_name drawer)) (begins_free line.number (is_split line.order) (group_of_order line.order) (next_name drawer)) (group_of_order line.order) r rest named plain low many (ordered_command (next_name drawer) line.number line.order) (order_does (next_name drawer) line.number line.order)
           (order_goes (next_name drawer) line.number line.order r.group.core),

@@ -145,22 +145,22 @@ module _ (named_at : JournalMailFinds) (strays : StrayMailFinds) (for_node : Mai
   before : AreInTime s rows
   before = in_time_before s rows (row_of player_table seat rows (Deliver number)) on.timely
 
-  split : journal ≡ rows ++ (row_of player_table seat rows (Deliver number) ∷ on.front.more)
-  split = on.front.is ∙ append_assoc rows (row_of player_table seat rows (Deliver number) ∷ []) on.front.more
+  split : journal ≡ rows ++ (row_of player_table seat rows (Deliver number) ∷ on.prefix.more)
+  split = on.prefix.is ∙ append_assoc rows (row_of player_table seat rows (Deliver number) ∷ []) on.prefix.more
 
   short_prefix : length rows ≤ 2 ^ 28
-  short_prefix = (let long = ap length split in let sum = length-append rows (row_of player_table seat rows (Deliver number) ∷ on.front.more) in let short = calm.short in omega (arith, long, sum, short))
+  short_prefix = (let long = ap length split in let sum = length-append rows (row_of player_table seat rows (Deliver number) ∷ on.prefix.more) in let short = calm.short in omega (arith, long, sum, short))
 
   group : (base : Base) → Among base (groups_at as_nodes scenario.groups journal) → IsGroupOf as_nodes words scenario journal base
   group base among = record { open_slots = refl; valid = calm.valid; lawful = calm.lawful; stands = among }
 
   few : (base : Base) → AreFew as_nodes scenario journal base
-  few base front more who r e view =
-      let timely : AreInTime s front = λ b row a same. calm.timely b row (a ++ more) (e ∙ (ap (λ l. l ++ more) same ∙ append_assoc b (row ∷ a) more)) in
+  few base prefix more who r e view =
+      let timely : AreInTime s prefix = λ b row a same. calm.timely b row (a ++ more) (e ∙ (ap (λ l. l ++ more) same ∙ append_assoc b (row ∷ a) more)) in
       let long = ap length e in
-      let sum = length-append front more in
+      let sum = length-append prefix more in
       let short = calm.short in
-      let left = slots_left words scenario front base.core.id who r timely (omega (arith, long, sum, short)) view in
+      let left = slots_left words scenario prefix base.core.id who r timely (omega (arith, long, sum, short)) view in
       let low = left.0 in
       (omega (arith, low), left.1)
 
@@ -200,7 +200,7 @@ module _ (named_at : JournalMailFinds) (strays : StrayMailFinds) (for_node : Mai
         ]
 
     once : StandsOnce name chart.groups
-    once = led_once all rows (quiet_upto s rows (length rows)) name (upto_low s rows (length rows)) (subst (λ q. is_led all q name ≡ true) (sym known.front) quiet_led)
+    once = led_once all rows (quiet_upto s rows (length rows)) name (upto_low s rows (length rows)) (subst (λ q. is_led all q name ≡ true) (sym known.prefix) quiet_led)
 
     -- the errand of the mail is under way
     errand_way : (errand : Errand) → errand_by mail.from mail.to mail.body ≡ Some (name, errand) → Among errand (now.at name).errands
@@ -340,7 +340,7 @@ module _ (named_at : JournalMailFinds) (strays : StrayMailFinds) (for_node : Mai
     group_finds =
         let so = (sent_after base k.among).so in
         let deliver : Delivers (with_event rows seat (Deliver number)) rows seat number mail = record { row = record { more = []; is = sym (append-nil (with_event rows seat (Deliver number))) }; sent = at } in
-        named_at chart words scenario journal (with_event rows seat (Deliver number)) on.front.more base (group base k.among) calm.timely (few base) on.front.is so rows seat number mail node deliver on.seated is (of ∙ ap Some (sym k.named))
+        named_at chart words scenario journal (with_event rows seat (Deliver number)) on.prefix.more base (group base k.among) calm.timely (few base) on.prefix.is so rows seat number mail node deliver on.seated is (of ∙ ap Some (sym k.named))
         (subst (λ n. StandsOnce n chart.groups) (sym k.named) once) (subst (λ n. NeedsAt chart.ways (replica_of n node.replicas) mail.body) (sym k.named) needs)
 
   finds : FindsCalm chart (births as_nodes scenario) rows seat (Deliver number)

@@ -79,7 +79,7 @@ errand_for_in (ClosesBoth tx one two) t a = elim (closing-errand tx one.leg one.
 
 -- ---- rows
 
-module _ (found_law : PrefixesAreFound) (words : ℕ → ℕ → ℕ × ℕ) (scenario : Scenario) (journal quiet rows : Rows) (row : Row Mail OrderLine) (stage : Stage) (calm : IsCalmJournal words scenario journal) (was : IsPrefixOf journal quiet) (front : IsPrefixOf journal (rows ++ row ∷ []))
+module _ (found_law : PrefixesAreFound) (words : ℕ → ℕ → ℕ × ℕ) (scenario : Scenario) (journal quiet rows : Rows) (row : Row Mail OrderLine) (stage : Stage) (calm : IsCalmJournal words scenario journal) (was : IsPrefixOf journal quiet) (prefix : IsPrefixOf journal (rows ++ row ∷ []))
     (at : IsAt stage (scene_at (births as_nodes scenario) (rows ++ row ∷ []))) (hinted : IsHinted scenario quiet (rows ++ row ∷ []) stage) where
   abbrev all : List (Seat Player)
   all = births as_nodes scenario
@@ -95,7 +95,7 @@ module _ (found_law : PrefixesAreFound) (words : ℕ → ℕ → ℕ × ℕ) (sc
   lead_home group node e =
       let runs = (find_found (λ (n : ℕ). is_running (view_at all then group n)) (numbers_of all) node e).1 in
       let r = runs_there (view_at all then group node) runs in
-      let found_ = found_law words scenario journal then calm front in
+      let found_ = found_law words scenario journal then calm prefix in
       found_.homes group node (r.0, found_.views group node ∙ r.1)
 
   -- the node that is asked is a node of the scenario
@@ -118,4 +118,4 @@ module _ (found_law : PrefixesAreFound) (words : ℕ → ℕ → ℕ × ℕ) (sc
   keeps home = subst (Each (GoesToNode scenario)) (sym (mails-snoc rows row)) (Each-append (GoesToNode scenario) (mails rows) row.sent home (Each-from (GoesToNode scenario) row.sent sent_home))
 
 pub ordered_home : PrefixesAreFound → OrderErrandsGoToNodes
-ordered_home found_law words scenario journal quiet rows row stage calm was front at hinted home = keeps found_law words scenario journal quiet rows row stage calm was front at hinted home
+ordered_home found_law words scenario journal quiet rows row stage calm was prefix at hinted home = keeps found_law words scenario journal quiet rows row stage calm was prefix at hinted home

@@ -233,5 +233,5 @@ module _ (words : ℕ → ℕ → ℕ × ℕ) (scenario : Scenario) (first : Bas
 
 pub true_begins : ValidScenariosAreBounded → ValidScenariosBeginWell → TakenOrdersAreAllowed → TakenWishesAreAllowed → WishesAreAtPositions → OtherNamesAreFree → NodesHaveNames → TrueOrdersBegin
 true_begins bounded begin allowed wishes positions free names words scenario first journal quiet seat line stage calm rests seen t stands =
-    let lawful : Lawful as_nodes words scenario quiet = lawful-prefix (system_of as_nodes words scenario) (schedule scenario) quiet rests.front.more (subst (Lawful as_nodes words scenario) rests.front.is calm.lawful) in
+    let lawful : Lawful as_nodes words scenario quiet = lawful-prefix (system_of as_nodes words scenario) (schedule scenario) quiet rests.prefix.more (subst (Lawful as_nodes words scenario) rests.prefix.is calm.lawful) in
     begins words scenario first journal quiet seat line calm rests seen t (λ node is. next_unused bounded begin allowed wishes positions free names words scenario quiet calm.valid lawful seat t.seated node is) stage stands

@@ -72,26 +72,26 @@ module _ (all_bounded : ValidScenariosAreBounded) (few_law : SlotsAreLeft) (logs
   young = at_row.young_quiet last_law no_law words scenario first journal quiet rows o.behind seat number calm o.rows_are under on
 
   guide_of : (name : Draw) → IsNamedGroup scenario journal name → IsNamedGuide words all rows seat (Deliver number) name
-  guide_of = at_row.guide_of few_law logs_law views_law rosters_law next_law newest_law found_law no_law words scenario journal rows seat (Deliver number) calm on.front on.seated on.timely under.sent under.reached young
+  guide_of = at_row.guide_of few_law logs_law views_law rosters_law next_law newest_law found_law no_law words scenario journal rows seat (Deliver number) calm on.prefix on.seated on.timely under.sent under.reached young
 
   before : AreInTime s rows
-  before = at_row.before few_law logs_law views_law rosters_law next_law newest_law found_law no_law words scenario journal rows seat (Deliver number) calm on.front on.seated on.timely under.sent under.reached young
+  before = at_row.before few_law logs_law views_law rosters_law next_law newest_law found_law no_law words scenario journal rows seat (Deliver number) calm on.prefix on.seated on.timely under.sent under.reached young
 
   named : (name : Draw) → IsThere all rows name → IsNamedGroup scenario journal name
-  named = at_row.named few_law logs_law views_law rosters_law next_law newest_law found_law no_law words scenario journal rows seat (Deliver number) calm on.front on.seated on.timely under.sent under.reached young
+  named = at_row.named few_law logs_law views_law rosters_law next_law newest_law found_law no_law words scenario journal rows seat (Deliver number) calm on.prefix on.seated on.timely under.sent under.reached young
 
   named_quiet : (name : Draw) → IsThere all quiet name → IsNamedGroup scenario journal name
-  named_quiet = named_there found_law words scenario journal quiet calm under.rests.front
+  named_quiet = named_there found_law words scenario journal quiet calm under.rests.prefix
 
   abbrev sent_after : AreSent words scenario journal then
-  sent_after = at_row.sent_after few_law logs_law views_law rosters_law next_law newest_law found_law no_law words scenario journal rows seat (Deliver number) calm on.front on.seated on.timely under.sent under.reached young
+  sent_after = at_row.sent_after few_law logs_law views_law rosters_law next_law newest_law found_law no_law words scenario journal rows seat (Deliver number) calm on.prefix on.seated on.timely under.sent under.reached young
 
   -- a node takes it
   nodes : (client : ClientState) → value player_table seat rows ≡ Client client → ⊥
   nodes client is = takers_law words scenario first journal quiet rows seat number calm o on client is
 
   seen : AreSeen scenario quiet
-  seen name node = agree_law.nodes scenario quiet name node (all_bounded scenario calm.valid) (found_law words scenario journal quiet calm under.rests.front).homes
+  seen name node = agree_law.nodes scenario quiet name node (all_bounded scenario calm.valid) (found_law words scenario journal quiet calm under.rests.prefix).homes
 
   -- a mail that is delivered is of a group of the journal, which has a replica
   mail_known : (mail : Mail) → numbered (mails rows) number ≡ Some mail → IsOfJournal scenario journal mail × ((name : Draw) → group_of_mail mail.body ≡ Some name → IsThere all rows name)
@@ -116,7 +116,7 @@ module _ (all_bounded : ValidScenariosAreBounded) (few_law : SlotsAreLeft) (logs
   unsettled mail group node r taking here = elim (elsewhere_or mail.body) [
     | inl e ↦ subst (IsUnsettled r) (sym e.3) (λ runs. (
         let to = hinted_at words scenario first journal quiet rows seat number mail group node r under.stage e.0 e.1 e.2 (takes mail group node r taking here) o.hinted e.3 in
-        (to.0, to.1, settled_at words scenario first journal quiet rows seat number mail group node r under.stage e.0 e.1 e.2 (takes mail group node r taking here) under.front under.sent o.settled e.3 runs)))
+        (to.0, to.1, settled_at words scenario first journal quiet rows seat number mail group node r under.stage e.0 e.1 e.2 (takes mail group node r taking here) under.prefix under.sent o.settled e.3 runs)))
     | inr other ↦ unsettled_law words scenario first journal quiet rows seat number mail group node r under.stage (takes mail group node r taking here) other
   ]
 
@@ -135,7 +135,7 @@ module _ (all_bounded : ValidScenariosAreBounded) (few_law : SlotsAreLeft) (logs
     calm = calm;
     rests = under.rests;
     seen = seen;
-    front = under.front;
+    prefix = under.prefix;
     sent = under.sent;
     untouched = under.untouched;
     true_since = o.true_since;
@@ -205,9 +205,9 @@ module _ (all_bounded : ValidScenariosAreBounded) (few_law : SlotsAreLeft) (logs
   under_after : IsUnder words scenario first journal quiet then
   under_after = record {
     rests = under.rests;
-    front = on.front;
+    prefix = on.prefix;
     sent = sent_after;
-    reached = λ base among. at_row.reached_after few_law logs_law views_law rosters_law next_law newest_law found_law no_law words scenario journal rows seat (Deliver number) calm on.front on.seated on.timely under.sent under.reached young base among (λ nowhere. young_after base among (at_row.never_there last_law no_law words scenario first journal quiet rows o.behind seat number calm o.rows_are under on base.core.id nowhere));
+    reached = λ base among. at_row.reached_after few_law logs_law views_law rosters_law next_law newest_law found_law no_law words scenario journal rows seat (Deliver number) calm on.prefix on.seated on.timely under.sent under.reached young base among (λ nowhere. young_after base among (at_row.never_there last_law no_law words scenario first journal quiet rows o.behind seat number calm o.rows_are under on base.core.id nowhere));
     stage = next_stage.0;
     untouched = next_stage.1;
     young = young_after;
@@ -219,7 +219,7 @@ module _ (all_bounded : ValidScenariosAreBounded) (few_law : SlotsAreLeft) (logs
 
   steps : (base : Base) (among : Among base (groups_at as_nodes scenario.groups journal))
       → IsSentStep (logged_sets as_nodes base journal) (over_at as_nodes base journal) (slot_leaders_at as_nodes scenario base journal) words (births as_nodes scenario) rows seat (Deliver number) base (under.sent base among).course
-  steps = at_row.steps few_law logs_law views_law rosters_law next_law newest_law found_law no_law words scenario journal rows seat (Deliver number) calm on.front on.seated on.timely under.sent under.reached young
+  steps = at_row.steps few_law logs_law views_law rosters_law next_law newest_law found_law no_law words scenario journal rows seat (Deliver number) calm on.prefix on.seated on.timely under.sent under.reached young
 
   rising_after : (base : Base) (among : Among base (groups_at as_nodes scenario.groups journal)) → IsRisingOn (logged_sets as_nodes base journal) (slot_leaders_at as_nodes scenario base journal) words (births as_nodes scenario) then base (sent_after base among).course
   unfolding steps
@@ -248,7 +248,7 @@ module _ (all_bounded : ValidScenariosAreBounded) (few_law : SlotsAreLeft) (logs
   -- ---- the order's result
 
   named_after : (name : Draw) → IsThere all then name → IsNamedGroup scenario journal name
-  named_after = named_there found_law words scenario journal then calm on.front
+  named_after = named_there found_law words scenario journal then calm on.prefix
 
   lead_after : (name : Draw) (node : ℕ) (r : ReplicaState) → view_at all then name node ≡ Some r → r.running ≡ true → LeadsAlone all then name node r
   lead_after name node r e runs =
@@ -267,7 +267,7 @@ module _ (all_bounded : ValidScenariosAreBounded) (few_law : SlotsAreLeft) (logs
   result_after : IsReported (mails then) o.line.number ⊎ IsOrderHeld (scene_at all then)
   result_after =
       held_on o.line.number o.told words all quiet rows seat number on.seated on.timely finds under.stage under.untouched.stands o.true_since.done
-      (order_unnamed words scenario quiet rows under.stage (all_bounded scenario calm.valid) (found_law words scenario journal quiet calm under.rests.front).lawful o.true_since) leaders next_stage.0 next_stage.1.stands next_stage.2 o.result
+      (order_unnamed words scenario quiet rows under.stage (all_bounded scenario calm.valid) (found_law words scenario journal quiet calm under.rests.prefix).lawful o.true_since) leaders next_stage.0 next_stage.1.stands next_stage.2 o.result
 
   only_after : (other : OrderLine) → IsGiven then other → IsGiven quiet other ⊎ (other ≡ o.line)
   only_after other given = elim (given_rows rows row other given) [
@@ -298,9 +298,9 @@ module _ (all_bounded : ValidScenariosAreBounded) (few_law : SlotsAreLeft) (logs
     created = created_law.keeps words scenario first journal quiet rows o.line o.task seat number working o.created;
     clients = λ other client is was. (let h = o.clients other client is was in (other_stays all rows seat other on.seated is (Deliver number) client (nodes client) h.0, started_still rows row other.who refl ∙ h.1));
     known = known_after words scenario journal quiet rows seat number next_stage.0 on.seated on.timely unanswered named_quiet next_stage.1 o.known;
-    home = errands_law words scenario journal quiet rows row next_stage.0 calm under.rests.front on.front next_stage.1.stands hinted_after o.home;
+    home = errands_law words scenario journal quiet rows row next_stage.0 calm under.rests.prefix on.prefix next_stage.1.stands hinted_after o.home;
     waits = waits_law.goes_on words scenario journal rows seat number calm on sent_after o.waits;
-    names = names_law.goes_on words scenario first journal quiet rows seat (Deliver number) o.task calm under.rests on.front (created_law.keeps words scenario first journal quiet rows o.line o.task seat number working o.created) o.names;
+    names = names_law.goes_on words scenario first journal quiet rows seat (Deliver number) o.task calm under.rests on.prefix (created_law.keeps words scenario first journal quiet rows o.line o.task seat number working o.created) o.names;
   }
 
   -- the order is at a stage that follows
@@ -312,8 +312,8 @@ module _ (all_bounded : ValidScenariosAreBounded) (few_law : SlotsAreLeft) (logs
   -- a replica that a player has is one of a group of the journal
   alone : AllLeadAlone all rows
   alone r a runs =
-      let front = at_row.here few_law logs_law views_law rosters_law next_law newest_law found_law no_law words scenario journal rows seat (Deliver number) calm on.front on.seated on.timely under.sent under.reached young in
-      let f = found_law words scenario journal rows calm front in
+      let prefix = at_row.here few_law logs_law views_law rosters_law next_law newest_law found_law no_law words scenario journal rows seat (Deliver number) calm on.prefix on.seated on.timely under.sent under.reached young in
+      let f = found_law words scenario journal rows calm prefix in
       let p = place_of all_bounded once_law agree_law words scenario rows calm.valid f.lawful f.homes r a in
       (p.0, lead_at (name_of r) p.0 r p.1 runs)
 
@@ -328,7 +328,7 @@ module _ (all_bounded : ValidScenariosAreBounded) (few_law : SlotsAreLeft) (logs
     counts = λ r here runs.
         (let view = viewed name node r is here in
         let w = o.work.replicas name seat.who r view in
-        record { alone = stands_law.alone o.task name r w; calls = λ some. w.calls; entries = Each-from (λ (flight : Flight Command). IsEntry flight.value r × (length (applied r.group flight.value).0.core.members ≤ 9)) r.leader.flights (flights_law words scenario first journal quiet rows name seat.who r under.stage (leads_since name seat.who r view runs)) });
+        record { alone = stands_law.alone o.task name r w; backlog = λ some. w.backlog; entries = Each-from (λ (flight : Flight Command). IsEntry flight.value r × (length (applied r.group flight.value).0.core.members ≤ 9)) r.leader.flights (flights_law words scenario first journal quiet rows name seat.who r under.stage (leads_since name seat.who r view runs)) });
   }
     where
       g : IsNamedGroup scenario journal name
@@ -342,9 +342,9 @@ module _ (all_bounded : ValidScenariosAreBounded) (few_law : SlotsAreLeft) (logs
       plain_at (Some r) here = λ off. plain_law.plain _ _ _ words all rows g.0 (under.sent g.0 g.1) seat.who r (ap (λ n. view_at all rows n seat.who) g.2 ∙ viewed name node r is here)
 
   found : (far sent : ℕ) → quiet_prefix s rows ≡ quiet → DoHintsRise (replicas_after scenario quiet) (chart_at far sent s rows).ways → FindsCalm (chart_at far sent s rows) all rows seat (Deliver number)
-  found far sent front rise =
+  found far sent prefix rise =
       calm_law words scenario first journal quiet rows far sent seat number calm under on sent_after
-      (record { alone = alone; homes = (found_law words scenario journal quiet calm under.rests.front).homes; front = front; rise = rise; nodes = nodes; mail = mail_so })
+      (record { alone = alone; homes = (found_law words scenario journal quiet calm under.rests.prefix).homes; prefix = prefix; rise = rise; nodes = nodes; mail = mail_so })
 
 pub deliveries_keep : ValidScenariosAreBounded → SlotsAreLeft → ReplicasRunLogs → ViewsAreReplicas → SlotsHaveRosters → ReplicasLast → NextRowsAreSent → NewestStay → PrefixesAreFound → NoMailForStrangers → ViewsAgree → WellLedLeadAlone → SentReplicas → OrdersRowsMeet → OrdersRowsFind → NextRowsRise → OrdersKeepRounds → ChildrenWereNowhere → ChildrenAreCreated → FreshGroupsStay → YoungGroupsStay
     → MailComesUnsettled → AskedGroupsStood → TrueOrdersGoOn → DeliveriesKeepWork → WorkStandsAlone → OrderRowsFindCalm → SettledOrdersGoOn → CoordinatorsAreSettled → HintedOrdersGoOn → CoordinatorsAreHinted → EntriesAreTrue → FlightsAreEntries → MailMayCome → LawfulReplicasAreNamedOnce → TakersAreNodes → OrderErrandsGoToNodes → EndingGroupsGoOn → NoneWaits → NamesStayFew → DeliveriesKeepOrdered

@@ -5,7 +5,7 @@ use Rattle.sc_base.specs.Definitions.{Among, Each}
 use Rattle.sc_node_table.specs.Values.{Draw, Base, OrderLine, Mail, Seat, Row}
 use Rattle.sc_actor.specs.declared.rows.Event.TheVariants.{Told}
 use Rattle.sc_actor.specs.Definitions.{System, row_of, mails}
-use Rattle.sc_live_orderly.specs.Definitions.{is_born, is_told, AreInTime}
+use Rattle.sc_live_orderly.specs.Definitions.{is_born, is_reported, AreInTime}
 use Rattle.sc_live_orderly.proofs.Lemmas.{count_push, in_time_before, in_time_tidy, quiet-empty}
 use Rattle.sc_scenario.specs.Definitions.{ValidScenariosAreBounded}
 use Rattle.sc_scenario.specs.declared.scenarios.Scenario.{Scenario}
@@ -24,14 +24,14 @@ use Rattle.sc_live_answers.proofs.GuidedGroups as at_row
 use Rattle.sc_live_answers.proofs.GuidedGroups.{named_there, reached_even}
 use Rattle.sc_live_answers.proofs.ClientsUnderOrders.{started_still, told_stays}
 use Rattle.sc_live_answers.proofs.SentMailGroups.{known_told}
-use Rattle.sc_policy.specs.Definitions.{is_told as is_told_order}
+use Rattle.sc_policy.specs.Definitions.{is_reported as is_told_order}
 use Rattle.sc_live_answers.proofs.HeldOrdersAtStart.{given_allowed, given_rows, held_at_start}
 use Rattle.sc_live_answers.proofs.WellLedLeaders.{well_led_lead_alone}
 
 module _ (all_bounded : ValidScenariosAreBounded) (few_law : SlotsAreLeft) (logs_law : ReplicasRunLogs) (views_law : ViewsAreReplicas) (rosters_law : SlotsHaveRosters) (next_law : NextRowsAreSent) (newest_law : NewestStay) (found_law : PrefixesAreFound) (no_law : NoMailForStrangers)
     (agree_law : ViewsAgree) (plain_law : SentReplicas) (finds_law : OrdersRowsFind) (fresh_law : FreshGroupsStay) (young_law : YoungGroupsStay) (true_law : TrueOrdersBegin) (settled_law : SettledOrdersBegin) (hinted_law : HintedOrdersBegin) (work_law : OrdersBeginWork) (created_law : ChildrenAreCreated) (rise_law : NextRowsRise) (rounds_law : OrdersKeepRounds) (stands_law : WorkStandsAlone) (calm_law : GivenOrdersFindCalm) (errands_law : OrderErrandsGoToNodes) (actors_law : NodeErrandsReachPlayers) (ending_groups_law : EndingGroupsBegin) (waits_law : NoneWaits) (names_law : NamesStayFew) (step_law : FoundOrdersStep)
     (words : ℕ → ℕ → ℕ × ℕ) (scenario : Scenario) (first : Base) (journal quiet : Rows) (seat : Seat Player) (line : OrderLine) (calm : IsCalmJournal words scenario journal) (rests : RestsAt words scenario first journal quiet) (home : Each (GoesToNode scenario) (mails quiet))
-    (seated : IsSeat (births as_nodes scenario) seat) (front : IsPrefixOf journal (with_event quiet seat (Told line))) (timely : AreInTime (players words (births as_nodes scenario)) (with_event quiet seat (Told line))) where
+    (seated : IsSeat (births as_nodes scenario) seat) (prefix : IsPrefixOf journal (with_event quiet seat (Told line))) (timely : AreInTime (players words (births as_nodes scenario)) (with_event quiet seat (Told line))) where
   abbrev all : List (Seat Player)
   all = births as_nodes scenario
 
@@ -48,7 +48,7 @@ module _ (all_bounded : ValidScenariosAreBounded) (few_law : SlotsAreLeft) (logs
   before = in_time_before s quiet row timely
 
   strangers : (name : Draw) (who : ℕ) → is_born s who ≡ false → marks_at s quiet name who ≡ []
-  strangers = no_law.strangers words scenario journal quiet calm rests.front rests.sent
+  strangers = no_law.strangers words scenario journal quiet calm rests.prefix rests.sent
 
   -- nothing is under way
   none : (name : Draw) (who : ℕ) → marks_at s quiet name who ≡ []
@@ -64,26 +64,26 @@ module _ (all_bounded : ValidScenariosAreBounded) (few_law : SlotsAreLeft) (logs
   group base among = record { open_slots = refl; valid = calm.valid; lawful = calm.lawful; stands = among }
 
   abbrev reached : (base : Base) (among : Among base (groups_at as_nodes scenario.groups journal)) → IsReachedSo all quiet base (rests.sent base among).course
-  reached base among = reached_even rosters_law logs_law views_law words scenario journal quiet rests.front.more base (group base among) rests.front.is (rests.sent base among) (none base.core.id)
+  reached base among = reached_even rosters_law logs_law views_law words scenario journal quiet rests.prefix.more base (group base among) rests.prefix.is (rests.sent base among) (none base.core.id)
 
   guide_of : (name : Draw) → IsNamedGroup scenario journal name → IsNamedGuide words all quiet seat (Told line) name
-  guide_of = at_row.guide_of few_law logs_law views_law rosters_law next_law newest_law found_law no_law words scenario journal quiet seat (Told line) calm front seated timely rests.sent reached young
+  guide_of = at_row.guide_of few_law logs_law views_law rosters_law next_law newest_law found_law no_law words scenario journal quiet seat (Told line) calm prefix seated timely rests.sent reached young
 
   abbrev sent_after : AreSent words scenario journal then
-  sent_after = at_row.sent_after few_law logs_law views_law rosters_law next_law newest_law found_law no_law words scenario journal quiet seat (Told line) calm front seated timely rests.sent reached young
+  sent_after = at_row.sent_after few_law logs_law views_law rosters_law next_law newest_law found_law no_law words scenario journal quiet seat (Told line) calm prefix seated timely rests.sent reached young
 
   named : (name : Draw) → IsThere all quiet name → IsNamedGroup scenario journal name
-  named = named_there found_law words scenario journal quiet calm rests.front
+  named = named_there found_law words scenario journal quiet calm rests.prefix
 
   seen : AreSeen scenario quiet
-  seen name node = agree_law.nodes scenario quiet name node (all_bounded scenario calm.valid) (found_law words scenario journal quiet calm rests.front).homes
+  seen name node = agree_law.nodes scenario quiet name node (all_bounded scenario calm.valid) (found_law words scenario journal quiet calm rests.prefix).homes
 
   -- each replica rests
   at_rest : (name : Draw) (who : ℕ) (r : ReplicaState) → view_at all quiet name who ≡ Some r → IsAtRest r
   at_rest name who r e = rests.is.quiet.at_rest name who r (sym (seen name who) ∙ e)
 
   room : (name : Draw) (who : ℕ) (r : ReplicaState) → view_at all quiet name who ≡ Some r → next r ≤ last_slot
-  room name who r e = (at_row.few few_law logs_law views_law rosters_law next_law newest_law found_law no_law words scenario journal quiet seat (Told line) calm front seated timely rests.sent reached young (named name (who, r, e)).0 quiet rests.front.more who r rests.front.is
+  room name who r e = (at_row.few few_law logs_law views_law rosters_law next_law newest_law found_law no_law words scenario journal quiet seat (Told line) calm prefix seated timely rests.sent reached young (named name (who, r, e)).0 quiet rests.prefix.more who r rests.prefix.is
       (ap (λ n. view_at all quiet n who) (named name (who, r, e)).2 ∙ e)).0
 
   plain : (name : Draw) (who : ℕ) (r : ReplicaState) → view_at all quiet name who ≡ Some r → r.leader.reports ≡ []
@@ -124,9 +124,9 @@ module _ (all_bounded : ValidScenariosAreBounded) (few_law : SlotsAreLeft) (logs
   under_after : IsUnder words scenario first journal quiet then
   under_after = record {
     rests = rests;
-    front = front;
+    prefix = prefix;
     sent = sent_after;
-    reached = λ base among. at_row.reached_after few_law logs_law views_law rosters_law next_law newest_law found_law no_law words scenario journal quiet seat (Told line) calm front seated timely rests.sent reached young base among (young_after base among);
+    reached = λ base among. at_row.reached_after few_law logs_law views_law rosters_law next_law newest_law found_law no_law words scenario journal quiet seat (Told line) calm prefix seated timely rests.sent reached young base among (young_after base among);
     stage = begun.0;
     untouched = begun.1;
     young = young_after;
@@ -134,7 +134,7 @@ module _ (all_bounded : ValidScenariosAreBounded) (few_law : SlotsAreLeft) (logs
 
   steps : (base : Base) (among : Among base (groups_at as_nodes scenario.groups journal))
       → IsSentStep (logged_sets as_nodes base journal) (over_at as_nodes base journal) (slot_leaders_at as_nodes scenario base journal) words (births as_nodes scenario) quiet seat (Told line) base (rests.sent base among).course
-  steps = at_row.steps few_law logs_law views_law rosters_law next_law newest_law found_law no_law words scenario journal quiet seat (Told line) calm front seated timely rests.sent reached young
+  steps = at_row.steps few_law logs_law views_law rosters_law next_law newest_law found_law no_law words scenario journal quiet seat (Told line) calm prefix seated timely rests.sent reached young
 
   rising_after : (base : Base) (among : Among base (groups_at as_nodes scenario.groups journal)) → IsRisingOn (logged_sets as_nodes base journal) (slot_leaders_at as_nodes scenario base journal) words (births as_nodes scenario) then base (sent_after base among).course
   unfolding steps
@@ -150,17 +150,17 @@ module _ (all_bounded : ValidScenariosAreBounded) (few_law : SlotsAreLeft) (logs
   hinted_after = hinted_law words scenario quiet seat line begun.0 told_so begun.1.stands
 
   found : IsFoundPrefix words scenario journal quiet
-  found = found_law words scenario journal quiet calm rests.front
+  found = found_law words scenario journal quiet calm rests.prefix
 
   lead_after : (name : Draw) (node : ℕ) (r : ReplicaState) → view_at all then name node ≡ Some r → r.running ≡ true → LeadsAlone all then name node r
   lead_after name node r e runs =
-      let g = named_there found_law words scenario journal then calm front name (node, r, e) in
+      let g = named_there found_law words scenario journal then calm prefix name (node, r, e) in
       let t = sent_after g.0 g.1 in
       subst (λ n. LeadsAlone all then n node r) g.2 (well_led_lead_alone.alone _ _ _ words all then g.0 t.course node r t.led (ap (λ n. view_at all then n node) g.2 ∙ e) runs).0
 
   -- the order is one for a node of the scenario
   allowed : ((1 ≤ seat.who) × (seat.who ≤ scenario.nodes)) × (is_told_order line.number ≡ true)
-  allowed = given_allowed words scenario journal quiet row line calm front refl
+  allowed = given_allowed words scenario journal quiet row line calm prefix refl
 
   only_begins : (other : OrderLine) → IsGiven then other → IsGiven quiet other ⊎ (other ≡ line)
   only_begins other given = elim (given_rows quiet row other given) [
@@ -176,13 +176,13 @@ module _ (all_bounded : ValidScenariosAreBounded) (few_law : SlotsAreLeft) (logs
       record {
         behind = row ∷ [];
         rows_are = refl;
-        one_order = (let more = count_push (λ (x : Row Mail OrderLine). is_told x.event) quiet row true refl in omega (arith, more));
+        one_order = (let more = count_push (λ (x : Row Mail OrderLine). is_reported x.event) quiet row true refl in omega (arith, more));
         under = under_after;
         rising = rising_after;
         round = round_after;
         true_since = true_so;
-        goes = ending_groups_law words scenario first journal quiet seat line begun.0 calm rests seen told_so front begun.1.stands;
-        settled = settled_law words scenario first journal quiet seat line begun.0 calm rests seen told_so front sent_after strangers begun.1.stands true_so;
+        goes = ending_groups_law words scenario first journal quiet seat line begun.0 calm rests seen told_so prefix begun.1.stands;
+        settled = settled_law words scenario first journal quiet seat line begun.0 calm rests seen told_so prefix sent_after strangers begun.1.stands true_so;
         hinted = hinted_after;
         line = line;
         only = only_begins;
@@ -194,9 +194,9 @@ module _ (all_bounded : ValidScenariosAreBounded) (few_law : SlotsAreLeft) (logs
         created = created_law.begins words scenario journal quiet seat line work.0 seated timely work.1;
         clients = λ other client is was. (told_stays all quiet seat other seated is line client was, started_still quiet row other.who refl);
         known = known_told words scenario journal quiet seat line begun.0 seated timely rests.calm named begun.1;
-        home = errands_law words scenario journal quiet quiet row begun.0 calm rests.front front begun.1.stands hinted_after home;
-        waits = waits_law.begins words scenario first journal quiet seat line calm rests seated front sent_after;
-        names = names_law.goes_on words scenario first journal quiet quiet seat (Told line) work.0 calm rests front (created_law.begins words scenario journal quiet seat line work.0 seated timely work.1) (names_law.begins all quiet work.0);
+        home = errands_law words scenario journal quiet quiet row begun.0 calm rests.prefix prefix begun.1.stands hinted_after home;
+        waits = waits_law.begins words scenario first journal quiet seat line calm rests seated prefix sent_after;
+        names = names_law.goes_on words scenario first journal quiet quiet seat (Told line) work.0 calm rests prefix (created_law.begins words scenario journal quiet seat line work.0 seated timely work.1) (names_law.begins all quiet work.0);
       }
 
   -- the order is at a stage that follows
@@ -204,12 +204,12 @@ module _ (all_bounded : ValidScenariosAreBounded) (few_law : SlotsAreLeft) (logs
   steps_on = step_law words all quiet seat (Told line) seated timely finds Still rests.still
 
   finds_calm : (far sent : ℕ) → FindsCalm (chart_at far sent s quiet) all quiet seat (Told line)
-  finds_calm far sent = calm_law words scenario first journal quiet far sent seat line calm rests (found_law words scenario journal quiet calm rests.front).homes seated
+  finds_calm far sent = calm_law words scenario first journal quiet far sent seat line calm rests (found_law words scenario journal quiet calm rests.prefix).homes seated
 
 pub orders_begin : ValidScenariosAreBounded → SlotsAreLeft → ReplicasRunLogs → ViewsAreReplicas → SlotsHaveRosters → NextRowsAreSent → NewestStay → PrefixesAreFound → NoMailForStrangers → ViewsAgree → SentReplicas → OrdersRowsFind → FreshGroupsStay → YoungGroupsStay → TrueOrdersBegin → SettledOrdersBegin → HintedOrdersBegin → OrdersBeginWork → ChildrenAreCreated → NextRowsRise → OrdersKeepRounds → WorkStandsAlone
     → GivenOrdersFindCalm → OrderErrandsGoToNodes → NodeErrandsReachPlayers → EndingGroupsBegin → NoneWaits → NamesStayFew → FoundOrdersStep → OrdersBeginOrdered
-orders_begin all_bounded few_law logs_law views_law rosters_law next_law newest_law found_law no_law agree_law plain_law finds_law fresh_law young_law true_law settled_law hinted_law work_law created_law rise_law rounds_law stands_law calm_law errands_law actors_law ending_groups_law waits_law names_law step_law words scenario first journal quiet seat line calm rests home seated front timely = (
-  begins all_bounded few_law logs_law views_law rosters_law next_law newest_law found_law no_law agree_law plain_law finds_law fresh_law young_law true_law settled_law hinted_law work_law created_law rise_law rounds_law stands_law calm_law errands_law actors_law ending_groups_law waits_law names_law step_law words scenario first journal quiet seat line calm rests home seated front timely,
-  steps_on all_bounded few_law logs_law views_law rosters_law next_law newest_law found_law no_law agree_law plain_law finds_law fresh_law young_law true_law settled_law hinted_law work_law created_law rise_law rounds_law stands_law calm_law errands_law actors_law ending_groups_law waits_law names_law step_law words scenario first journal quiet seat line calm rests home seated front timely,
-  finds_calm all_bounded few_law logs_law views_law rosters_law next_law newest_law found_law no_law agree_law plain_law finds_law fresh_law young_law true_law settled_law hinted_law work_law created_law rise_law rounds_law stands_law calm_law errands_law actors_law ending_groups_law waits_law names_law step_law words scenario first journal quiet seat line calm rests home seated front timely,
+orders_begin all_bounded few_law logs_law views_law rosters_law next_law newest_law found_law no_law agree_law plain_law finds_law fresh_law young_law true_law settled_law hinted_law work_law created_law rise_law rounds_law stands_law calm_law errands_law actors_law ending_groups_law waits_law names_law step_law words scenario first journal quiet seat line calm rests home seated prefix timely = (
+  begins all_bounded few_law logs_law views_law rosters_law next_law newest_law found_law no_law agree_law plain_law finds_law fresh_law young_law true_law settled_law hinted_law work_law created_law rise_law rounds_law stands_law calm_law errands_law actors_law ending_groups_law waits_law names_law step_law words scenario first journal quiet seat line calm rests home seated prefix timely,
+  steps_on all_bounded few_law logs_law views_law rosters_law next_law newest_law found_law no_law agree_law plain_law finds_law fresh_law young_law true_law settled_law hinted_law work_law created_law rise_law rounds_law stands_law calm_law errands_law actors_law ending_groups_law waits_law names_law step_law words scenario first journal quiet seat line calm rests home seated prefix timely,
+  finds_calm all_bounded few_law logs_law views_law rosters_law next_law newest_law found_law no_law agree_law plain_law finds_law fresh_law young_law true_law settled_law hinted_law work_law created_law rise_law rounds_law stands_law calm_law errands_law actors_law ending_groups_law waits_law names_law step_law words scenario first journal quiet seat line calm rests home seated prefix timely,
 )

@@ -100,7 +100,7 @@ module _ (n : ℕ) where
     Does = λ name command. a.Does name command × HasNumber n command;
     Is = λ name core. a.Is name core × LockNumber n core.lock;
     Creates = a.Creates;
-    calls = λ name client seq op d. a.calls name client seq op d.0;
+    backlog = λ name client seq op d. a.backlog name client seq op d.0;
     entered = λ name group command s d. (a.entered name group command s.0 d.0, entry_numbered group command s.1 d.1);
     creation = λ name group command child s d e. a.creation name group command child s.0 d.0 e;
     adds = λ name group command s d. a.adds name group command s.0 d.0;

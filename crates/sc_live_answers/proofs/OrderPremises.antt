@@ -24,8 +24,8 @@ use Rattle.sc_live_answers.proofs.OrderDeliveries.{led_there, named_so, gone_lea
 -- one at rest has no work
 pub no_works : (r : ReplicaState) → IsAtRest r → works r ≡ []
 no_works r rest =
-    ap (λ a. works_in a ++ (works_in r.calls ++ (works_flying r.leader.flights ++ works_ready r.ready))) rest.acts
-    ∙ (ap (λ c. works_in c ++ (works_flying r.leader.flights ++ works_ready r.ready)) rest.calls
+    ap (λ a. works_in a ++ (works_in r.backlog ++ (works_flying r.leader.flights ++ works_ready r.ready))) rest.acts
+    ∙ (ap (λ c. works_in c ++ (works_flying r.leader.flights ++ works_ready r.ready)) rest.backlog
     ∙ (ap (λ f. works_flying f ++ works_ready r.ready) rest.flights ∙ ap works_ready rest.ready))
 
 -- one that does not run refuses an order

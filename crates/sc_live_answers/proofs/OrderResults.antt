@@ -4,7 +4,7 @@ use Rattle.std.specs.Option.{option_map}
 use Rattle.std.proofs.lemmas.Bool.{cases_Bool, cond-true, cond-false}
 use Rattle.sc_base.specs.Definitions.{same_draw}
 use Rattle.sc_base.proofs.Lemmas.{same_name}
-use Rattle.sc_node_table.specs.Values.{Draw, Body, Command, Noop, Call, Join, Leave, Split, Begin, Prepared, RecordVote, GiveUp, Finish, Watched, RecordWatch, Core, Lock, Free, Coordinating, Promised, Watching, Effect, Route, ToldResult, OrderRefusal, Heard, No, Outcome, Abort}
+use Rattle.sc_node_table.specs.Values.{Draw, Body, Command, Noop, Call, Join, Leave, Split, Begin, Prepared, RecordVote, GiveUp, Finish, Watched, RecordWatch, Core, Lock, Free, Coordinating, Promised, Watching, Effect, Route, OrderResult, OrderRefusal, Heard, No, Outcome, Abort}
 use Rattle.sc_cmd.specs.Definitions.{is_alone, is_changed, decided_in, result_of}
 use Rattle.sc_cmd.specs.declared.bodies.Body.TheVariants as At
 use Rattle.sc_cmd.specs.declared.effects.Effect.TheVariants.{NoEffect}
@@ -18,14 +18,14 @@ use Rattle.sc_live_answers.specs.Definitions.{IsTrueEntry, HasNumber, LockNumber
 use Rattle.sc_live_answers.proofs.ReportedMail.{Ends}
 
 -- an order that is carried out or refused has a result
-ordered_result : (gone : Option Route) (why : Option OrderRefusal) (after group : Group) → (result : ToldResult) × (result_of (ordered gone why after group).1 ≡ Some result)
+ordered_result : (gone : Option Route) (why : Option OrderRefusal) (after group : Group) → (result : OrderResult) × (result_of (ordered gone why after group).1 ≡ Some result)
 ordered_result (Some into) why after group = (_, refl)
 ordered_result None (Some why) after group = (_, refl)
 ordered_result None None after group = (_, refl)
 
 -- a split that is not carried out at once, and a transaction, are refused or begin
 split_result : (at : ℕ) (child : Draw) (order : ℕ) (alone : Bool) (gone : Option Route) (why : Option OrderRefusal) (after group : Group)
-    → ((result : ToldResult) × (begun_result alone (ordered gone why after group).1 (Split at child order) ≡ Some result)) ⊎ ((is_changed (ordered gone why after group).1 ≡ true) × (alone ≡ false))
+    → ((result : OrderResult) × (begun_result alone (ordered gone why after group).1 (Split at child order) ≡ Some result)) ⊎ ((is_changed (ordered gone why after group).1 ≡ true) × (alone ≡ false))
 split_result at child order true (Some into) why after group = inl (_, refl)
 split_result at child order false (Some into) why after group = inl (_, refl)
 split_result at child order true None (Some why) after group = inl (_, refl)
@@ -34,7 +34,7 @@ split_result at child order true None None after group = inl (_, refl)
 split_result at child order false None None after group = inr (refl, refl)
 
 begin_result : (tx : Draw) (body : Body) (order : ℕ) (alone : Bool) (gone : Option Route) (why : Option OrderRefusal) (after group : Group)
-    → ((result : ToldResult) × (begun_result alone (ordered gone why after group).1 (Begin tx body order) ≡ Some result)) ⊎ (is_changed (ordered gone why after group).1 ≡ true)
+    → ((result : OrderResult) × (begun_result alone (ordered gone why after group).1 (Begin tx body order) ≡ Some result)) ⊎ (is_changed (ordered gone why after group).1 ≡ true)
 begin_result tx body order alone (Some into) why after group = inl (_, refl)
 begin_result tx body order alone None (Some why) after group = inl (_, refl)
 begin_result tx body order alone None None after group = inr refl

@@ -31,7 +31,7 @@ use Rattle.sc_law_groups.proofs.GroupProofs.Lemmas.{number_among}
 idle_kept : (who : ℕ) (r : ReplicaState) → IsPlainlyKept who r → IsSlotKept r → r.running ≡ false → IsIdle r
 idle_kept who r p s off =
     let waits = p.2.0 off in
-    record { stopped = off; acts = ap works_in waits.1; calls = ap works_in waits.2; flights = waits.0; ready = (s.0.2 off).1 }
+    record { stopped = off; acts = ap works_in waits.1; backlog = ap works_in waits.2; flights = waits.0; ready = (s.0.2 off).1 }
 
 module _ (words : ℕ → ℕ → ℕ × ℕ) (scenario : Scenario) (rows : Rows) (seat : Seat Player) (event : Event OrderLine) (q : IsOrdersRow words scenario rows seat event) where
   abbrev all : List (Seat Player)

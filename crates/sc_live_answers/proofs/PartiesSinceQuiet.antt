@@ -69,7 +69,7 @@ module _ (tells : ReplicasAreRecorded) (words : ℕ → ℕ → ℕ × ℕ) (sce
   pub base_of : (name : Draw) → IsThere (births as_nodes scenario) quiet name → (base : Base) × IsGroupOf as_nodes words scenario journal base × (base.core.id ≡ name)
   base_of name there =
       let named = rests.known.named name there.0 there.1 (sym (seen name there.0) ∙ there.2) in
-      (named.0, tells.groups words scenario journal quiet rests.front.more named.0 calm.valid calm.lawful rests.front.is named.1, named.2)
+      (named.0, tells.groups words scenario journal quiet rests.prefix.more named.0 calm.valid calm.lawful rests.prefix.is named.1, named.2)
 
   -- what its lock says, and what it has in flight
   pub locks_at : (name : Draw) (who : ℕ) (r : ReplicaState) → IsThere (births as_nodes scenario) quiet name → view_at (births as_nodes scenario) xs name who ≡ Some r → LockIsRecorded scenario journal name r.group

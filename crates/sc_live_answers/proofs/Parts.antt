@@ -2,7 +2,7 @@
 use Rattle.std.proofs.Common.{ℕ, ◌+◌, ◌-◌, ◌^◌, ◌&&◌, not, nat_le, eqb, Bool, true, false, cond, List, [], ◌∷◌, ◌++◌, Option, Some, None}
 use Rattle.std.specs.Prelude.{is_some}
 use Rattle.std.specs.List.{filter, list_any}
-use Rattle.sc_node_table.specs.Values.{Ballot, Draw, Op, Offer, Watch, Command, Noop, Call, Join, Leave, Split, Begin, Prepared, RecordVote, GiveUp, Finish, Watched, RecordWatch, Effect, Route, ToldResult, Outcome, Past, Vote, AnswerBody, PrepareAnswer, AcceptAnswer, Must, Gap, Report}
+use Rattle.sc_node_table.specs.Values.{Ballot, Draw, Op, Offer, Watch, Command, Noop, Call, Join, Leave, Split, Begin, Prepared, RecordVote, GiveUp, Finish, Watched, RecordWatch, Effect, Route, OrderResult, Outcome, Past, Vote, AnswerBody, PrepareAnswer, AcceptAnswer, Must, Gap, Report}
 use Rattle.sc_cmd.specs.declared.votes.Past.TheVariants as Cast
 use Rattle.sc_cmd.specs.declared.votes.Vote.TheVariants as Votes
 use Rattle.sc_mail.specs.declared.bodies.AnswerBody.TheVariants as Answers
@@ -11,13 +11,13 @@ use Rattle.sc_paxos_words.specs.declared.answers.PrepareAnswer.TheVariants as Pr
 use Rattle.sc_paxos_words.specs.declared.answers.AcceptAnswer.TheVariants as Asked
 use Rattle.sc_paxos_words.specs.declared.answers.Must.TheVariants.{Value, Free as Open}
 use Rattle.sc_paxos_words.specs.Definitions.{AcceptorState, accepted as accepted_by, below, LeaderState, promise_counted, must, prepared}
-use Rattle.sc_node_table.specs.Definitions.{has_act, act_queued, elected, ended, stopped, saw, answer_of, told_call, order_result, told_effect, announced, learnt_to, welcomed, slot_lost, left_gone, left, is_among, looked_for, looked, install_to, asked_to_promise, welcomed_all, Found, is_act, from_calls, from_acts, from_queues, found_by, found_for, offered, pumped_from, pumped, put_back, call_of, without_call, ReplicaState, Place, next, members, settled, may_offer, taken_at, under_way, is_idle, last_slot, refused_at, queued, requested, request_row, ask_row, spoken, noted_outcome, standing_vote, sent_elsewhere, offered_by, offer_row, watched_by, watch_row, awaits_vote, awaits_watch, vote_met, vote_row, watch_met, watched_row, elsewhere_row, is_bound, outcome_row, hinted, promise_to, promised, prepare_row, accepted_to, took, accept_row, leads, promise_row, nack_row}
+use Rattle.sc_node_table.specs.Definitions.{has_act, act_queued, elected, ended, stopped, saw, answer_of, answered_or_put_back, order_result, effect_reported, announced, learnt_to, welcomed, slot_lost, left_gone, left, is_among, looked_for, looked, install_to, asked_to_promise, welcomed_all, Found, is_act, from_backlog, from_acts, from_queues, found_by, found_for, offered, pumped_from, pumped, put_back, queued_number, without_request, ReplicaState, Place, next, members, settled, may_offer, taken_at, under_way, is_idle, last_slot, refused_at, queued, requested, request_row, ask_row, spoken, noted_outcome, standing_vote, sent_elsewhere, offered_by, offer_row, watched_by, watch_row, awaits_vote, awaits_watch, vote_met, vote_row, watch_met, watched_row, elsewhere_row, is_bound, outcome_row, hinted, promise_to, promised, prepare_row, accepted_to, took, accept_row, leads, promise_row, nack_row}
 use Rattle.sc_node_table.specs.declared.Before.{Before}
 use Rattle.sc_law_walks.proofs.Lemmas.{asked_place, either_way}
 
 -- P speaks of a replica's group, its log and its number alone
-module _ (P : ReplicaState → Type 0) (any : (r : ReplicaState) (acceptor : AcceptorState Command) (hint : Option ℕ) (top : Ballot) (running : Bool) (leader : LeaderState Command) (ready : List (ℕ × Command)) (acts calls : List Command) (waits : ℕ)
-    → P r → P (record r { acceptor = acceptor; hint = hint; top = top; running = running; leader = leader; ready = ready; acts = acts; calls = calls; waits = waits })) where
+module _ (P : ReplicaState → Type 0) (any : (r : ReplicaState) (acceptor : AcceptorState Command) (hint : Option ℕ) (top : Ballot) (running : Bool) (leader : LeaderState Command) (ready : List (ℕ × Command)) (acts backlog : List Command) (waits : ℕ)
+    → P r → P (record r { acceptor = acceptor; hint = hint; top = top; running = running; leader = leader; ready = ready; acts = acts; backlog = backlog; waits = waits })) where
   abbrev pub F : Place → Type 0
   F place = P place.0
 
@@ -25,22 +25,22 @@ module _ (P : ReplicaState → Type 0) (any : (r : ReplicaState) (acceptor : Acc
   unfolding put_back
   back Noop r p = p
   back (Call client seq op) r p = any r r.acceptor r.hint r.top r.running r.leader r.ready r.acts _ r.waits p
-  back (Join node order) r p = any r r.acceptor r.hint r.top r.running r.leader r.ready r.acts (Join node order ∷ r.calls) r.waits p
-  back (Leave node order) r p = any r r.acceptor r.hint r.top r.running r.leader r.ready r.acts (Leave node order ∷ r.calls) r.waits p
-  back (Split at child order) r p = any r r.acceptor r.hint r.top r.running r.leader r.ready r.acts (Split at child order ∷ r.calls) r.waits p
-  back (Begin tx body order) r p = any r r.acceptor r.hint r.top r.running r.leader r.ready r.acts (Begin tx body order ∷ r.calls) r.waits p
-  back (Prepared tx offer) r p = any r r.acceptor r.hint r.top r.running r.leader r.ready (Prepared tx offer ∷ r.acts) r.calls r.waits p
-  back (RecordVote tx vote by) r p = any r r.acceptor r.hint r.top r.running r.leader r.ready (RecordVote tx vote by ∷ r.acts) r.calls r.waits p
-  back (GiveUp tx) r p = any r r.acceptor r.hint r.top r.running r.leader r.ready (GiveUp tx ∷ r.acts) r.calls r.waits p
-  back (Finish tx outcome) r p = any r r.acceptor r.hint r.top r.running r.leader r.ready (Finish tx outcome ∷ r.acts) r.calls r.waits p
-  back (Watched tx watch) r p = any r r.acceptor r.hint r.top r.running r.leader r.ready (Watched tx watch ∷ r.acts) r.calls r.waits p
-  back (RecordWatch tx vote by) r p = any r r.acceptor r.hint r.top r.running r.leader r.ready (RecordWatch tx vote by ∷ r.acts) r.calls r.waits p
+  back (Join node order) r p = any r r.acceptor r.hint r.top r.running r.leader r.ready r.acts (Join node order ∷ r.backlog) r.waits p
+  back (Leave node order) r p = any r r.acceptor r.hint r.top r.running r.leader r.ready r.acts (Leave node order ∷ r.backlog) r.waits p
+  back (Split at child order) r p = any r r.acceptor r.hint r.top r.running r.leader r.ready r.acts (Split at child order ∷ r.backlog) r.waits p
+  back (Begin tx body order) r p = any r r.acceptor r.hint r.top r.running r.leader r.ready r.acts (Begin tx body order ∷ r.backlog) r.waits p
+  back (Prepared tx offer) r p = any r r.acceptor r.hint r.top r.running r.leader r.ready (Prepared tx offer ∷ r.acts) r.backlog r.waits p
+  back (RecordVote tx vote by) r p = any r r.acceptor r.hint r.top r.running r.leader r.ready (RecordVote tx vote by ∷ r.acts) r.backlog r.waits p
+  back (GiveUp tx) r p = any r r.acceptor r.hint r.top r.running r.leader r.ready (GiveUp tx ∷ r.acts) r.backlog r.waits p
+  back (Finish tx outcome) r p = any r r.acceptor r.hint r.top r.running r.leader r.ready (Finish tx outcome ∷ r.acts) r.backlog r.waits p
+  back (Watched tx watch) r p = any r r.acceptor r.hint r.top r.running r.leader r.ready (Watched tx watch ∷ r.acts) r.backlog r.waits p
+  back (RecordWatch tx vote by) r p = any r r.acceptor r.hint r.top r.running r.leader r.ready (RecordWatch tx vote by ∷ r.acts) r.backlog r.waits p
 
   -- ---- leaders
 
   pub self_election : (place : Place) → F place → F (elected place)
   unfolding elected
-  self_election (r, mails) p = either_way F (eqb r.top.round (2 ^ 32 - 1)) _ _ p (any r r.acceptor (Some r.me) _ true _ [] r.acts r.calls 0 p)
+  self_election (r, mails) p = either_way F (eqb r.top.round (2 ^ 32 - 1)) _ _ p (any r r.acceptor (Some r.me) _ true _ [] r.acts r.backlog 0 p)
 
   pub ends : (hint : Option ℕ) (answer : AnswerBody) (place : Place) → F place → F (ended hint answer place)
   unfolding ended
@@ -53,7 +53,7 @@ module _ (P : ReplicaState → Type 0) (any : (r : ReplicaState) (acceptor : Acc
   unfolding saw
   sees ballot (r, mails) p =
       let seen : ReplicaState = cond (below r.top ballot) (record r { top = ballot }) r in
-      let k : P seen = either_way P (below r.top ballot) (record r { top = ballot }) r (any r r.acceptor r.hint ballot r.running r.leader r.ready r.acts r.calls r.waits p) p in
+      let k : P seen = either_way P (below r.top ballot) (record r { top = ballot }) r (any r r.acceptor r.hint ballot r.running r.leader r.ready r.acts r.backlog r.waits p) p in
       either_way F (r.running && below r.leader.ballot ballot) (stopped (Some ballot.node) (seen, mails)) (seen, mails) (stops (Some ballot.node) (seen, mails) k) k
 
   pub state_sent : (node : ℕ) (place : Place) → F place → F (install_to node place)
@@ -65,13 +65,13 @@ module _ (P : ReplicaState → Type 0) (any : (r : ReplicaState) (acceptor : Acc
   abbrev FF : Found → Type 0
   FF found = F found.1
 
-  calls_find : (place : Place) → F place → FF (from_calls place)
-  unfolding from_calls
+  calls_find : (place : Place) → F place → FF (from_backlog place)
+  unfolding from_backlog
   calls_find (r, mails) p = any r r.acceptor r.hint r.top r.running r.leader r.ready r.acts _ r.waits p
 
   acts_find : (acts : List Command) (place : Place) → F place → FF (from_acts acts place)
   acts_find [] place p = calls_find place p
-  acts_find (act ∷ acts) (r, mails) p = either_way FF (is_idle r) (Some act, (record r { acts = acts }, mails)) (None, (r, mails)) (any r r.acceptor r.hint r.top r.running r.leader r.ready acts r.calls r.waits p) p
+  acts_find (act ∷ acts) (r, mails) p = either_way FF (is_idle r) (Some act, (record r { acts = acts }, mails)) (None, (r, mails)) (any r r.acceptor r.hint r.top r.running r.leader r.ready acts r.backlog r.waits p) p
 
   queues_find : (place : Place) → F place → FF (from_queues place)
   unfolding from_queues
@@ -88,7 +88,7 @@ module _ (P : ReplicaState → Type 0) (any : (r : ReplicaState) (acceptor : Acc
 
   slot_offered : (slot : ℕ) (set : List ℕ) (command : Command) (place : Place) → F place → F (offered slot set command place)
   unfolding offered
-  slot_offered slot set command (r, mails) p = any r r.acceptor r.hint r.top r.running _ r.ready r.acts r.calls r.waits p
+  slot_offered slot set command (r, mails) p = any r r.acceptor r.hint r.top r.running _ r.ready r.acts r.backlog r.waits p
 
   pump_by : (slot : ℕ) (set : List ℕ) (sets : List (List ℕ)) (found : Found) → FF found → ((place : Place) → F place → F (pumped_from (slot + 1) sets place))
       → F (elim (found.0) [ None ↦ found.1 | Some command ↦ pumped_from (slot + 1) sets (offered slot set command found.1) ])
@@ -108,23 +108,23 @@ module _ (P : ReplicaState → Type 0) (any : (r : ReplicaState) (acceptor : Acc
 
   -- ---- an entry, but for the entry itself
 
-  call_told : (answer : Option AnswerBody) (command : Command) (place : Place) → F place → F (told_call answer command place)
-  unfolding told_call
+  call_told : (answer : Option AnswerBody) (command : Command) (place : Place) → F place → F (answered_or_put_back answer command place)
+  unfolding answered_or_put_back
   call_told (Some answer) (Call client seq op) (r, mails) p = p
   call_told None (Call client seq op) (r, mails) p = back (Call client seq op) r p
   call_told (Some answer) _ place p = p
   call_told None _ place p = p
 
-  effect_told : (result : Option ToldResult) (command : Command) (place : Place) → F place → F (told_effect result command place)
-  unfolding told_effect
+  effect_told : (result : Option OrderResult) (command : Command) (place : Place) → F place → F (effect_reported result command place)
+  unfolding effect_reported
   effect_told None command place p = p
   effect_told (Some result) command (r, mails) p = p
 
   pub announces : (counted : Bool) (effect : Effect) (command : Command) (place : Place) → F place → F (announced counted effect command place)
   unfolding announced
   announces counted effect command place p =
-      effect_told (order_result command effect) command (cond counted (told_call (answer_of effect) command place) place)
-      (either_way F counted (told_call (answer_of effect) command place) place (call_told (answer_of effect) command place p) p)
+      effect_told (order_result command effect) command (cond counted (answered_or_put_back (answer_of effect) command place) place)
+      (either_way F counted (answered_or_put_back (answer_of effect) command place) place (call_told (answer_of effect) command place p) p)
 
   pub speaks : (counted : Bool) (before : Before) (effect : Effect) (command : Command) (place : Place) → F place → F (spoken counted before effect command place)
   unfolding spoken
@@ -160,7 +160,7 @@ module _ (P : ReplicaState → Type 0) (any : (r : ReplicaState) (acceptor : Acc
   leaves (r, mails) p = either_way F r.running (left_gone r.group.core.gone (r, mails)) (r, mails) (gone_leaves r.group.core.gone (r, mails) p) p
 
   with_hint : (r : ReplicaState) (hint : Option ℕ) → P r → P (record r { hint = hint })
-  with_hint r hint p = any r r.acceptor hint r.top r.running r.leader r.ready r.acts r.calls r.waits p
+  with_hint r hint p = any r r.acceptor hint r.top r.running r.leader r.ready r.acts r.backlog r.waits p
 
   looks_for : (gone : Option Route) (place : Place) → F place → F (looked_for gone place)
   looks_for (Some into) place p = p
@@ -177,15 +177,15 @@ module _ (P : ReplicaState → Type 0) (any : (r : ReplicaState) (acceptor : Acc
 
   queues_call : (o : Option ℕ) (client seq : ℕ) (op : Op) (place : Place) → F place → F (queued o client seq op place)
   unfolding queued
-  queues_call None client seq op (r, mails) p = pumps (record r { calls = r.calls ++ Call client seq op ∷ [] }, mails) (any r r.acceptor r.hint r.top r.running r.leader r.ready r.acts (r.calls ++ Call client seq op ∷ []) r.waits p)
+  queues_call None client seq op (r, mails) p = pumps (record r { backlog = r.backlog ++ Call client seq op ∷ [] }, mails) (any r r.acceptor r.hint r.top r.running r.leader r.ready r.acts (r.backlog ++ Call client seq op ∷ []) r.waits p)
   queues_call (Some other) client seq op (r, mails) p =
       either_way F (nat_le seq other) (r, mails) _ p
-      (pumps (record r { calls = without_call r.calls client ++ Call client seq op ∷ [] }, mails) (any r r.acceptor r.hint r.top r.running r.leader r.ready r.acts (without_call r.calls client ++ Call client seq op ∷ []) r.waits p))
+      (pumps (record r { backlog = without_request r.backlog client ++ Call client seq op ∷ [] }, mails) (any r r.acceptor r.hint r.top r.running r.leader r.ready r.acts (without_request r.backlog client ++ Call client seq op ∷ []) r.waits p))
 
   requests : (o : Option AnswerBody) (client seq : ℕ) (op : Op) (place : Place) → F place → F (requested o client seq op place)
   unfolding requested
   requests (Some answer) client seq op (r, mails) p = p
-  requests None client seq op (r, mails) p = queues_call (call_of r.calls client) client seq op (r, mails) p
+  requests None client seq op (r, mails) p = queues_call (queued_number r.backlog client) client seq op (r, mails) p
 
   pub request_rests : (client seq : ℕ) (op : Op) (place : Place) → F place → F (request_row client seq op place)
   unfolding request_row
@@ -195,7 +195,7 @@ module _ (P : ReplicaState → Type 0) (any : (r : ReplicaState) (acceptor : Acc
   hints ballot r p = either_way P r.running r (record r { hint = Some ballot.node }) p (with_hint r (Some ballot.node) p)
 
   with_acceptor : (r : ReplicaState) (acceptor : AcceptorState Command) → P r → P (record r { acceptor = acceptor })
-  with_acceptor r acceptor p = any r acceptor r.hint r.top r.running r.leader r.ready r.acts r.calls r.waits p
+  with_acceptor r acceptor p = any r acceptor r.hint r.top r.running r.leader r.ready r.acts r.backlog r.waits p
 
   promises_to : (from : ℕ) (ballot : Ballot) (answer : PrepareAnswer Command × AcceptorState Command) (place : Place) → F place → F (promise_to from ballot answer place)
   promises_to from ballot (Prepared.Promise reports, acceptor) (r, mails) p = hints ballot (record r { acceptor = acceptor }) (with_acceptor r acceptor p)
@@ -227,7 +227,7 @@ module _ (P : ReplicaState → Type 0) (any : (r : ReplicaState) (acceptor : Acc
   unfolding promise_row
   promise_rests from ballot reports (r, mails) p =
       either_way F (leads ballot r) (pumped (record r { leader = (promise_counted from ballot reports r.leader).1 }, mails)) (r, mails)
-      (pumps (record r { leader = (promise_counted from ballot reports r.leader).1 }, mails) (any r r.acceptor r.hint r.top r.running (promise_counted from ballot reports r.leader).1 r.ready r.acts r.calls r.waits p)) p
+      (pumps (record r { leader = (promise_counted from ballot reports r.leader).1 }, mails) (any r r.acceptor r.hint r.top r.running (promise_counted from ballot reports r.leader).1 r.ready r.acts r.backlog r.waits p)) p
 
   pub nack_rests : (ballot : Ballot) (place : Place) → F place → F (nack_row ballot place)
   unfolding nack_row
@@ -240,7 +240,7 @@ module _ (P : ReplicaState → Type 0) (any : (r : ReplicaState) (acceptor : Acc
   unfolding act_queued
   act_queues act (r, mails) p =
       pumps (cond (has_act act r) r (record r { acts = r.acts ++ act ∷ [] }), mails)
-      (either_way P (has_act act r) r (record r { acts = r.acts ++ act ∷ [] }) p (any r r.acceptor r.hint r.top r.running r.leader r.ready (r.acts ++ act ∷ []) r.calls r.waits p))
+      (either_way P (has_act act r) r (record r { acts = r.acts ++ act ∷ [] }) p (any r r.acceptor r.hint r.top r.running r.leader r.ready (r.acts ++ act ∷ []) r.backlog r.waits p))
 
   offers_by : (o : Option Past) (from : ℕ) (tx : Draw) (offer : Offer) (place : Place) → F place → F (offered_by o from tx offer place)
   offers_by (Some vote) from tx offer (r, mails) p = p

@@ -39,12 +39,12 @@ module _ {A M O : Type 0} (s : System A M O) (lines : List (Line O)) (who : ℕ)
 
   -- a task of many deliveries is still to come, and the order was given, or is a task before it
   record IsAhead (rows : List (Row M O)) (tasks : List (Task O)) : Type 0 where
-    front : List (Task O)
+    prefix : List (Task O)
     many : Task O
     back : List (Task O)
     is_many : IsMany many
-    tasks_are : tasks ≡ front ++ many ∷ back
-    given : WasGiven rows ⊎ Among Order front
+    tasks_are : tasks ≡ prefix ++ many ∷ back
+    given : WasGiven rows ⊎ Among Order prefix
 
   -- the journal was quiet after the order had been given
   pub record WasQuietAfter (rows : List (Row M O)) : Type 0 where
@@ -79,27 +79,27 @@ module _ {A M O : Type 0} (s : System A M O) (lines : List (Line O)) (who : ℕ)
   Stands rows tasks = IsAhead rows tasks ⊎ ((is_quiet s rows ≡ true) × WasGiven rows)
 
   -- past tasks that are over
-  passes : (rows : List (Row M O)) → has_crashed rows who ≡ false → (front : List (Task O)) (many : Task O) (back : List (Task O)) (skipped : ℕ) (cut : Bool) → IsMany many → WasGiven rows ⊎ Among Order front
-      → (onward s rows (front ++ many ∷ back) skipped cut).unsettled ≡ false → Stands rows (onward s rows (front ++ many ∷ back) skipped cut).tasks
+  passes : (rows : List (Row M O)) → has_crashed rows who ≡ false → (prefix : List (Task O)) (many : Task O) (back : List (Task O)) (skipped : ℕ) (cut : Bool) → IsMany many → WasGiven rows ⊎ Among Order prefix
+      → (onward s rows (prefix ++ many ∷ back) skipped cut).unsettled ≡ false → Stands rows (onward s rows (prefix ++ many ∷ back) skipped cut).tasks
   passes rows here [] many back skipped cut is (inr none) settled = absurd none
   passes rows here [] many back skipped cut is (inl given) settled = by (is_over s rows many) settled
     where
       by : (b : Bool) → (cond b (onward s rows back (skipped + skips many) (cut || cuts s rows many)) (record { tasks = many ∷ back; rows = rows; skipped = skipped; unsettled = cut })).unsettled ≡ false
           → Stands rows (cond b (onward s rows back (skipped + skips many) (cut || cuts s rows many)) (record { tasks = many ∷ back; rows = rows; skipped = skipped; unsettled = cut })).tasks
       by true e = inr (quiet_over rows many is (right_none cut (cuts s rows many) (onward_cut s rows back (skipped + skips many) (cut || cuts s rows many) e)), given)
-      by false e = inl (record { front = []; many = many; back = back; is_many = is; tasks_are = refl; given = inl given })
-  passes rows here (task ∷ front) many back skipped cut is given settled = by (is_over s rows task) refl settled (passes rows here front many back (skipped + skips task) (cut || cuts s rows task) is)
+      by false e = inl (record { prefix = []; many = many; back = back; is_many = is; tasks_are = refl; given = inl given })
+  passes rows here (task ∷ prefix) many back skipped cut is given settled = by (is_over s rows task) refl settled (passes rows here prefix many back (skipped + skips task) (cut || cuts s rows task) is)
     where
-      left : is_over s rows task ≡ true → WasGiven rows ⊎ Among Order (task ∷ front) → WasGiven rows ⊎ Among Order front
+      left : is_over s rows task ≡ true → WasGiven rows ⊎ Among Order (task ∷ prefix) → WasGiven rows ⊎ Among Order prefix
       left over (inl given_) = inl given_
       left over (inr (inl same)) = absurd (order_stands rows here (ap (is_over s rows) (sym same) ∙ over))
       left over (inr (inr a)) = inr a
 
-      by : (b : Bool) → is_over s rows task ≡ b → (cond b (onward s rows (front ++ many ∷ back) (skipped + skips task) (cut || cuts s rows task)) (record { tasks = task ∷ front ++ many ∷ back; rows = rows; skipped = skipped; unsettled = cut })).unsettled ≡ false
-          → (WasGiven rows ⊎ Among Order front → (onward s rows (front ++ many ∷ back) (skipped + skips task) (cut || cuts s rows task)).unsettled ≡ false → Stands rows (onward s rows (front ++ many ∷ back) (skipped + skips task) (cut || cuts s rows task)).tasks)
-          → Stands rows (cond b (onward s rows (front ++ many ∷ back) (skipped + skips task) (cut || cuts s rows task)) (record { tasks = task ∷ front ++ many ∷ back; rows = rows; skipped = skipped; unsettled = cut })).tasks
+      by : (b : Bool) → is_over s rows task ≡ b → (cond b (onward s rows (prefix ++ many ∷ back) (skipped + skips task) (cut || cuts s rows task)) (record { tasks = task ∷ prefix ++ many ∷ back; rows = rows; skipped = skipped; unsettled = cut })).unsettled ≡ false
+          → (WasGiven rows ⊎ Among Order prefix → (onward s rows (prefix ++ many ∷ back) (skipped + skips task) (cut || cuts s rows task)).unsettled ≡ false → Stands rows (onward s rows (prefix ++ many ∷ back) (skipped + skips task) (cut || cuts s rows task)).tasks)
+          → Stands rows (cond b (onward s rows (prefix ++ many ∷ back) (skipped + skips task) (cut || cuts s rows task)) (record { tasks = task ∷ prefix ++ many ∷ back; rows = rows; skipped = skipped; unsettled = cut })).tasks
       by true over e more = more (left over given) e
-      by false open_ e more = inl (record { front = task ∷ front; many = many; back = back; is_many = is; tasks_are = refl; given = given })
+      by false open_ e more = inl (record { prefix = task ∷ prefix; many = many; back = back; is_many = is; tasks_are = refl; given = given })
 
   -- ---- one more row
 
@@ -119,28 +119,28 @@ module _ {A M O : Type 0} (s : System A M O) (lines : List (Line O)) (who : ℕ)
   rest_many (Storms words) is = absurd is
 
   -- what is left of the tasks after a row
-  ahead_row : (rows : List (Row M O)) (row : Row M O) (front : List (Task O)) (many : Task O) (back : List (Task O)) → IsMany many → WasGiven rows ⊎ Among Order front → MayAdd s rows (front ++ many ∷ back) row
-      → IsAhead (rows ++ row ∷ []) (rest_of_all (front ++ many ∷ back))
+  ahead_row : (rows : List (Row M O)) (row : Row M O) (prefix : List (Task O)) (many : Task O) (back : List (Task O)) → IsMany many → WasGiven rows ⊎ Among Order prefix → MayAdd s rows (prefix ++ many ∷ back) row
+      → IsAhead (rows ++ row ∷ []) (rest_of_all (prefix ++ many ∷ back))
   ahead_row rows row [] many back is (inr none) may = absurd none
   ahead_row rows row [] many back is (inl given) may =
       let r = rest_many many is in
-      record { front = []; many = r.0; back = back; is_many = r.1; tasks_are = ap (λ l. l ++ back) r.2; given = inl (given_stays rows row given) }
-  ahead_row rows row (task ∷ front) many back is given may = record {
-    front = rest_of_task task ++ front;
+      record { prefix = []; many = r.0; back = back; is_many = r.1; tasks_are = ap (λ l. l ++ back) r.2; given = inl (given_stays rows row given) }
+  ahead_row rows row (task ∷ prefix) many back is given may = record {
+    prefix = rest_of_task task ++ prefix;
     many = many;
     back = back;
     is_many = is;
-    tasks_are = sym (append_assoc (rest_of_task task) front (many ∷ back));
+    tasks_are = sym (append_assoc (rest_of_task task) prefix (many ∷ back));
     given = still given may;
   }
     where
-      first_given : (first : Task O) → first ≡ Order → MayAdd s rows (first ∷ front ++ many ∷ back) row → WasGiven (rows ++ row ∷ [])
-      first_given first same may_ = given_now rows row (subst (λ (x : Task O). MayAdd s rows (x ∷ front ++ many ∷ back) row) same may_)
+      first_given : (first : Task O) → first ≡ Order → MayAdd s rows (first ∷ prefix ++ many ∷ back) row → WasGiven (rows ++ row ∷ [])
+      first_given first same may_ = given_now rows row (subst (λ (x : Task O). MayAdd s rows (x ∷ prefix ++ many ∷ back) row) same may_)
 
-      still : WasGiven rows ⊎ Among Order (task ∷ front) → MayAdd s rows (task ∷ front ++ many ∷ back) row → WasGiven (rows ++ row ∷ []) ⊎ Among Order (rest_of_task task ++ front)
+      still : WasGiven rows ⊎ Among Order (task ∷ prefix) → MayAdd s rows (task ∷ prefix ++ many ∷ back) row → WasGiven (rows ++ row ∷ []) ⊎ Among Order (rest_of_task task ++ prefix)
       still (inl given_) may_ = inl (given_stays rows row given_)
       still (inr (inl same)) may_ = inl (first_given task same may_)
-      still (inr (inr a)) may_ = inr (Among-right Order (rest_of_task task) front a)
+      still (inr (inr a)) may_ = inr (Among-right Order (rest_of_task task) prefix a)
 
   -- ---- whole journals
 
@@ -155,15 +155,15 @@ module _ {A M O : Type 0} (s : System A M O) (lines : List (Line O)) (who : ℕ)
   stage_by rows row lawful settled (inr was) = inr (record { before = was.before; after = was.after ++ row ∷ []; rows_are = ap (λ l. l ++ row ∷ []) was.rows_are ∙ append_assoc was.before was.after (row ∷ []); quiet = was.quiet; given = was.given })
   stage_by rows row lawful settled (inl a) =
       let place = place_after s lines rows in
-      let may : MayAdd s rows (a.front ++ a.many ∷ a.back) row = subst (λ tasks. MayAdd s rows tasks row) a.tasks_are (lawful-last s lines rows row lawful) in
-      let left = ahead_row rows row a.front a.many a.back a.is_many a.given may in
+      let may : MayAdd s rows (a.prefix ++ a.many ∷ a.back) row = subst (λ tasks. MayAdd s rows tasks row) a.tasks_are (lawful-last s lines rows row lawful) in
+      let left = ahead_row rows row a.prefix a.many a.back a.is_many a.given may in
       let step : place_after s lines (rows ++ row ∷ []) ≡ after_row s place row = fold-append (after_row s) _ rows (row ∷ []) in
       let there : place.rows ≡ rows = place_after-rows s lines rows in
-      let rest : rest_of_all place.tasks ≡ left.front ++ left.many ∷ left.back = ap rest_of_all a.tasks_are ∙ left.tasks_are in
-      let same : place_after s lines (rows ++ row ∷ []) ≡ onward s (rows ++ row ∷ []) (left.front ++ left.many ∷ left.back) place.skipped place.unsettled =
+      let rest : rest_of_all place.tasks ≡ left.prefix ++ left.many ∷ left.back = ap rest_of_all a.tasks_are ∙ left.tasks_are in
+      let same : place_after s lines (rows ++ row ∷ []) ≡ onward s (rows ++ row ∷ []) (left.prefix ++ left.many ∷ left.back) place.skipped place.unsettled =
       step ∙ (ap (λ xs. onward s (xs ++ row ∷ []) (rest_of_all place.tasks) place.skipped place.unsettled) there ∙ ap (λ tasks. onward s (rows ++ row ∷ []) tasks place.skipped place.unsettled) rest) in
       let ends = ap (λ (p : WalkPlace M O). p.unsettled) (sym same) ∙ settled in
-      elim (passes (rows ++ row ∷ []) (alive (rows ++ row ∷ []) lawful settled) left.front left.many left.back place.skipped place.unsettled left.is_many left.given ends) [
+      elim (passes (rows ++ row ∷ []) (alive (rows ++ row ∷ []) lawful settled) left.prefix left.many left.back place.skipped place.unsettled left.is_many left.given ends) [
         | inl ahead ↦ inl (subst (λ (p : WalkPlace M O). IsAhead (rows ++ row ∷ []) p.tasks) (sym same) ahead)
         | inr q ↦ inr (now_quiet (rows ++ row ∷ []) q)
       ]
@@ -182,34 +182,34 @@ module _ {A M O : Type 0} (s : System A M O) (lines : List (Line O)) (who : ℕ)
   many_task _ is = absurd is
 
   -- the tasks of the order's line, and of a line of many deliveries behind it
-  lines_ahead : (first front back : List (Line O)) (many : Line O) → IsManyLine many → IsAhead [] (flat_map (tasks_of s.words) (first ++ ToldLine who order ∷ (front ++ many ∷ back)))
-  lines_ahead first front back many is =
+  lines_ahead : (first prefix back : List (Line O)) (many : Line O) → IsManyLine many → IsAhead [] (flat_map (tasks_of s.words) (first ++ ToldLine who order ∷ (prefix ++ many ∷ back)))
+  lines_ahead first prefix back many is =
       let d = many_task many is in
       record {
-        front = flat_map (tasks_of s.words) first ++ Order ∷ flat_map (tasks_of s.words) front;
+        prefix = flat_map (tasks_of s.words) first ++ Order ∷ flat_map (tasks_of s.words) prefix;
         many = d.0;
         back = flat_map (tasks_of s.words) back;
         is_many = d.1;
-        tasks_are = all_tasks first (ToldLine who order ∷ (front ++ many ∷ back))
-            ∙ (ap (λ l. flat_map (tasks_of s.words) first ++ Order ∷ l) (all_tasks front (many ∷ back) ∙ ap (λ l. flat_map (tasks_of s.words) front ++ (l ++ flat_map (tasks_of s.words) back)) d.2)
-            ∙ sym (append_assoc (flat_map (tasks_of s.words) first) (Order ∷ flat_map (tasks_of s.words) front) (d.0 ∷ flat_map (tasks_of s.words) back)));
-        given = inr (Among-right Order (flat_map (tasks_of s.words) first) (Order ∷ flat_map (tasks_of s.words) front) (inl refl));
+        tasks_are = all_tasks first (ToldLine who order ∷ (prefix ++ many ∷ back))
+            ∙ (ap (λ l. flat_map (tasks_of s.words) first ++ Order ∷ l) (all_tasks prefix (many ∷ back) ∙ ap (λ l. flat_map (tasks_of s.words) prefix ++ (l ++ flat_map (tasks_of s.words) back)) d.2)
+            ∙ sym (append_assoc (flat_map (tasks_of s.words) first) (Order ∷ flat_map (tasks_of s.words) prefix) (d.0 ∷ flat_map (tasks_of s.words) back)));
+        given = inr (Among-right Order (flat_map (tasks_of s.words) first) (Order ∷ flat_map (tasks_of s.words) prefix) (inl refl));
       }
 
   -- a whole journal of such lines was quiet after the order had been given
-  pub was_quiet_after : (first front back : List (Line O)) (many : Line O) → lines ≡ first ++ ToldLine who order ∷ (front ++ many ∷ back) → IsManyLine many
+  pub was_quiet_after : (first prefix back : List (Line O)) (many : Line O) → lines ≡ first ++ ToldLine who order ∷ (prefix ++ many ∷ back) → IsManyLine many
       → (journal : List (Row M O)) → IsLawful s lines journal → unsettled s lines journal ≡ false → IsWhole s lines journal → WasQuietAfter journal
-  was_quiet_after first front back many are is journal lawful settled whole =
-      let a : IsAhead [] (flat_map (tasks_of s.words) lines) = subst (λ l. IsAhead [] (flat_map (tasks_of s.words) l)) (sym are) (lines_ahead first front back many is) in
-      let same : place_after s lines [] ≡ onward s [] (a.front ++ a.many ∷ a.back) 0 false = ap (λ tasks. onward s [] tasks 0 false) a.tasks_are in
+  was_quiet_after first prefix back many are is journal lawful settled whole =
+      let a : IsAhead [] (flat_map (tasks_of s.words) lines) = subst (λ l. IsAhead [] (flat_map (tasks_of s.words) l)) (sym are) (lines_ahead first prefix back many is) in
+      let same : place_after s lines [] ≡ onward s [] (a.prefix ++ a.many ∷ a.back) 0 false = ap (λ tasks. onward s [] tasks 0 false) a.tasks_are in
       let begins : Stage [] = λ none. (
       let ends = ap (λ (p : WalkPlace M O). p.unsettled) (sym same) ∙ none in
-      elim (passes [] refl a.front a.many a.back 0 false a.is_many a.given ends) [ inl ahead ↦ inl (subst (λ (p : WalkPlace M O). IsAhead [] p.tasks) (sym same) ahead) | inr q ↦ inr (now_quiet [] q) ]) in
+      elim (passes [] refl a.prefix a.many a.back 0 false a.is_many a.given ends) [ inl ahead ↦ inl (subst (λ (p : WalkPlace M O). IsAhead [] p.tasks) (sym same) ahead) | inr q ↦ inr (now_quiet [] q) ]) in
       elim (by_rows s lines Stage begins stage_row journal lawful settled) [
         | inr was ↦ was
-        | inl ahead ↦ absurd (never ahead.front ahead.many ahead.back (sym ahead.tasks_are ∙ whole))
+        | inl ahead ↦ absurd (never ahead.prefix ahead.many ahead.back (sym ahead.tasks_are ∙ whole))
       ]
     where
-      never : (front : List (Task O)) (many : Task O) (back : List (Task O)) → front ++ many ∷ back ≡ [] → ⊥
+      never : (prefix : List (Task O)) (many : Task O) (back : List (Task O)) → prefix ++ many ∷ back ≡ [] → ⊥
       never [] many back e = cc
-      never (x ∷ front) many back e = cc
+      never (x ∷ prefix) many back e = cc

@@ -97,8 +97,8 @@ module _ (tells : ReplicasAreRecorded) (words : ℕ → ℕ → ℕ × ℕ) (sce
       at_node : (node : NodeState) → value player_table seat rows ≡ Node node → Told_so
       at_node node n_is = elim (cases_Bool (may_come mail0.from mail0.body)) [
         | inr f ↦ (
-            let does = ap (λ (y : NodeState × List Mail). (Node y.0, y.1)) (cond-false (may_come mail0.from mail0.body) (routed (group_of_mail mail0.body) mail0.from mail0.body node) (node, []) f) in
-            let none = all_sent all rows seat (Deliver number) node g.goes.seated n_is (node, []) (Some (Got mail0)) (ap (option_map Got) (one words scenario first journal quiet rows seat number stage g).sent) does in
+            let response = ap (λ (y : NodeState × List Mail). (Node y.0, y.1)) (cond-false (may_come mail0.from mail0.body) (routed (group_of_mail mail0.body) mail0.from mail0.body node) (node, []) f) in
+            let none = all_sent all rows seat (Deliver number) node g.goes.seated n_is (node, []) (Some (Got mail0)) (ap (option_map Got) (one words scenario first journal quiet rows seat number stage g).sent) response in
             absurd (subst (Among m) none among))
         | inl t ↦ (
             let found : replica_of deal.asked node.replicas ≡ Some x = sym (view_was all rows seat (Deliver number) deal.asked g.goes.seated (Node node) n_is) ∙ has in

@@ -24,8 +24,8 @@ journal_group words scenario journal calm base among = record { open_slots = ref
 -- no replica of a group of a calm journal uses up its slots and rounds
 pub journal_few : SlotsAreLeft → (words : ℕ → ℕ → ℕ × ℕ) (scenario : Scenario) (journal : Rows) → IsCalmJournal words scenario journal → (base : Base) → AreFew as_nodes scenario journal base
 journal_few few_law words scenario journal calm base rows more who r e view =
-    let front : IsPrefixOf journal rows = record { more = more; is = e } in
-    let left = few_law words scenario rows base.core.id who r (prefix_timely words scenario journal rows calm front) (prefix_short words scenario journal rows calm front) view in
+    let prefix : IsPrefixOf journal rows = record { more = more; is = e } in
+    let left = few_law words scenario rows base.core.id who r (prefix_timely words scenario journal rows calm prefix) (prefix_short words scenario journal rows calm prefix) view in
     let low = left.0 in
     (omega (arith, low), left.1)
 
@@ -37,10 +37,10 @@ untold_in_order s rows who (Told order) untold fine = absurd (true≢false untol
 untold_in_order s rows who _ untold fine = absurd fine
 
 -- no mail of any group is under way in a quiet prefix
-pub quiet_marks : NoMailForStrangers → (words : ℕ → ℕ → ℕ × ℕ) (scenario : Scenario) (journal front : Rows) → IsQuietPrefix words scenario journal front → (name : Draw) (who : ℕ) → marks_at (players words (births as_nodes scenario)) front name who ≡ []
-quiet_marks no_law words scenario journal front q name who =
+pub quiet_marks : NoMailForStrangers → (words : ℕ → ℕ → ℕ × ℕ) (scenario : Scenario) (journal prefix : Rows) → IsQuietPrefix words scenario journal prefix → (name : Draw) (who : ℕ) → marks_at (players words (births as_nodes scenario)) prefix name who ≡ []
+quiet_marks no_law words scenario journal prefix q name who =
     let s : System Player Mail OrderLine = players words (births as_nodes scenario) in
     elim (cases_Bool (is_born s who)) [
-      | inl t ↦ ap (marks_of name) (quiet-empty s front who (in_time_tidy s front (prefix_timely words scenario journal front q.calm q.begins)) t q.quiet)
-      | inr f ↦ no_law.strangers words scenario journal front q.calm q.begins q.sent name who f
+      | inl t ↦ ap (marks_of name) (quiet-empty s prefix who (in_time_tidy s prefix (prefix_timely words scenario journal prefix q.calm q.begins)) t q.quiet)
+      | inr f ↦ no_law.strangers words scenario journal prefix q.calm q.begins q.sent name who f
     ]

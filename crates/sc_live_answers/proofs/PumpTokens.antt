@@ -8,7 +8,7 @@ use Rattle.sc_base.specs.Definitions.{client_actor}
 use Rattle.sc_node_table.specs.Values.{Draw, Op, Command, Call, Core, AnswerBody, Mail, MailBody, Accept, Answer, Must, Flight}
 use Rattle.sc_paxos_words.specs.declared.answers.Must.TheVariants.{Free as Open}
 use Rattle.sc_paxos_words.specs.Definitions.{must, flight_at, without_flight, with_voters}
-use Rattle.sc_node_table.specs.Definitions.{sent, sent_all, sent_others, answered, Found, is_act, waits, turned_down, next_call, from_calls, from_acts, from_queues, found_by, found_for, offered, pumped_from, pumped, call_of, is_call_of, without_call, ReplicaState, Place, name_of, next, settled, may_offer, taken_at, under_way, is_idle, last_slot, refused_at, queued, requested, request_row, at_slot, with_slot, without_slot}
+use Rattle.sc_node_table.specs.Definitions.{sent, sent_all, sent_others, answered, Found, is_act, waits, turned_down, next_queued, from_backlog, from_acts, from_queues, found_by, found_for, offered, pumped_from, pumped, queued_number, is_request_of, without_request, ReplicaState, Place, name_of, next, settled, may_offer, taken_at, under_way, is_idle, last_slot, refused_at, queued, requested, request_row, at_slot, with_slot, without_slot}
 use Rattle.sc_live_answers.specs.Definitions.{command_token, body_token, mail_token, flight_tokens, ready_tokens, place_tokens}
 
 -- no report binds the leader from the next slot on
@@ -130,15 +130,15 @@ module _ (c : ℕ) where
           let t = sum_by-cons (λ (x : ℕ × Command). command_token c x.1) e (with_slot es slot command) in
           omega (arith, le, s, t)
 
-  without_call_tokens : (client : ℕ) (calls : List Command) → sum_by (command_token c) (without_call calls client) ≤ sum_by (command_token c) calls
+  without_call_tokens : (client : ℕ) (backlog : List Command) → sum_by (command_token c) (without_request backlog client) ≤ sum_by (command_token c) backlog
   without_call_tokens client [] = omega arith
-  without_call_tokens client (command ∷ calls) = by (is_call_of client command) (without_call_tokens client calls)
+  without_call_tokens client (command ∷ backlog) = by (is_request_of client command) (without_call_tokens client backlog)
     where
-      by : (b : Bool) → sum_by (command_token c) (without_call calls client) ≤ sum_by (command_token c) calls → sum_by (command_token c) (cond b calls (command ∷ without_call calls client)) ≤ sum_by (command_token c) (command ∷ calls)
-      by true le = let s = sum_by-cons (command_token c) command calls in omega (arith, s)
+      by : (b : Bool) → sum_by (command_token c) (without_request backlog client) ≤ sum_by (command_token c) backlog → sum_by (command_token c) (cond b backlog (command ∷ without_request backlog client)) ≤ sum_by (command_token c) (command ∷ backlog)
+      by true le = let s = sum_by-cons (command_token c) command backlog in omega (arith, s)
       by false le =
-          let s = sum_by-cons (command_token c) command calls in
-          let t = sum_by-cons (command_token c) command (without_call calls client) in
+          let s = sum_by-cons (command_token c) command backlog in
+          let t = sum_by-cons (command_token c) command (without_request backlog client) in
           omega (arith, le, s, t)
 
   -- ---- what is found in the queues
@@ -160,29 +160,29 @@ module _ (c : ℕ) where
   turned_tokens me group (Call client seq op) answer mails = (let one = sent_token me (client_actor client) (Answer group seq answer) mails in let same = answer_token client group seq answer in omega (arith, one, same))
   turned_tokens me group _ answer mails = omega arith
 
-  next_tokens : (me : ℕ) (idle : Bool) (core : Core) (calls : List Command) (mails : List Mail) → queue_tokens (next_call me idle core calls mails) ≤ sum_by (command_token c) calls + sum_by (mail_token c) mails
-  unfolding next_call
+  next_tokens : (me : ℕ) (idle : Bool) (core : Core) (backlog : List Command) (mails : List Mail) → queue_tokens (next_queued me idle core backlog mails) ≤ sum_by (command_token c) backlog + sum_by (mail_token c) mails
+  unfolding next_queued
   next_tokens me idle core [] mails = omega arith
-  next_tokens me idle core (command ∷ calls) mails =
-      by (waits idle core.lock command) (turned_down core command) (λ answer. next_tokens me idle core calls (answered me core.id answer command mails))
+  next_tokens me idle core (command ∷ backlog) mails =
+      by (waits idle core.lock command) (turned_down core command) (λ answer. next_tokens me idle core backlog (answered me core.id answer command mails))
     where
       by : (b : Bool) (o : Option AnswerBody) →
-          ((answer : AnswerBody) → queue_tokens (next_call me idle core calls (answered me core.id answer command mails)) ≤ sum_by (command_token c) calls + sum_by (mail_token c) (answered me core.id answer command mails)) →
-          queue_tokens (cond b (None, command ∷ calls, mails) (elim o [ None ↦ (Some command, calls, mails) | Some answer ↦ next_call me idle core calls (answered me core.id answer command mails) ])) ≤ sum_by (command_token c) (command ∷ calls) + sum_by (mail_token c) mails
+          ((answer : AnswerBody) → queue_tokens (next_queued me idle core backlog (answered me core.id answer command mails)) ≤ sum_by (command_token c) backlog + sum_by (mail_token c) (answered me core.id answer command mails)) →
+          queue_tokens (cond b (None, command ∷ backlog, mails) (elim o [ None ↦ (Some command, backlog, mails) | Some answer ↦ next_queued me idle core backlog (answered me core.id answer command mails) ])) ≤ sum_by (command_token c) (command ∷ backlog) + sum_by (mail_token c) mails
       by true o more = omega arith
-      by false None more = let s = sum_by-cons (command_token c) command calls in omega (arith, s)
+      by false None more = let s = sum_by-cons (command_token c) command backlog in omega (arith, s)
       by false (Some answer) more =
           let rec = more answer in
           let turned = turned_tokens me core.id command answer mails in
-          let s = sum_by-cons (command_token c) command calls in
+          let s = sum_by-cons (command_token c) command backlog in
           omega (arith, rec, turned, s)
 
-  calls_tokens : (r : ReplicaState) (mails : List Mail) → found_tokens (from_calls (r, mails)) ≤ place_tokens c (r, mails)
-  unfolding from_calls
-  calls_tokens r mails = let le = next_tokens r.me (is_idle r) r.group.core r.calls mails in omega (arith, le)
+  calls_tokens : (r : ReplicaState) (mails : List Mail) → found_tokens (from_backlog (r, mails)) ≤ place_tokens c (r, mails)
+  unfolding from_backlog
+  calls_tokens r mails = let le = next_tokens r.me (is_idle r) r.group.core r.backlog mails in omega (arith, le)
 
-  calls_leader : (r : ReplicaState) (mails : List Mail) → (from_calls (r, mails)).1.0.leader ≡ r.leader
-  unfolding from_calls
+  calls_leader : (r : ReplicaState) (mails : List Mail) → (from_backlog (r, mails)).1.0.leader ≡ r.leader
+  unfolding from_backlog
   calls_leader r mails = refl
 
   acts_tokens : (acts : List Command) (r : ReplicaState) (mails : List Mail) → r.acts ≡ acts → found_tokens (from_acts acts (r, mails)) ≤ place_tokens c (r, mails)
@@ -283,17 +283,17 @@ module _ (c : ℕ) where
   call_tokens : (o : Option ℕ) (client seq : ℕ) (op : Op) (r : ReplicaState) (mails : List Mail) → IsFree r → place_tokens c (queued o client seq op (r, mails)) ≤ place_tokens c (r, mails) + cond (eqb client c) 1 0
   unfolding queued
   call_tokens None client seq op r mails may =
-      let le = pump_tokens (record r { calls = r.calls ++ Call client seq op ∷ [] }, mails) may in
-      let s = sum_by_push (command_token c) r.calls (Call client seq op) in
+      let le = pump_tokens (record r { backlog = r.backlog ++ Call client seq op ∷ [] }, mails) may in
+      let s = sum_by_push (command_token c) r.backlog (Call client seq op) in
       omega (arith, le, s)
   call_tokens (Some other) client seq op r mails may = by (nat_le seq other)
     where
-      by : (b : Bool) → place_tokens c (cond {A = Place} b (r, mails) (pumped (record r { calls = without_call r.calls client ++ Call client seq op ∷ [] }, mails))) ≤ place_tokens c (r, mails) + cond (eqb client c) 1 0
+      by : (b : Bool) → place_tokens c (cond {A = Place} b (r, mails) (pumped (record r { backlog = without_request r.backlog client ++ Call client seq op ∷ [] }, mails))) ≤ place_tokens c (r, mails) + cond (eqb client c) 1 0
       by true = omega arith
       by false =
-          let le = pump_tokens (record r { calls = without_call r.calls client ++ Call client seq op ∷ [] }, mails) may in
-          let s = sum_by_push (command_token c) (without_call r.calls client) (Call client seq op) in
-          let w = without_call_tokens client r.calls in
+          let le = pump_tokens (record r { backlog = without_request r.backlog client ++ Call client seq op ∷ [] }, mails) may in
+          let s = sum_by_push (command_token c) (without_request r.backlog client) (Call client seq op) in
+          let w = without_call_tokens client r.backlog in
           omega (arith, le, s, w)
 
   pub request_tokens : (client seq : ℕ) (op : Op) (r : ReplicaState) (mails : List Mail) → IsFree r → place_tokens c (request_row client seq op (r, mails)) ≤ place_tokens c (r, mails) + cond (eqb client c) 1 0
@@ -302,4 +302,4 @@ module _ (c : ℕ) where
     where
       by : (o : Option AnswerBody) → place_tokens c (requested o client seq op (r, mails)) ≤ place_tokens c (r, mails) + cond (eqb client c) 1 0
       by (Some answer) = (let one = sent_token r.me (client_actor client) (Answer (name_of r) seq answer) mails in let same = answer_token client (name_of r) seq answer in omega (arith, one, same))
-      by None = call_tokens (call_of r.calls client) client seq op r mails may
+      by None = call_tokens (queued_number r.backlog client) client seq op r mails may

@@ -5,14 +5,14 @@ use Rattle.std.specs.List.{list_any}
 use Rattle.sc_node_table.specs.Values.{Command, Must, Gap}
 use Rattle.sc_paxos_words.specs.Definitions.{LogState, next_of, must}
 use Rattle.sc_paxos_words.specs.declared.answers.Must.TheVariants.{Value, Free as Open}
-use Rattle.sc_node_table.specs.Definitions.{Found, is_act, from_calls, from_acts, from_queues, found_by, found_for, offered, pumped_from, pumped, Place, next, settled, may_offer, taken_at, under_way, is_idle, last_slot}
+use Rattle.sc_node_table.specs.Definitions.{Found, is_act, from_backlog, from_acts, from_queues, found_by, found_for, offered, pumped_from, pumped, Place, next, settled, may_offer, taken_at, under_way, is_idle, last_slot}
 
 -- the log of a place
 abbrev log_of : Place → LogState Command
 log_of place = place.0.log
 
-calls_same : (place : Place) → log_of (from_calls place).1 ≡ log_of place
-unfolding from_calls
+calls_same : (place : Place) → log_of (from_backlog place).1 ≡ log_of place
+unfolding from_backlog
 calls_same place = refl
 
 either_same : (b : Bool) (x y : Found) (place : Place) → log_of x.1 ≡ log_of place → log_of y.1 ≡ log_of place → log_of (cond b x y).1 ≡ log_of place

@@ -75,8 +75,8 @@ module _ (words : ℕ → ℕ → ℕ × ℕ) (scenario : Scenario) (first : Bas
 
       barred : may_come one.mail.from one.mail.body ≡ false → Sends
       barred f =
-          let does = ap (λ (x : NodeState × List Mail). (Node x.0, x.1)) (cond-false (may_come one.mail.from one.mail.body) (routed (group_of_mail one.mail.body) one.mail.from one.mail.body node) (node, []) f) in
-          Nothing (all_sent all rows seat (Deliver number) node g.goes.seated is (node, []) (Some (Got one.mail)) (ap (option_map Got) one.sent) does)
+          let response = ap (λ (x : NodeState × List Mail). (Node x.0, x.1)) (cond-false (may_come one.mail.from one.mail.body) (routed (group_of_mail one.mail.body) one.mail.from one.mail.body node) (node, []) f) in
+          Nothing (all_sent all rows seat (Deliver number) node g.goes.seated is (node, []) (Some (Got one.mail)) (ap (option_map Got) one.sent) response)
 
       comes : may_come one.mail.from one.mail.body ≡ true → Sends
       comes t =

@@ -45,15 +45,15 @@ module _ (tells : ReplicasAreRecorded) (words : ℕ → ℕ → ℕ × ℕ) (sce
   next = with_event rows seat (Deliver number)
 
   abbrev more : Rows
-  more = row_of player_table seat rows (Deliver number) ∷ g.goes.front.more
+  more = row_of player_table seat rows (Deliver number) ∷ g.goes.prefix.more
 
-  pub front : journal ≡ rows ++ (row_of player_table seat rows (Deliver number) ∷ g.goes.front.more)
-  front = g.goes.front.is ∙ append_assoc rows (row_of player_table seat rows (Deliver number) ∷ []) g.goes.front.more
+  pub prefix : journal ≡ rows ++ (row_of player_table seat rows (Deliver number) ∷ g.goes.prefix.more)
+  prefix = g.goes.prefix.is ∙ append_assoc rows (row_of player_table seat rows (Deliver number) ∷ []) g.goes.prefix.more
 
   -- the least member by a link of one that did something
   pub least_at : (it : Doer) (d : HasDone (births as_nodes scenario) quiet (with_event rows seat (Deliver number)) it) → HasReplica (replicas_after scenario quiet) d.first.group.core.succ.group (least_of d.first.group.core.succ.members)
   least_at it d =
-      let s = led_first tells words scenario first journal quiet next g.goes.front.more g.goes.front.is g.calm g.rests g.seen it d in
+      let s = led_first tells words scenario first journal quiet next g.goes.prefix.more g.goes.prefix.is g.calm g.rests g.seen it d in
       subst (λ (x : ReplicaState). HasReplica (replicas_after scenario quiet) x.group.core.succ.group (least_of x.group.core.succ.members)) (sym s.1) (link_least scenario quiet _ _ g.rests.is.quiet g.rests.known g.rests.reach it.group s.0)
 
   -- a leader that has done its work took the mail

@@ -18,7 +18,7 @@ use Rattle.sc_live_answers.proofs.QuestionDeliveries.{one}
 use Rattle.sc_live_answers.proofs.LeaderDeeds.{lead_works}
 use Rattle.sc_live_answers.proofs.QuestionTargets.{hears_least}
 use Rattle.sc_live_answers.proofs.LeaderWork.{is_work_of}
-use Rattle.sc_live_answers.proofs.QuestionHints.{at_seat, front, goes_to, least_at, the_work}
+use Rattle.sc_live_answers.proofs.QuestionHints.{at_seat, prefix, goes_to, least_at, the_work}
 use Rattle.sc_live_answers.proofs.PartiesSinceQuiet.{flights_at, frozen_is, heard_vote, next_is, one_vote}
 use Rattle.sc_live_answers.proofs.Parties.{lead_bond}
 use Rattle.sc_live_answers.proofs.ReachedQuestions.{asks_so, named_by, no_elsewhere, opens_so, runs_at, stays_so, true_flight}
@@ -77,9 +77,9 @@ module _ (tells : ReplicasAreRecorded) (words : ℕ → ℕ → ℕ × ℕ) (sce
       let lead = (subst (λ t. Each (λ (x : Draw × ℕ). (scene_at all next).lead x.0 ≡ Some x.1) (heard_lead t)) s.turn_is stands.leads.1).0 in
       let bond = ap (λ (h : Here). h.bond) (subst (λ t. Each (λ (x : Draw × Here). (scene_at all next).at x.0 ≡ x.1) (heard s.next.tx t)) s.turn_is stands.parties.0.1.1).0 in
       let coord_bond = ap (λ (h : Here). h.bond) stands.parties.0.0 in
-      let told = heard_vote tells words scenario first journal quiet next g.goes.front.more g.goes.front.is g.calm g.rests g.seen s.next stands.leads.0 coord_bond e s.deal.asked s.host s.turn_is lead bond p in
-      let frozen = frozen_is tells words scenario first journal quiet next g.goes.front.more g.goes.front.is g.calm g.rests g.seen s.next stands.leads.0 coord_bond e s.deal.asked s.host s.turn_is lead bond p in
-      let asked = next_is tells words scenario first journal quiet next g.goes.front.more g.goes.front.is g.calm g.rests g.seen s.next stands.leads.0 coord_bond e s.deal.asked s.host s.turn_is lead bond p in
+      let told = heard_vote tells words scenario first journal quiet next g.goes.prefix.more g.goes.prefix.is g.calm g.rests g.seen s.next stands.leads.0 coord_bond e s.deal.asked s.host s.turn_is lead bond p in
+      let frozen = frozen_is tells words scenario first journal quiet next g.goes.prefix.more g.goes.prefix.is g.calm g.rests g.seen s.next stands.leads.0 coord_bond e s.deal.asked s.host s.turn_is lead bond p in
+      let asked = next_is tells words scenario first journal quiet next g.goes.prefix.more g.goes.prefix.is g.calm g.rests g.seen s.next stands.leads.0 coord_bond e s.deal.asked s.host s.turn_is lead bond p in
       let least = least_at tells words scenario first journal quiet rows seat number stage g (doer s.deal.asked s.host (Promising s.next.tx ∷ [])) p in
       let there : HasReplica (replicas_after scenario quiet) s.next.asked (least_of p.first.group.core.succ.members) = subst (λ n. HasReplica (replicas_after scenario quiet) n (least_of p.first.group.core.succ.members)) (sym asked) least in
       goes_to tells words scenario first journal quiet rows seat number stage g s.next s.to stands (λ other n x. recorded_not s.deal other true s.host n (sym s.before_is ∙ x)) coord r has runs
@@ -92,7 +92,7 @@ module _ (tells : ReplicasAreRecorded) (words : ℕ → ℕ → ℕ × ℕ) (sce
       let k = hears_least r flight.value asked2 tx c watch by node bond2 leaves s.deal.tx s.deal.asked yes.frozen yes.by yes.is asking
       (subst (λ x. IsTrueEntry r.me r.group x) yes.is (true_flight tells words scenario first journal quiet rows seat number stage g trues coord s.deal.chief r d.is runs flight among)) in
       let allowed : IsAllowedBy scenario journal coord flight.value = Each-among (λ (x : Flight Command). IsAllowedBy scenario journal coord x.value) r.leader.flights flight
-      (flights_at tells words scenario first journal quiet rows (row_of player_table seat rows (Deliver number) ∷ g.goes.front.more) (front tells words scenario first journal quiet rows seat number stage g) g.calm g.rests g.seen coord s.deal.chief r (s.deal.chief, d.first, d.was) d.is) among in
+      (flights_at tells words scenario first journal quiet rows (row_of player_table seat rows (Deliver number) ∷ g.goes.prefix.more) (prefix tells words scenario first journal quiet rows seat number stage g) g.calm g.rests g.seen coord s.deal.chief r (s.deal.chief, d.first, d.was) d.is) among in
       let vote : IsAllowedBy scenario journal coord (RecordVote s.next.tx (Says.Yes yes.frozen) yes.by) = subst (λ t. IsAllowedBy scenario journal coord (RecordVote t (Says.Yes yes.frozen) yes.by)) (sym s.tx_same) (subst (IsAllowedBy scenario journal coord) yes.is allowed) in
       let same = one_vote scenario journal s.next.tx coord s.next.coord yes.frozen _ yes.by 0 vote told ∙ frozen in
       subst (λ n. HasReplica (replicas_after scenario quiet) s.next.asked n) (sym (k.1 ∙ ap (λ (x : Frozen). least_of x.succ.members) same)) there))

@@ -35,7 +35,7 @@ set_slot at slot [] set f a = absurd a
 set_slot at slot (x ∷ sets) set f (inl is) = (slot, omega arith, omega arith, f.0 ∙ is)
 set_slot at slot (x ∷ sets) set f (inr a) = (let more = set_slot at (slot + 1) sets set f.1 a in let low = more.1 in let high = more.2 in (more.0, omega (arith, low), omega (arith, high), more.3))
 
-module _ (by : Tellers) (words : ℕ → ℕ → ℕ × ℕ) (scenario : Scenario) (journal front : Rows) (base : Base) (course : Course) (q : IsQuietGroup by words scenario journal front base course) where
+module _ (by : Tellers) (words : ℕ → ℕ → ℕ × ℕ) (scenario : Scenario) (journal prefix : Rows) (base : Base) (course : Course) (q : IsQuietGroup by words scenario journal prefix base course) where
   abbrev pub at : Sets
   at = logged_sets as_nodes base journal
 
@@ -46,42 +46,42 @@ module _ (by : Tellers) (words : ℕ → ℕ → ℕ × ℕ) (scenario : Scenari
   all = births as_nodes scenario
 
   abbrev pub now : Progress
-  now = progress_at all front base course
+  now = progress_at all prefix base course
 
   abbrev pub view : ℕ → Option ReplicaState
-  view node = replicas_at scenario front base.core.id node
+  view node = replicas_at scenario prefix base.core.id node
 
-  pub none : (who : ℕ) → marks_at (players words all) front base.core.id who ≡ []
+  pub none : (who : ℕ) → marks_at (players words all) prefix base.core.id who ≡ []
   none who = elim (cases_Bool (is_born (players words all) who)) [
-    | inl t ↦ ap (marks_of base.core.id) (quiet-empty (players words all) front who (in_time_tidy (players words all) front q.timely) t q.quiet)
+    | inl t ↦ ap (marks_of base.core.id) (quiet-empty (players words all) prefix who (in_time_tidy (players words all) prefix q.timely) t q.quiet)
     | inr f ↦ q.strangers who f
   ]
 
-  pub even : IsEvenAt at all front base course
-  even = quiet_rests at words all front base course q.one.log.rosters q.timely q.quiet q.strangers q.led.followed
+  pub even : IsEvenAt at all prefix base course
+  even = quiet_rests at words all prefix base course q.one.log.rosters q.timely q.quiet q.strangers q.led.followed
 
   pub knows : (node slot : ℕ) → slot < course.newest → is_member (members_at at slot) node ≡ true → slot < now.next node
-  knows = quiet_members_know at now (marks_at (players words all) front base.core.id) none q.taught
+  knows = quiet_members_know at now (marks_at (players words all) prefix base.core.id) none q.taught
 
   pub place : (node : ℕ) (r : ReplicaState) → view node ≡ Some r → now.next node ≡ next r
   place node r e = ap (next_in base node) e
 
   -- where one has executed anything, there is a replica
-  pub has_one : (node : ℕ) → 1 ≤ now.next node → HasReplica (replicas_at scenario front) base.core.id node
+  pub has_one : (node : ℕ) → 1 ≤ now.next node → HasReplica (replicas_at scenario prefix) base.core.id node
   has_one node some = by_view (view node) refl some
     where
-      first : (b : Bool) → is_member base.core.members node ≡ b → 1 ≤ cond b 1 0 → HasReplica (replicas_at scenario front) base.core.id node
+      first : (b : Bool) → is_member base.core.members node ≡ b → 1 ≤ cond b 1 0 → HasReplica (replicas_at scenario prefix) base.core.id node
       first true is low = q.born node is
       first false is low = absurd (omega (arith, low))
 
-      by_view : (o : Option ReplicaState) → view node ≡ o → 1 ≤ next_in base node o → HasReplica (replicas_at scenario front) base.core.id node
+      by_view : (o : Option ReplicaState) → view node ≡ o → 1 ≤ next_in base node o → HasReplica (replicas_at scenario prefix) base.core.id node
       by_view (Some r) e low = (r, e)
       by_view None e low = first (is_member base.core.members node) refl low
 
   pub newest_next : (node : ℕ) → is_member (members_at at course.newest) node ≡ true → now.next node ≡ course.newest
   newest_next node m = even.even.members node m
 
-  pub members_have : (node slot : ℕ) → slot ≤ course.newest → is_member (members_at at slot) node ≡ true → HasReplica (replicas_at scenario front) base.core.id node
+  pub members_have : (node slot : ℕ) → slot ≤ course.newest → is_member (members_at at slot) node ≡ true → HasReplica (replicas_at scenario prefix) base.core.id node
   members_have node slot low m = elim (cases_lt slot course.newest) [
     | inl lt ↦ (let more = knows node slot lt m in has_one node (omega (arith, more)))
     | inr ge ↦ (let same : slot ≡ course.newest = omega (arith, low, ge) in
@@ -91,23 +91,23 @@ module _ (by : Tellers) (words : ℕ → ℕ → ℕ × ℕ) (scenario : Scenari
   ]
 
   pub states : (node : ℕ) (r : ReplicaState) → view node ≡ Some r → IsOfLog at over r
-  states node r e = q.one.states front [] node r (sym (append-nil front)) e
+  states node r e = q.one.states prefix [] node r (sym (append-nil prefix)) e
 
   pub kept : (node : ℕ) (r : ReplicaState) → view node ≡ Some r → IsTopKept node r × IsSlotKept r
-  kept node r e = replicas_kept all front base.core.id node r (scenarios_kept_born scenario) e
+  kept node r e = replicas_kept all prefix base.core.id node r (scenarios_kept_born scenario) e
 
   pub plain : (node : ℕ) (r : ReplicaState) → view node ≡ Some r → IsPlainlyKept node r
-  plain node r e = journals_idle words scenario front base.core.id node r q.timely e
+  plain node r e = journals_idle words scenario prefix base.core.id node r q.timely e
 
   pub room : (node : ℕ) (r : ReplicaState) → view node ≡ Some r → next r ≤ last_slot
-  room node r e = (let left = (slots_left words scenario front base.core.id node r q.timely q.short e).0 in omega (arith, left))
+  room node r e = (let left = (slots_left words scenario prefix base.core.id node r q.timely q.short e).0 in omega (arith, left))
 
-  pub found : (node : ℕ) (r : ReplicaState) → view node ≡ Some r → (seat : Seat Player) × (state : _) × HasLogged as_nodes scenario journal base front seat state r × (seat.who ≡ node)
-  found node r e = views_are_replicas as_nodes words scenario journal base q.group front q.more q.split node r e
+  pub found : (node : ℕ) (r : ReplicaState) → view node ≡ Some r → (seat : Seat Player) × (state : _) × HasLogged as_nodes scenario journal base prefix seat state r × (seat.who ≡ node)
+  found node r e = views_are_replicas as_nodes words scenario journal base q.group prefix q.more q.split node r e
 
   module _ (run : ReplicasRunLogs) where
     pub ran : (node : ℕ) (r : ReplicaState) → view node ≡ Some r → (1 ≤ next r) × (r.group ≡ state_at as_nodes base journal (next r))
-    ran node r e = (let v = found node r e in run as_nodes words scenario journal base q.group front v.0 v.1 r v.2)
+    ran node r e = (let v = found node r e in run as_nodes words scenario journal base q.group prefix v.0 v.1 r v.2)
 
     -- replicas that executed as much are in one state
     pub same_state : (one other : ℕ) (r s : ReplicaState) → view one ≡ Some r → view other ≡ Some s → next r ≡ next s → r.group ≡ s.group

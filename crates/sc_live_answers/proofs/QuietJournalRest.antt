@@ -55,32 +55,32 @@ free_here bond work errands b w e =
     ap (λ x. (let h : Here = record { bond = x; work = work; errands = errands } in h)) b
     ∙ (ap (λ x. (let h : Here = record { bond = Unbound; work = x; errands = errands } in h)) w ∙ ap (λ x. (let h : Here = record { bond = Unbound; work = []; errands = x } in h)) e)
 
-module _ (found_law : PrefixesAreFound) (rest_law : QuietPrefixesRest) (words : ℕ → ℕ → ℕ × ℕ) (scenario : Scenario) (first : Base) (journal front : Rows) (q : IsQuietPrefix words scenario journal front) (is : IsQuietJournal words scenario first front)
-    (besides : RestsBesides words scenario journal front q.sent) where
+module _ (found_law : PrefixesAreFound) (rest_law : QuietPrefixesRest) (words : ℕ → ℕ → ℕ × ℕ) (scenario : Scenario) (first : Base) (journal prefix : Rows) (q : IsQuietPrefix words scenario journal prefix) (is : IsQuietJournal words scenario first prefix)
+    (besides : RestsBesides words scenario journal prefix q.sent) where
   abbrev s : System Player Mail OrderLine
   s = players words (births as_nodes scenario)
 
-  views : (name : Draw) (node : ℕ) → replicas_after scenario front name node ≡ view_at (births as_nodes scenario) front name node
-  views = (found_law words scenario journal front q.calm q.begins).views
+  views : (name : Draw) (node : ℕ) → replicas_after scenario prefix name node ≡ view_at (births as_nodes scenario) prefix name node
+  views = (found_law words scenario journal prefix q.calm q.begins).views
 
-  at_rest : (name : Draw) (node : ℕ) (r : ReplicaState) → view_at (births as_nodes scenario) front name node ≡ Some r → IsAtRest r
+  at_rest : (name : Draw) (node : ℕ) (r : ReplicaState) → view_at (births as_nodes scenario) prefix name node ≡ Some r → IsAtRest r
   at_rest name node r e = is.quiet.at_rest name node r (views name node ∙ e)
 
-  none : (name : Draw) → errands_for name (left_after front) ≡ []
+  none : (name : Draw) → errands_for name (left_after prefix) ≡ []
   none name =
-      none_left words (births as_nodes scenario) name (mails front) (copies front) besides.errands
-      (λ who born. quiet-empty s front who (in_time_tidy s front (prefix_timely words scenario journal front q.calm q.begins)) born q.quiet)
+      none_left words (births as_nodes scenario) name (mails prefix) (copies prefix) besides.errands
+      (λ who born. quiet-empty s prefix who (in_time_tidy s prefix (prefix_timely words scenario journal prefix q.calm q.begins)) born q.quiet)
 
-  still : IsAt Still (scene_at (births as_nodes scenario) front)
+  still : IsAt Still (scene_at (births as_nodes scenario) prefix)
   still = record {
     parties = (
       tt,
       λ name out. free_here
-          (bond_by (view_at (births as_nodes scenario) front name) (numbers_of (births as_nodes scenario)) (lead_of (view_at (births as_nodes scenario) front name) (numbers_of (births as_nodes scenario))))
-          (work_at (view_at (births as_nodes scenario) front name) (lead_of (view_at (births as_nodes scenario) front name) (numbers_of (births as_nodes scenario))))
-          (errands_for name (left_after front))
-          (bond_free (view_at (births as_nodes scenario) front name) (at_rest name) (numbers_of (births as_nodes scenario)) (lead_of (view_at (births as_nodes scenario) front name) (numbers_of (births as_nodes scenario))))
-          (work_none (view_at (births as_nodes scenario) front name) (at_rest name) (lead_of (view_at (births as_nodes scenario) front name) (numbers_of (births as_nodes scenario))))
+          (bond_by (view_at (births as_nodes scenario) prefix name) (numbers_of (births as_nodes scenario)) (lead_of (view_at (births as_nodes scenario) prefix name) (numbers_of (births as_nodes scenario))))
+          (work_at (view_at (births as_nodes scenario) prefix name) (lead_of (view_at (births as_nodes scenario) prefix name) (numbers_of (births as_nodes scenario))))
+          (errands_for name (left_after prefix))
+          (bond_free (view_at (births as_nodes scenario) prefix name) (at_rest name) (numbers_of (births as_nodes scenario)) (lead_of (view_at (births as_nodes scenario) prefix name) (numbers_of (births as_nodes scenario))))
+          (work_none (view_at (births as_nodes scenario) prefix name) (at_rest name) (lead_of (view_at (births as_nodes scenario) prefix name) (numbers_of (births as_nodes scenario))))
           (none name),
     );
     leads = tt;
@@ -88,10 +88,10 @@ module _ (found_law : PrefixesAreFound) (rest_law : QuietPrefixesRest) (words : 
     sound = tt;
   }
 
-  rests : RestsAt words scenario first journal front
-  rests = rest_law words scenario first journal front q (record {
+  rests : RestsAt words scenario first journal prefix
+  rests = rest_law words scenario first journal prefix q (record {
     still = still;
-    done = λ name node r e runs. (let k = at_rest name node r e in (k.acts, k.calls));
+    done = λ name node r e runs. (let k = at_rest name node r e in (k.acts, k.backlog));
     rounds = besides.rounds;
     rising = besides.rising;
     clients = is.clients;
@@ -103,4 +103,4 @@ module _ (found_law : PrefixesAreFound) (rest_law : QuietPrefixesRest) (words : 
   })
 
 pub quiet_journals_rest : PrefixesAreFound → QuietPrefixesRest → QuietJournalsRest
-quiet_journals_rest found_law rest_law words scenario first journal front q is besides = rests found_law rest_law words scenario first journal front q is besides
+quiet_journals_rest found_law rest_law words scenario first journal prefix q is besides = rests found_law rest_law words scenario first journal prefix q is besides

@@ -3,7 +3,7 @@ use Rattle.std.proofs.Common.{◌≡◌, ℕ, Bool, true, false, List, [], ◌�
 use Rattle.std.proofs.lemmas.Bool.{both_ways}
 use Rattle.sc_base.specs.Definitions.{Among, Each, client_actor, least_of}
 use Rattle.sc_node_table.specs.Values.{Draw, Base, Mail, Node, Client}
-use Rattle.sc_actor.specs.Definitions.{value, has_gone}
+use Rattle.sc_actor.specs.Definitions.{value, has_started}
 use Rattle.sc_client_table.specs.Definitions.{Client as ClientState, born_client}
 use Rattle.sc_paxos_words.proofs.Lemmas.{Each-among}
 use Rattle.sc_scenario.specs.declared.scenarios.Asks.{Asks}
@@ -37,11 +37,11 @@ module _ (words : ℕ → ℕ → ℕ × ℕ) (scenario : Scenario) (begins : Is
 
   -- ---- at the beginning
 
-  fresh_first : (before : Journal) → IsQuietJournal words scenario begins.first before → (asks : Asks) (client : ClientState) → Among asks scenario.clients → has_gone before (client_actor asks.client) ≡ false
+  fresh_first : (before : Journal) → IsQuietJournal words scenario begins.first before → (asks : Asks) (client : ClientState) → Among asks scenario.clients → has_started before (client_actor asks.client) ≡ false
       → value player_table (client_seat (route_of begins.first) asks) before ≡ Client client → Born asks client
   fresh_first before q asks client a not_gone v =
       let p = q.players asks a in
-      let answered = Each-among (λ (c : Bool × ClientState). IsAnswered c.0 (route_of begins.first) c.1) q.clients (has_gone before (client_actor asks.client), p.0) q.quiet.answered p.4 in
+      let answered = Each-among (λ (c : Bool × ClientState). IsAnswered c.0 (route_of begins.first) c.1) q.clients (has_started before (client_actor asks.client), p.0) q.quiet.answered p.4 in
       subst (Born asks) (client_is (sym p.1 ∙ v)) (subst (λ b. IsAnswered b (route_of begins.first) p.0) not_gone answered)
 
   -- ---- at the end
@@ -51,21 +51,21 @@ module _ (words : ℕ → ℕ → ℕ × ℕ) (scenario : Scenario) (begins : Is
       (served : HaveServed scenario (setting_at (replicas_after scenario before) frames ways) rows) (none : (who : ℕ) → is_born (system_of as_nodes words scenario) who ≡ true → rest (system_of as_nodes words scenario) rows who ≡ [])
       (one_before : HaveOneLog (replicas_after scenario before)) (one_log : HaveOneLog (replicas_after scenario rows)) (nobody : NobodyWaits scenario begins.first rows) (all : HaveAllReplies scenario begins.first rows)
       (desk : (who : ℕ) → is_born (system_of as_nodes words scenario) who ≡ false → Each (λ (mail : Mail). (name : Draw) → mark name mail ≡ Other) (rest (system_of as_nodes words scenario) rows who))
-      (fresh : (asks : Asks) (client : ClientState) → Among asks scenario.clients → has_gone rows (client_actor asks.client) ≡ false → value player_table (client_seat (route_of begins.first) asks) rows ≡ Client client → Born asks client) where
+      (fresh : (asks : Asks) (client : ClientState) → Among asks scenario.clients → has_started rows (client_actor asks.client) ≡ false → value player_table (client_seat (route_of begins.first) asks) rows ≡ Client client → Born asks client) where
     told : Asks → Bool × ClientState
-    told asks = (has_gone rows (client_actor asks.client), client_in (value player_table (client_seat (route_of begins.first) asks) rows))
+    told asks = (has_started rows (client_actor asks.client), client_in (value player_table (client_seat (route_of begins.first) asks) rows))
 
-    answered_by : (asks : Asks) (a : Among asks scenario.clients) (gone : Bool) → has_gone rows (client_actor asks.client) ≡ gone → IsAnswered gone (route_of begins.first) (j.clients asks a).client
+    answered_by : (asks : Asks) (a : Among asks scenario.clients) (gone : Bool) → has_started rows (client_actor asks.client) ≡ gone → IsAnswered gone (route_of begins.first) (j.clients asks a).client
     answered_by asks a false e = fresh asks (j.clients asks a).client a e (j.clients asks a).is
     answered_by asks a true e = (let c = j.clients asks a in (nobody asks c.client a c.is, all asks c.client a c.is e ∙ sym (ap length c.calm.requests_are)))
 
-    told_is : (asks : Asks) (a : Among asks scenario.clients) → told asks ≡ (has_gone rows (client_actor asks.client), (j.clients asks a).client)
+    told_is : (asks : Asks) (a : Among asks scenario.clients) → told asks ≡ (has_started rows (client_actor asks.client), (j.clients asks a).client)
     unfolding told client_in
-    told_is asks a = ap (λ (p : Player). (has_gone rows (client_actor asks.client), client_in p)) (j.clients asks a).is
+    told_is asks a = ap (λ (p : Player). (has_started rows (client_actor asks.client), client_in p)) (j.clients asks a).is
 
     answered : Each (λ client. IsAnswered client.0 (route_of begins.first) client.1) (map told scenario.clients)
     answered = each_map told (λ (client : Bool × ClientState). IsAnswered client.0 (route_of begins.first) client.1) scenario.clients
-        (λ asks a. subst (λ (client : Bool × ClientState). IsAnswered client.0 (route_of begins.first) client.1) (sym (told_is asks a)) (answered_by asks a (has_gone rows (client_actor asks.client)) refl))
+        (λ asks a. subst (λ (client : Bool × ClientState). IsAnswered client.0 (route_of begins.first) client.1) (sym (told_is asks a)) (answered_by asks a (has_started rows (client_actor asks.client)) refl))
 
     quiet : AreReplicasQuiet (replicas_after scenario before) (replicas_after scenario rows)
     quiet = all_of.all_quiet words scenario begins before q frames ways s is seated rows j served none one_before one_log

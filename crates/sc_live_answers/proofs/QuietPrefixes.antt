@@ -68,41 +68,41 @@ node_among groups policy (suc count) from seat (inl e) = (let is = ap (λ (s : S
 node_among groups policy (suc count) from seat (inr a) = (let more = node_among groups policy count (from + 1) seat a in let low = more.0 in let high = more.1 in (omega (arith, low), omega (arith, high)))
 
 module _ (bounded : ValidScenariosAreBounded) (begin : ValidScenariosBeginWell) (allowed : TakenOrdersAreAllowed) (wishes : TakenWishesAreAllowed) (positions : WishesAreAtPositions) (free : OtherNamesAreFree) (sounds : ValidJournalsAreSound)
-    (words : ℕ → ℕ → ℕ × ℕ) (scenario : Scenario) (journal front : Rows) (valid : IsValid scenario) (lawful : Lawful as_nodes words scenario journal) (is : IsPrefixOf journal front) (homes : AreAtNodes scenario front) where
-  sound : IsSound as_nodes scenario front is.more
-  sound = sounds as_nodes refl words scenario valid journal lawful front is.more is.is
+    (words : ℕ → ℕ → ℕ × ℕ) (scenario : Scenario) (journal prefix : Rows) (valid : IsValid scenario) (lawful : Lawful as_nodes words scenario journal) (is : IsPrefixOf journal prefix) (homes : AreAtNodes scenario prefix) where
+  sound : IsSound as_nodes scenario prefix is.more
+  sound = sounds as_nodes refl words scenario valid journal lawful prefix is.more is.is
 
-  lawful_prefix : Lawful as_nodes words scenario front
-  lawful_prefix = lawful-prefix (system_of as_nodes words scenario) (schedule scenario) front is.more (subst (Lawful as_nodes words scenario) is.is lawful)
+  lawful_prefix : Lawful as_nodes words scenario prefix
+  lawful_prefix = lawful-prefix (system_of as_nodes words scenario) (schedule scenario) prefix is.more (subst (Lawful as_nodes words scenario) is.is lawful)
 
-  later : (base : Base) → Among base (groups_at as_nodes scenario.groups front) → Among base (groups_at as_nodes scenario.groups journal)
+  later : (base : Base) → Among base (groups_at as_nodes scenario.groups prefix) → Among base (groups_at as_nodes scenario.groups journal)
   later base a =
       let s = sources bounded begin allowed wishes positions free words scenario journal valid lawful in
       let w = well bounded begin allowed wishes positions free words scenario journal valid lawful in
       let t = turn bounded begin allowed wishes positions free words scenario journal valid lawful in
       subst (λ rows. Among base (groups_at as_nodes scenario.groups rows)) (sym is.is)
-      ((deciding_rows_stay s as_nodes scenario.groups w.place front is.more (subst (DecideInTurn s as_nodes scenario.groups []) is.is t)).groups base a)
+      ((deciding_rows_stay s as_nodes scenario.groups w.place prefix is.more (subst (DecideInTurn s as_nodes scenario.groups []) is.is t)).groups base a)
 
-  goes_on : (base : Base) → Among base (groups_at as_nodes scenario.groups front) → Continues (decided_log as_nodes base front) (decided_log as_nodes base journal)
+  goes_on : (base : Base) → Among base (groups_at as_nodes scenario.groups prefix) → Continues (decided_log as_nodes base prefix) (decided_log as_nodes base journal)
   goes_on base a =
-      subst (Continues (decided_log as_nodes base front)) (ap (λ rows. log_at as_nodes scenario.groups rows base.core.id) (sym is.is) ∙ ((found bounded begin allowed wishes positions free words scenario journal valid lawful).known base (later base a)).log)
+      subst (Continues (decided_log as_nodes base prefix)) (ap (λ rows. log_at as_nodes scenario.groups rows base.core.id) (sym is.is) ∙ ((found bounded begin allowed wishes positions free words scenario journal valid lawful).known base (later base a)).log)
       (sound.one_log base a).grows
 
   node_is : (node : ℕ) → 1 ≤ node → node ≤ scenario.nodes → is_node node ≡ true
   node_is node low high = (let most = (bounded scenario valid).nodes.1 in and_from (leb 1 node) (leb node most_nodes) (le-leb 1 node low) (le-leb node most_nodes (omega (arith, high, most))))
 
   abbrev player : ℕ → Player
-  player node = value player_table (node_seat as_nodes scenario.groups scenario.policy node) front
+  player node = value player_table (node_seat as_nodes scenario.groups scenario.policy node) prefix
 
-  is_there : (name : Draw) (node : ℕ) → 1 ≤ node → node ≤ scenario.nodes → replicas_after scenario front name node ≡ replica_of name (replicas_of (player node))
+  is_there : (name : Draw) (node : ℕ) → 1 ≤ node → node ≤ scenario.nodes → replicas_after scenario prefix name node ≡ replica_of name (replicas_of (player node))
   is_there name node low high = cond-true (is_node node) (replica_of name (replicas_of (player node))) None (node_is node low high)
 
-  replicas : (name : Draw) (node : ℕ) (r : ReplicaState) → replicas_after scenario front name node ≡ Some r → IsOfGroup scenario front name r
+  replicas : (name : Draw) (node : ℕ) (r : ReplicaState) → replicas_after scenario prefix name node ≡ Some r → IsOfGroup scenario prefix name r
   replicas name node r e =
       let home = homes name node (r, e) in
       by (player node) refl home.0 home.1 (sym (is_there name node home.0 home.1) ∙ e)
     where
-      by : (p : Player) → player node ≡ p → 1 ≤ node → node ≤ scenario.nodes → replica_of name (replicas_of p) ≡ Some r → IsOfGroup scenario front name r
+      by : (p : Player) → player node ≡ p → 1 ≤ node → node ≤ scenario.nodes → replica_of name (replicas_of p) ≡ Some r → IsOfGroup scenario prefix name r
       by (Client client) q low high w = absurd (none-some r w)
       by (Node state) q low high w =
           let f = find_found (λ (x : ReplicaState). same_draw (name_of x) name) state.replicas r w in
@@ -117,10 +117,10 @@ module _ (bounded : ValidScenariosAreBounded) (begin : ValidScenariosBeginWell) 
   nodes = map (node_seat as_nodes scenario.groups scenario.policy) (numbers_from 1 scenario.nodes)
 
   -- who is no node of the scenario has none
-  seen_none : (name : Draw) (node : ℕ) → ((1 ≤ node) × (node ≤ scenario.nodes) → ⊥) → view_at (births as_nodes scenario) front name node ≡ None
+  seen_none : (name : Draw) (node : ℕ) → ((1 ≤ node) × (node ≤ scenario.nodes) → ⊥) → view_at (births as_nodes scenario) prefix name node ≡ None
   seen_none name node out = by (find (λ (seat : Seat Player). eqb seat.who node) (births as_nodes scenario)) refl
     where
-      by : (o : Option (Seat Player)) → find (λ (seat : Seat Player). eqb seat.who node) (births as_nodes scenario) ≡ o → replica_in name front o ≡ None
+      by : (o : Option (Seat Player)) → find (λ (seat : Seat Player). eqb seat.who node) (births as_nodes scenario) ≡ o → replica_in name prefix o ≡ None
       by None q = refl
       by (Some seat) q =
           let f = find_found (λ (x : Seat Player). eqb x.who node) (births as_nodes scenario) seat q in
@@ -131,30 +131,30 @@ module _ (bounded : ValidScenariosAreBounded) (begin : ValidScenariosBeginWell) 
                 let low = in_.0 in
                 let high = in_.1 in
                 absurd (out (omega (arith, own, low), omega (arith, own, high))))
-            | inr a ↦ no_replica name (value player_table seat front) (replayed_client seat.who front seat.actor [] (client_among scenario.groups scenario.clients seat a))
+            | inr a ↦ no_replica name (value player_table seat prefix) (replayed_client seat.who prefix seat.actor [] (client_among scenario.groups scenario.clients seat a))
           ]
 
   abbrev is_home : ℕ → Bool
   is_home n = leb 1 n && leb n scenario.nodes
 
-  views : (name : Draw) (node : ℕ) → replicas_after scenario front name node ≡ view_at (births as_nodes scenario) front name node
+  views : (name : Draw) (node : ℕ) → replicas_after scenario prefix name node ≡ view_at (births as_nodes scenario) prefix name node
   views name node = elim (cases_Bool (is_home node)) [
     | inl t ↦ (
         let both = and_parts (leb 1 node) (leb node scenario.nodes) t in
         let low = leb-true 1 node both.0 in
         let high = leb-true node scenario.nodes both.1 in
-        is_there name node low high ∙ (same_replicas name (player node) ∙ sym (ap (replica_in name front) (seat_in scenario.groups scenario.policy scenario.nodes 1 node (client_seats scenario.groups scenario.clients) low (omega (arith, high))))))
+        is_there name node low high ∙ (same_replicas name (player node) ∙ sym (ap (replica_in name prefix) (seat_in scenario.groups scenario.policy scenario.nodes 1 node (client_seats scenario.groups scenario.clients) low (omega (arith, high))))))
     | inr f ↦ (
         let out : (1 ≤ node) × (node ≤ scenario.nodes) → ⊥ = λ h. both_ways (is_home node) f (and_from (leb 1 node) (leb node scenario.nodes) (le-leb 1 node h.0) (le-leb node scenario.nodes h.1)) in
-        by (replicas_after scenario front name node) refl out ∙ sym (seen_none name node out))
+        by (replicas_after scenario prefix name node) refl out ∙ sym (seen_none name node out))
   ]
     where
-      by : (o : Option ReplicaState) → replicas_after scenario front name node ≡ o → ((1 ≤ node) × (node ≤ scenario.nodes) → ⊥) → o ≡ None
+      by : (o : Option ReplicaState) → replicas_after scenario prefix name node ≡ o → ((1 ≤ node) × (node ≤ scenario.nodes) → ⊥) → o ≡ None
       by None q out = refl
       by (Some r) q out = absurd (out (homes name node (r, q)))
 
-  pub found_prefix : IsFoundPrefix words scenario journal front
+  pub found_prefix : IsFoundPrefix words scenario journal prefix
   found_prefix = record { homes = homes; lawful = lawful_prefix; apart = (found bounded begin allowed wishes positions free words scenario journal valid lawful).apart; later = later; goes_on = goes_on; is_log = λ base a. (sound.one_log base a).is_log; replicas = replicas; views = views }
 
 pub prefixes_are_found : ValidScenariosAreBounded → ValidScenariosBeginWell → TakenOrdersAreAllowed → TakenWishesAreAllowed → WishesAreAtPositions → OtherNamesAreFree → ValidJournalsAreSound → PrefixesAreFound
-prefixes_are_found bounded begin allowed wishes positions free sounds words scenario journal front calm is = found_prefix bounded begin allowed wishes positions free sounds words scenario journal front calm.valid calm.lawful is (at_nodes bounded words scenario journal front calm is)
+prefixes_are_found bounded begin allowed wishes positions free sounds words scenario journal prefix calm is = found_prefix bounded begin allowed wishes positions free sounds words scenario journal prefix calm.valid calm.lawful is (at_nodes bounded words scenario journal prefix calm is)

@@ -37,28 +37,28 @@ fourth sets slot (a ∷ []) f e = absurd (omega (arith, e))
 fourth sets slot (a ∷ b ∷ []) f e = absurd (omega (arith, e))
 fourth sets slot (a ∷ b ∷ c ∷ []) f e = absurd (omega (arith, e))
 
-module _ (logged : ReplicasAreLogged) (by : Tellers) (words : ℕ → ℕ → ℕ × ℕ) (scenario : Scenario) (journal front : Rows) (base : Base) (course : Course) (q : IsQuietGroup by words scenario journal front base course)
-    (node : ℕ) (r : ReplicaState) (e : view by words scenario journal front base course q node ≡ Some r) where
+module _ (logged : ReplicasAreLogged) (by : Tellers) (words : ℕ → ℕ → ℕ × ℕ) (scenario : Scenario) (journal prefix : Rows) (base : Base) (course : Course) (q : IsQuietGroup by words scenario journal prefix base course)
+    (node : ℕ) (r : ReplicaState) (e : view by words scenario journal prefix base course q node ≡ Some r) where
   abbrev sets : Sets
-  sets = at by words scenario journal front base course q
+  sets = at by words scenario journal prefix base course q
 
   well : IsWellKept node r
   well =
-      let v = found by words scenario journal front base course q node r e in
+      let v = found by words scenario journal prefix base course q node r e in
       let h = v.2 in
-      let plays = subst (Plays v.0.who) h.is (replay_well v.0.who v.0.who front v.0.actor [] (plays_of v.0.who v.0.actor ((scenarios_well_born scenario).well v.0 h.seated))) in
+      let plays = subst (Plays v.0.who) h.is (replay_well v.0.who v.0.who prefix v.0.actor [] (plays_of v.0.who v.0.actor ((scenarios_well_born scenario).well v.0 h.seated))) in
       subst (λ w. IsWellKept w r) v.3 (subst (Found v.0.who) h.here (found_well v.0.who base.core.id v.1.replicas plays.1))
 
   each_set : Each IsOfNodes r.sets
-  each_set = sets_nodes sets q.one.log.rosters q.one.log.nodes (next r) r.sets (states by words scenario journal front base course q node r e).opens
+  each_set = sets_nodes sets q.one.log.rosters q.one.log.nodes (next r) r.sets (states by words scenario journal prefix base course q node r e).opens
 
   is_kept : IsKept base.core.id node r
   is_kept =
-      let v = found by words scenario journal front base course q node r e in
-      let s = states by words scenario journal front base course q node r e in
+      let v = found by words scenario journal prefix base course q node r e in
+      let s = states by words scenario journal prefix base course q node r e in
       record {
-        me_is = (kept by words scenario journal front base course q node r e).0.0;
-        name_is = (logged as_nodes words scenario journal base q.group front v.0 v.1 r v.2).named;
+        me_is = (kept by words scenario journal prefix base course q node r e).0.0;
+        name_is = (logged as_nodes words scenario journal base q.group prefix v.0 v.1 r v.2).named;
         own = λ runs. (let g = q.led.followed.given.gives node r e runs in ap (λ (b : Ballot). b.node) g.0.led.may.ballot ∙ sym g.1);
         floor_low = well.2;
         many = s.many;
@@ -74,6 +74,6 @@ module _ (logged : ReplicasAreLogged) (by : Tellers) (words : ℕ → ℕ → �
 
 pub quiet_replicas_are_kept : ReplicasAreLogged → QuietReplicasAreKept
 quiet_replicas_are_kept logged = record {
-  kept = λ by words scenario journal front base course q node r e. is_kept logged by words scenario journal front base course q node r e;
-  pumps = λ by words scenario journal front base course q node r e none. record { unbound = unbound logged by words scenario journal front base course q node r e none; few = few_of r.sets (each_set logged by words scenario journal front base course q node r e) };
+  kept = λ by words scenario journal prefix base course q node r e. is_kept logged by words scenario journal prefix base course q node r e;
+  pumps = λ by words scenario journal prefix base course q node r e none. record { unbound = unbound logged by words scenario journal prefix base course q node r e none; few = few_of r.sets (each_set logged by words scenario journal prefix base course q node r e) };
 }

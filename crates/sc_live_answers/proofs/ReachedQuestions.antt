@@ -22,7 +22,7 @@ use Rattle.sc_live_answers.proofs.LeaderWork.{is_work_of}
 use Rattle.sc_live_answers.proofs.PendingErrands.{elsewhere_at}
 use Rattle.sc_live_answers.proofs.AskedNodes.{AsksOn, Enters, IsSending, Mute}
 use Rattle.sc_live_answers.proofs.PartiesSinceQuiet.{free_first}
-use Rattle.sc_live_answers.proofs.QuestionHints.{at_seat, front, goes_to, least_at, no_deeds, not_both, the_work}
+use Rattle.sc_live_answers.proofs.QuestionHints.{at_seat, prefix, goes_to, least_at, no_deeds, not_both, the_work}
 use Rattle.sc_live_answers.proofs.PartiesSinceQuiet.{coords}
 use Rattle.sc_live_answers.proofs.Parties.{Coordinates}
 use Rattle.sc_live_answers.proofs.OpenedTransactions.{IsOpened}
@@ -77,11 +77,11 @@ module _ (tells : ReplicasAreRecorded) (words : ℕ → ℕ → ℕ × ℕ) (sce
       (subst (λ n. (scene_at all next).lead n ≡ Some deal.chief) own stands.leads.0) (subst (λ n. ((scene_at all next).at n).work ≡ []) own (ap (λ (h : Here). h.work) stands.parties.0.0)) in
       let has : view_at all rows group seat.who ≡ Some r = ap (view_at all rows group) (sym here) ∙ d.is in
       let same : r.group ≡ d.first.group = no_deeds d.entries d.first.group r.group d.did d.group_is in
-      let free = ap (λ (x : Group). x.core.lock) same ∙ free_first tells words scenario first journal quiet rows (row_of player_table seat rows (Deliver number) ∷ g.goes.front.more) (front tells words scenario first journal quiet rows seat number stage g) g.calm g.rests g.seen (doer group deal.chief []) d in
+      let free = ap (λ (x : Group). x.core.lock) same ∙ free_first tells words scenario first journal quiet rows (row_of player_table seat rows (Deliver number) ∷ g.goes.prefix.more) (prefix tells words scenario first journal quiet rows seat number stage g) g.calm g.rests g.seen (doer group deal.chief []) d in
       let its_work : works r ≡ Opens deal.tx ∷ [] = lead_works all rows group deal.chief r at_rows.leads.0 d.is ∙ ap (λ (h : Here). h.work) at_rows.parties.0.0 in
       let e : HasDone all quiet next (doer deal.coord deal.chief (opened deal.tx deal.turn)) = since.done.0 in
       let firsts : e.first ≡ d.first = same_Some e.first d.first (sym e.was ∙ (ap (λ n. view_at all quiet n deal.chief) own ∙ d.was)) in
-      let made = coords tells words scenario first journal quiet next g.goes.front.more g.goes.front.is g.calm g.rests g.seen deal stands.leads.0 (ap (λ (h : Here). h.bond) stands.parties.0.0) e in
+      let made = coords tells words scenario first journal quiet next g.goes.prefix.more g.goes.prefix.is g.calm g.rests g.seen deal stands.leads.0 (ap (λ (h : Here). h.bond) stands.parties.0.0) e in
       let asked : deal.asked ≡ e.first.group.core.succ.group = asked_one e.first.group deal.tx deal.asked deal.turn e.now.group turn made in
       let least = least_at tells words scenario first journal quiet rows seat number stage g (doer deal.coord deal.chief (opened deal.tx deal.turn)) e in
       let there : HasReplica (replicas_after scenario quiet) deal.asked (least_of r.group.core.succ.members) =

@@ -40,10 +40,10 @@ module _ (tells : ReplicasAreRecorded) (sound : ValidJournalsAreSound) (logs : V
   all = births as_nodes scenario
 
   quiet_lawful : Lawful as_nodes words scenario quiet
-  quiet_lawful = lawful-prefix (system_of as_nodes words scenario) (schedule scenario) quiet l.rests.front.more (subst (Lawful as_nodes words scenario) l.rests.front.is l.calm.lawful)
+  quiet_lawful = lawful-prefix (system_of as_nodes words scenario) (schedule scenario) quiet l.rests.prefix.more (subst (Lawful as_nodes words scenario) l.rests.prefix.is l.calm.lawful)
 
   the_map : IsOneMap (world_at as_nodes scenario.groups quiet)
-  the_map = (sound as_nodes refl words scenario l.calm.valid journal l.calm.lawful quiet l.rests.front.more l.rests.front.is).whole
+  the_map = (sound as_nodes refl words scenario l.calm.valid journal l.calm.lawful quiet l.rests.prefix.more l.rests.prefix.is).whole
 
   the_logs : AreItsLogs as_nodes scenario.groups quiet
   the_logs = logs as_nodes refl words scenario l.calm.valid quiet quiet_lawful
@@ -61,11 +61,11 @@ module _ (tells : ReplicasAreRecorded) (sound : ValidJournalsAreSound) (logs : V
   own_id it d = (l.rests.is.kept it.group it.host d.first (sym (l.seen it.group it.host) ∙ d.was)).name_is
 
   stood : (it : Doer) (d : HasDone (births as_nodes scenario) quiet rows it) → (s : StandsQuiet (replicas_after scenario quiet) it.group) × (d.first ≡ s.lead)
-  stood it d = led_first tells words scenario first journal quiet rows l.front.more l.front.is l.calm l.rests l.seen it d
+  stood it d = led_first tells words scenario first journal quiet rows l.prefix.more l.prefix.is l.calm l.rests l.seen it d
 
   locks : (it : Doer) (d : HasDone (births as_nodes scenario) quiet rows it) → LockIsRecorded scenario journal it.group d.now.group
   locks it d =
-      locks_at tells words scenario first journal quiet rows l.front.more l.front.is l.calm l.rests l.seen it.group it.host d.now (there_of tells words scenario first journal quiet rows l.front.more l.front.is l.calm l.rests l.seen it d) d.is
+      locks_at tells words scenario first journal quiet rows l.prefix.more l.prefix.is l.calm l.rests l.seen it.group it.host d.now (there_of tells words scenario first journal quiet rows l.prefix.more l.prefix.is l.calm l.rests l.seen it d) d.is
 
   -- two that did something meet, as they were
   both_meet : (one two : Doer) (c : HasDone (births as_nodes scenario) quiet rows one) (d : HasDone (births as_nodes scenario) quiet rows two) → two.group ≡ c.first.group.core.succ.group → is_alone c.first.group.core ≡ false → Meets c.first.group d.first.group
@@ -103,7 +103,7 @@ module _ (tells : ReplicasAreRecorded) (sound : ValidJournalsAreSound) (logs : V
     bond_is = sym (lead_bond all rows deal.coord deal.chief c.now stands.leads.0 c.is) ∙ coord_bond
 
     made : Coordinates c.first.group deal.tx deal.asked deal.turn c.now.group
-    made = coords tells words scenario first journal quiet rows l.front.more l.front.is l.calm l.rests l.seen deal stands.leads.0 coord_bond c
+    made = coords tells words scenario first journal quiet rows l.prefix.more l.prefix.is l.calm l.rests l.seen deal stands.leads.0 coord_bond c
 
     -- whom it asks
     asks_whom : (asked : Draw) (turn : Turn) → bond_of c.now.group.core ≡ Asking deal.tx asked turn → (deal.asked ≡ asked) × (deal.turn ≡ turn)
@@ -129,17 +129,17 @@ module _ (tells : ReplicasAreRecorded) (sound : ValidJournalsAreSound) (logs : V
           let p : HasDone all quiet rows (doer part at (Promising deal.tx ∷ [])) = (subst (λ t. Each (HasDone all quiet rows) (heard_doer deal.tx t)) e since.done.1.1).0 in
           let lead = (subst (λ t. Each (λ (x : Draw × ℕ). (scene_at all rows).lead x.0 ≡ Some x.1) (heard_lead t)) e stands.leads.1.1).0 in
           let bond = ap (λ (h : Here). h.bond) (subst (λ t. Each (λ (x : Draw × Here). (scene_at all rows).at x.0 ≡ x.1) (heard deal.tx t)) e stands.parties.0.1.1).0 in
-          let b = both tells words scenario first journal quiet rows l.front.more l.front.is l.calm l.rests l.seen deal stands.leads.0 coord_bond c part at e lead bond p in
-          let tx = tx_is tells words scenario first journal quiet rows l.front.more l.front.is l.calm l.rests l.seen deal stands.leads.0 coord_bond c part at e lead bond p in
-          let frozen = frozen_is tells words scenario first journal quiet rows l.front.more l.front.is l.calm l.rests l.seen deal stands.leads.0 coord_bond c part at e lead bond p in
-          let its_vote = heard_vote tells words scenario first journal quiet rows l.front.more l.front.is l.calm l.rests l.seen deal stands.leads.0 coord_bond c part at e lead bond p in
+          let b = both tells words scenario first journal quiet rows l.prefix.more l.prefix.is l.calm l.rests l.seen deal stands.leads.0 coord_bond c part at e lead bond p in
+          let tx = tx_is tells words scenario first journal quiet rows l.prefix.more l.prefix.is l.calm l.rests l.seen deal stands.leads.0 coord_bond c part at e lead bond p in
+          let frozen = frozen_is tells words scenario first journal quiet rows l.prefix.more l.prefix.is l.calm l.rests l.seen deal stands.leads.0 coord_bond c part at e lead bond p in
+          let its_vote = heard_vote tells words scenario first journal quiet rows l.prefix.more l.prefix.is l.calm l.rests l.seen deal stands.leads.0 coord_bond c part at e lead bond p in
           let core = c.now.group.core in
           let f = b.heard.heard.frozen in
           let tells_it = locks (doer deal.coord deal.chief (opened deal.tx deal.turn)) c in
           let lock : core.lock ≡ Coordinating deal.tx At.Merge b.heard.order (Some b.heard.heard) = ap (λ (g : Group). g.core.lock) b.heard.is ∙ ap (λ t. Coordinating t At.Merge b.heard.order (Some b.heard.heard)) tx in
           let offers = tells_it.offers deal.tx At.Merge b.heard.order (Some b.heard.heard) lock (offer_with core At.Merge) refl in
           let asks = tells_it.asks deal.tx At.Merge b.heard.order (Some b.heard.heard) lock (watch_with core f.succ.group core.succ.group (merged_link core f)) refl in
-          let base = base_of tells words scenario first journal quiet rows l.front.more l.front.is l.calm l.rests l.seen deal.coord (there_of tells words scenario first journal quiet rows l.front.more l.front.is l.calm l.rests l.seen (doer deal.coord deal.chief (opened deal.tx deal.turn)) c) in
+          let base = base_of tells words scenario first journal quiet rows l.prefix.more l.prefix.is l.calm l.rests l.seen deal.coord (there_of tells words scenario first journal quiet rows l.prefix.more l.prefix.is l.calm l.rests l.seen (doer deal.coord deal.chief (opened deal.tx deal.turn)) c) in
           let few : length (united core.members f.members) ≤ 9 = tells.fits words scenario journal base.0 base.1 deal.tx core.succ.group deal.coord (offer_with core At.Merge) f 0 refl offers its_vote in
           let again : c.now.group ≡ heard_group (begun_group c.first.group deal.tx b.opened.body b.opened.order) b.heard.tx At.Merge b.heard.order b.heard.heard = b.heard.is ∙ ap (λ g. heard_group g b.heard.tx At.Merge b.heard.order b.heard.heard) b.opened.is in
           let merge : b.opened.body ≡ At.Merge = same_body deal.tx b.heard.tx b.opened.body At.Merge b.opened.order b.heard.order None b.heard.got (sym (ap (λ (g : Group). g.core.lock) b.opened.is) ∙ b.heard.lock) in
@@ -175,7 +175,7 @@ module _ (tells : ReplicasAreRecorded) (sound : ValidJournalsAreSound) (logs : V
       p_bond = sym (lead_bond all rows deal.asked host p.now stands.leads.1.0 p.is) ∙ (ap (λ (h : Here). h.bond) stands.parties.0.1.0 ∙ ap (λ b. bound_by b deal.tx) agrees)
 
       p_free : p.first.group.core.lock ≡ Free
-      p_free = free_first tells words scenario first journal quiet rows l.front.more l.front.is l.calm l.rests l.seen (doer deal.asked host (Promising deal.tx ∷ [])) p
+      p_free = free_first tells words scenario first journal quiet rows l.prefix.more l.prefix.is l.calm l.rests l.seen (doer deal.asked host (Promising deal.tx ∷ [])) p
 
       -- it has promised by an offer that it agreed to
       record HasPromised : Type 0 where
@@ -239,7 +239,7 @@ module _ (tells : ReplicasAreRecorded) (sound : ValidJournalsAreSound) (logs : V
 
       few : (e : o.body ≡ At.Merge) → length (united c.first.group.core.members p.first.group.core.members) ≤ 9
       few e =
-          let base = base_of tells words scenario first journal quiet rows l.front.more l.front.is l.calm l.rests l.seen deal.coord (there_of tells words scenario first journal quiet rows l.front.more l.front.is l.calm l.rests l.seen (doer deal.coord deal.chief (opened deal.tx deal.turn)) c) in
+          let base = base_of tells words scenario first journal quiet rows l.prefix.more l.prefix.is l.calm l.rests l.seen deal.coord (there_of tells words scenario first journal quiet rows l.prefix.more l.prefix.is l.calm l.rests l.seen (doer deal.coord deal.chief (opened deal.tx deal.turn)) c) in
           subst (λ (x : Frozen). length (united c.first.group.core.members x.members) ≤ 9) handed
           (subst (λ (g : Group). length (united g.core.members frozen.members) ≤ 9) o.is
           (tells.fits words scenario journal base.0 base.1 deal.tx c.now.group.core.succ.group deal.coord (offer_with c.now.group.core o.body) frozen by e offers allowed))
@@ -280,7 +280,7 @@ module _ (tells : ReplicasAreRecorded) (sound : ValidJournalsAreSound) (logs : V
     allowed_here : IsAllowedBy scenario journal name flight.value
     allowed_here =
         Each-among (λ (f : Flight Command). IsAllowedBy scenario journal name f.value) r.leader.flights flight
-        (flights_at tells words scenario first journal quiet rows l.front.more l.front.is l.calm l.rests l.seen name node r there l.leads.is_there) among
+        (flights_at tells words scenario first journal quiet rows l.prefix.more l.prefix.is l.calm l.rests l.seen name node r there l.leads.is_there) among
 
     -- it is the vote of the stage
     abbrev Voted_at : Type 0

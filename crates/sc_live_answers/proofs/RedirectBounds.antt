@@ -55,7 +55,7 @@ module _ (all_bounded : ValidScenariosAreBounded) (named_law : LawfulReplicasAre
       (subst (λ (f : Base). KnowOne scenario f quiet) same (know_one words scenario first quiet rests.is)))
 
   is_quiet_prefix : IsQuietPrefix words scenario journal quiet
-  is_quiet_prefix = record { calm = calm; begins = rests.front; quiet = rests.calm; sent = rests.sent }
+  is_quiet_prefix = record { calm = calm; begins = rests.prefix; quiet = rests.calm; sent = rests.sent }
 
   one_near : (entry : Draw × Way) → sent_on (reach_in sent names all) (entry ∷ []) ≤ sent
   one_near entry = (let low = sent_few names all rests.turn rests.turns (gone_named all_bounded named_law led_once found_law words scenario journal quiet is_quiet_prefix) sent entry in omega (arith, low, few))

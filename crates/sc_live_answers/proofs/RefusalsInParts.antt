@@ -2,14 +2,14 @@
 use Rattle.std.proofs.Common.{◌≡◌, ℕ, ◌+◌, ◌-◌, ◌^◌, ◌&&◌, nat_le, eqb, Bool, true, cond, List, [], ◌∷◌, ◌++◌, Option, Some, None, ◌∙◌}
 use Rattle.std.specs.Prelude.{is_some}
 use Rattle.std.specs.List.{list_any}
-use Rattle.sc_node_table.specs.Values.{Ballot, Draw, Command, Noop, Call, Effect, Route, ToldResult, AnswerBody, Answer, Prepare, Accept, Learn, Install, Must, Gap}
+use Rattle.sc_node_table.specs.Values.{Ballot, Draw, Command, Noop, Call, Effect, Route, OrderResult, AnswerBody, Answer, Prepare, Accept, Learn, Install, Must, Gap}
 use Rattle.sc_base.specs.Definitions.{client_actor, is_member, least_of}
 use Rattle.sc_mail.specs.declared.bodies.AnswerBody.TheVariants as Says
 use Rattle.sc_machine_table.specs.Definitions.{base_of, applied}
 use Rattle.sc_law_entries.proofs.HistoryProofs.Lemmas.{applied_same}
 use Rattle.sc_paxos_words.specs.declared.answers.Must.TheVariants.{Value, Free as Open}
 use Rattle.sc_paxos_words.specs.Definitions.{below, must}
-use Rattle.sc_node_table.specs.Definitions.{has_act, with_act, act_queued, open_nodes, elected, ended, stopped, saw, entered, answer_of, told_call, order_result, told_effect, announced, learnt_to, welcomed, landed, left_gone, left, is_among, looked_for, looked, executed_one, executed, install_to, asked_to_promise, welcomed_all, sent, answered_all, sent_others, order_number, Found, is_act, from_calls, from_acts, from_queues, found_by, found_for, offered, pumped_from, pumped, put_back, ReplicaState, Place, name_of, next, members, settled, may_offer, taken_at, under_way, is_idle, last_slot, forgotten, before_of, spoken}
+use Rattle.sc_node_table.specs.Definitions.{has_act, with_act, act_queued, open_nodes, elected, ended, stopped, saw, entered, answer_of, answered_or_put_back, order_result, effect_reported, announced, learnt_to, welcomed, landed, left_gone, left, is_among, looked_for, looked, executed_one, executed, install_to, asked_to_promise, welcomed_all, sent, answered_all, sent_others, order_number, Found, is_act, from_backlog, from_acts, from_queues, found_by, found_for, offered, pumped_from, pumped, put_back, ReplicaState, Place, name_of, next, members, settled, may_offer, taken_at, under_way, is_idle, last_slot, forgotten, before_of, spoken}
 use Rattle.sc_node_table.specs.declared.Before.{Before}
 use Rattle.sc_law_walks.proofs.Lemmas.{next_found, welcomed_place, executed_place, landed_place, either_way}
 use Rattle.sc_live_answers.proofs.RefusalMail.{AreSaid, one_sent, all_sent, others_sent, desk_reported, one_answered, all_answered, all_dismissed, spoken_said}
@@ -31,12 +31,12 @@ module _ (may : Draw → ℕ → Ballot → Type 0) (name : Draw) where
   abbrev FoundKeeps : Found → Type 0
   FoundKeeps found = Keeps found.1
 
-  calls_keep : (place : Place) → Keeps place → FoundKeeps (from_calls place)
-  unfolding from_calls
+  calls_keep : (place : Place) → Keeps place → FoundKeeps (from_backlog place)
+  unfolding from_backlog
   calls_keep (r, mails) k = (
     k.0,
-    next_found r.me (is_idle r) r.group.core (λ calls ms. AreSaid may ms) (λ found. AreSaid may found.2) (λ calls ms q. q) (λ command calls ms q. q)
-        (λ command answer calls ms w e q. one_answered may r.me r.group.core.id answer command ms q) r.calls mails k.1,
+    next_found r.me (is_idle r) r.group.core (λ backlog ms. AreSaid may ms) (λ found. AreSaid may found.2) (λ backlog ms q. q) (λ command backlog ms q. q)
+        (λ command answer backlog ms w e q. one_answered may r.me r.group.core.id answer command ms q) r.backlog mails k.1,
   )
 
   acts_keep : (acts : List Command) (place : Place) → Keeps place → FoundKeeps (from_acts acts place)
@@ -86,7 +86,7 @@ module _ (may : Draw → ℕ → Ballot → Type 0) (name : Draw) where
   pub ended_keeps : (hint : Option ℕ) (answer : AnswerBody) (place : Place) → Keeps place → Keeps (ended hint answer place)
   unfolding ended
   ended_keeps hint answer (r, mails) k =
-      (k.0, all_dismissed may r.me (name_of r) hint answer r.calls (answered_all r.me (name_of r) answer (under_way r) mails) (all_answered may r.me (name_of r) answer (under_way r) mails k.1))
+      (k.0, all_dismissed may r.me (name_of r) hint answer r.backlog (answered_all r.me (name_of r) answer (under_way r) mails) (all_answered may r.me (name_of r) answer (under_way r) mails k.1))
 
   pub elected_keeps : (place : Place) → Keeps place → Keeps (elected place)
   unfolding elected
@@ -125,22 +125,22 @@ module _ (may : Draw → ℕ → Ballot → Type 0) (name : Draw) where
   unfolding entered forgotten
   entered_keeps command r k = (applied_same r.group command).0 ∙ k
 
-  told_keeps : (answer : Option AnswerBody) (command : Command) (place : Place) → Keeps place → Keeps (told_call answer command place)
-  unfolding told_call
+  told_keeps : (answer : Option AnswerBody) (command : Command) (place : Place) → Keeps place → Keeps (answered_or_put_back answer command place)
+  unfolding answered_or_put_back
   told_keeps (Some answer) (Call client seq op) (r, mails) k = (k.0, one_sent may r.me (client_actor client) (Answer (name_of r) seq answer) mails tt k.1)
   told_keeps None (Call client seq op) (r, mails) k = (back_keeps (Call client seq op) r k.0, k.1)
   told_keeps (Some answer) _ place k = k
   told_keeps None _ place k = k
 
-  effect_keeps : (result : Option ToldResult) (command : Command) (place : Place) → Keeps place → Keeps (told_effect result command place)
-  unfolding told_effect
+  effect_keeps : (result : Option OrderResult) (command : Command) (place : Place) → Keeps place → Keeps (effect_reported result command place)
+  unfolding effect_reported
   effect_keeps None command place k = k
   effect_keeps (Some result) command (r, mails) k = (k.0, desk_reported may r.me (order_number command) result mails k.1)
 
   announced_keeps : (counted : Bool) (effect : Effect) (command : Command) (place : Place) → Keeps place → Keeps (announced counted effect command place)
   unfolding announced
   announced_keeps counted effect command place k =
-      effect_keeps (order_result command effect) command (cond counted (told_call (answer_of effect) command place) place) (either_way Keeps counted (told_call (answer_of effect) command place) place (told_keeps (answer_of effect) command place k) k)
+      effect_keeps (order_result command effect) command (cond counted (answered_or_put_back (answer_of effect) command place) place) (either_way Keeps counted (answered_or_put_back (answer_of effect) command place) place (told_keeps (answer_of effect) command place k) k)
 
   spoken_keeps : (counted : Bool) (before : Before) (effect : Effect) (command : Command) (place : Place) → Keeps place → Keeps (spoken counted before effect command place)
   unfolding spoken

@@ -9,7 +9,7 @@ use Rattle.sc_paxos_words.specs.declared.answers.PrepareAnswer.TheVariants as Pr
 use Rattle.sc_paxos_words.specs.declared.answers.AcceptAnswer.TheVariants as Asked
 use Rattle.sc_paxos_words.specs.Definitions.{prepared, accepted as accepted_by, AcceptorState, may_promise, after_promise, may_accept, after_accept, reports_from, below, LeaderState, promise_counted, entry_at, counted}
 use Rattle.sc_paxos_words.proofs.Lemmas.{Each-append}
-use Rattle.sc_node_table.specs.Definitions.{act_queued, ended, stopped, saw, executed, has_room, named, jumped, sent, ordered_command, untaken, taken_or_told, ordered_row, pumped, call_of, without_call, ReplicaState, Place, Executed, childless, name_of, next, members, settled, set_at, last_slot, forgotten, installed_replica, refused_at, queued, requested, request_row, learn_row, taught, most_taught, ask_row, looked_up, took_over, install_row, made_by, mailed, with_slot, asked_next, noted_outcome, standing_vote, sent_elsewhere, offered_by, offer_row, watched_by, watch_row, awaits_vote, awaits_watch, vote_queued, vote_met, vote_row, watch_queued, watch_met, watched_row, elsewhere_row, is_bound, outcome_row, hinted, promise_to, prepare_row, accepted_to, took, accept_row, leads, promise_row, readied, vote_tallied, voted, accepted_row, nack_row}
+use Rattle.sc_node_table.specs.Definitions.{act_queued, ended, stopped, saw, executed, has_room, named, jumped, sent, ordered_command, untaken, queued_or_refused, ordered_row, pumped, queued_number, without_request, ReplicaState, Place, Executed, childless, name_of, next, members, settled, set_at, last_slot, forgotten, installed_replica, refused_at, queued, requested, request_row, learn_row, taught, most_taught, ask_row, looked_up, took_over, install_row, made_by, mailed, with_slot, asked_next, noted_outcome, standing_vote, sent_elsewhere, offered_by, offer_row, watched_by, watch_row, awaits_vote, awaits_watch, vote_queued, vote_met, vote_row, watch_queued, watch_met, watched_row, elsewhere_row, is_bound, outcome_row, hinted, promise_to, prepare_row, accepted_to, took, accept_row, leads, promise_row, readied, vote_tallied, voted, accepted_row, nack_row}
 use Rattle.sc_law_walks.proofs.Lemmas.{promised_place, asked_place, either_way}
 use Rattle.std.proofs.lemmas.Bool.{cond_both}
 use Rattle.sc_live_answers.proofs.RefusalMail.{IsSaid, AreSaid, one_sent, vote_reported, watch_reported, outcome_said, next_one_asked}
@@ -47,15 +47,15 @@ module _ (may : Draw → ℕ → Ballot → Type 0) (name : Draw) where
 
   queued_keeps : (o : Option ℕ) (client seq : ℕ) (op : Op) (place : Place) → K place → K (queued o client seq op place)
   unfolding queued
-  queued_keeps None client seq op (r, mails) k = pumped_keeps may name (record r { calls = r.calls ++ Call client seq op ∷ [] }, mails) k
+  queued_keeps None client seq op (r, mails) k = pumped_keeps may name (record r { backlog = r.backlog ++ Call client seq op ∷ [] }, mails) k
   queued_keeps (Some other) client seq op (r, mails) k =
-      either_way K (nat_le seq other) (r, mails) (pumped (record r { calls = without_call r.calls client ++ Call client seq op ∷ [] }, mails)) k
-      (pumped_keeps may name (record r { calls = without_call r.calls client ++ Call client seq op ∷ [] }, mails) k)
+      either_way K (nat_le seq other) (r, mails) (pumped (record r { backlog = without_request r.backlog client ++ Call client seq op ∷ [] }, mails)) k
+      (pumped_keeps may name (record r { backlog = without_request r.backlog client ++ Call client seq op ∷ [] }, mails) k)
 
   requested_keeps : (o : Option AnswerBody) (client seq : ℕ) (op : Op) (place : Place) → K place → K (requested o client seq op place)
   unfolding requested
   requested_keeps (Some answer) client seq op (r, mails) k = (k.0, one_sent may r.me (client_actor client) (Answer (name_of r) seq answer) mails tt k.1)
-  requested_keeps None client seq op (r, mails) k = queued_keeps (call_of r.calls client) client seq op (r, mails) k
+  requested_keeps None client seq op (r, mails) k = queued_keeps (queued_number r.backlog client) client seq op (r, mails) k
 
   request_keeps : (client seq : ℕ) (op : Op) (place : Place) → K place → K (request_row client seq op place)
   unfolding request_row
@@ -242,9 +242,9 @@ module _ (may : Draw → ℕ → Ballot → Type 0) (name : Draw) where
 
   -- ---- orders
 
-  taken_keeps : (o : Option OrderRefusal) (number : ℕ) (command : Command) (place : Place) → K place → K (taken_or_told o number command place)
+  taken_keeps : (o : Option OrderRefusal) (number : ℕ) (command : Command) (place : Place) → K place → K (queued_or_refused o number command place)
   taken_keeps (Some why) number command (r, mails) k = (k.0, one_sent may r.me 0 (Told number (Refused why)) mails tt k.1)
-  taken_keeps None number command (r, mails) k = pumped_keeps may name (record r { calls = r.calls ++ command ∷ [] }, mails) k
+  taken_keeps None number command (r, mails) k = pumped_keeps may name (record r { backlog = r.backlog ++ command ∷ [] }, mails) k
 
   pub order_keeps : (drawer : Drawer) (line : OrderLine) (place : Place) → K place → K (ordered_row drawer line place)
   unfolding ordered_row

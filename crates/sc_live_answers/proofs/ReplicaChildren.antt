@@ -39,8 +39,8 @@ module _ (ahead : Ahead) (open_slots : ahead.slots ≡ slots_ahead) (base : Base
   -- ---- one entry
 
   module _ (c : Command) (r : ReplicaState) (k : IsAlong ahead open_slots base roster h lawful all prefixes r) (t : IsLearnt (rule ahead base) h (next r) c) (child : Base) (b : IsBirth all base (next r) child) where
-    front_is : b.front ≡ k.whole
-    front_is =
+    prefix_is : b.prefix ≡ k.whole
+    prefix_is =
         let next_is = k.next_is in
         let same : next r - 1 ≡ length k.whole = omega (arith, next_is) in
         sym b.before ∙ (ap (λ n. take n all) same ∙ (prefixes k.whole k.is_log).1)
@@ -55,11 +55,11 @@ module _ (ahead : Ahead) (open_slots : ahead.slots ≡ slots_ahead) (base : Base
         ap (λ n. take n all) same ∙ (prefixes (k.whole ++ c ∷ []) longer).1
 
     command_is : b.command ≡ c
-    command_is = same_last k.whole b.command c (sym (ap (λ xs. xs ++ b.command ∷ []) front_is) ∙ (sym b.upto ∙ upto_is))
+    command_is = same_last k.whole b.command c (sym (ap (λ xs. xs ++ b.command ∷ []) prefix_is) ∙ (sym b.upto ∙ upto_is))
 
     child_there : child_by r.group c ≡ Some child
     child_there =
-        ap (λ (g : Group). child_by g c) (k.group_is ∙ ap (state_after (group_of base)) (sym front_is)) ∙ (ap (λ d. child_by (state_after (group_of base) b.front) d) (sym command_is) ∙ b.child_is)
+        ap (λ (g : Group). child_by g c) (k.group_is ∙ ap (state_after (group_of base)) (sym prefix_is)) ∙ (ap (λ d. child_by (state_after (group_of base) b.prefix) d) (sym command_is) ∙ b.child_is)
 
   born_here : (c : Command) (r : ReplicaState) → Along r → r.me ≡ me → IsLearnt (rule ahead base) h (next r) c → (child : Base) → IsBirth all base (next r) child → is_member child.core.members me ≡ true → Among child (next_child c r)
   born_here c r k mine t child b member =
@@ -69,11 +69,11 @@ module _ (ahead : Ahead) (open_slots : ahead.slots ≡ slots_ahead) (base : Base
   -- ---- an entry leaves whose it is
 
   module _ (c : Command) (r : ReplicaState) (k : IsAlong ahead open_slots base roster h lawful all prefixes r) (runs : r.running ≡ true) (t : IsLearnt (rule ahead base) h (next r) c) where
-    past_me : (acts calls : List Command) (more : List Mail)
-        → (looked (left (landed true (next r) c (welcomed true (members r) (learnt_to true (members r) (next r) c (record (entered c r) { acts = acts; calls = calls }, more)))))).0.me ≡ r.me
+    past_me : (acts backlog : List Command) (more : List Mail)
+        → (looked (left (landed true (next r) c (welcomed true (members r) (learnt_to true (members r) (next r) c (record (entered c r) { acts = acts; backlog = backlog }, more)))))).0.me ≡ r.me
     unfolding ended
-    past_me acts calls more =
-        let here : ReplicaState = record (entered c r) { acts = acts; calls = calls } in
+    past_me acts backlog more =
+        let here : ReplicaState = record (entered c r) { acts = acts; backlog = backlog } in
         let told : Place = welcomed true (members r) (learnt_to true (members r) (next r) c (here, more)) in
         let over : ReplicaState = record here { leader = without_flight_at (next r) here.leader; ready = without_slot here.ready (next r) } in
         let landed_there : landed true (next r) c told ≡ (over, told.1) =
@@ -87,11 +87,11 @@ module _ (ahead : Ahead) (open_slots : ahead.slots ≡ slots_ahead) (base : Base
     one_me mails =
         announced_keeps (name_of r)
         (λ place. (looked (left (landed true (next r) c (welcomed true (members r) (learnt_to true (members r) (next r) c (spoken true (before_of r.group.core) (applied r.group c).1 c place)))))).0.me ≡ r.me) (entered c r) mails
-        (λ acts calls more same.
-        let q : ReplicaState = record (entered c r) { acts = acts; calls = calls } in
+        (λ acts backlog more same.
+        let q : ReplicaState = record (entered c r) { acts = acts; backlog = backlog } in
         let said : Place = spoken true (before_of r.group.core) (applied r.group c).1 c (q, more) in
         subst (λ (x : ReplicaState). (looked (left (landed true (next r) c (welcomed true (members r) (learnt_to true (members r) (next r) c (x, said.1)))))).0.me ≡ r.me)
-        (sym (spoken_same (name_of r) 0 (before_of r.group.core) (applied r.group c).1 c q more).0) (past_me acts calls said.1))
+        (sym (spoken_same (name_of r) 0 (before_of r.group.core) (applied r.group c).1 c q more).0) (past_me acts backlog said.1))
         (applied r.group c).1 c
 
   -- ---- what is ready

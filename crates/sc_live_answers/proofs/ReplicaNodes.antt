@@ -32,11 +32,11 @@ node_who groups policy zero from seat a = absurd a
 node_who groups policy (suc count) from seat (inl e) = (let is = ap (λ (s : Seat Player). s.who) e in omega (arith, is))
 node_who groups policy (suc count) from seat (inr a) = (let more = node_who groups policy count (from + 1) seat a in omega (arith, more))
 
-module _ (bounded : ValidScenariosAreBounded) (words : ℕ → ℕ → ℕ × ℕ) (scenario : Scenario) (journal front : Rows) (calm : IsCalmJournal words scenario journal) (is : IsPrefixOf journal front) where
+module _ (bounded : ValidScenariosAreBounded) (words : ℕ → ℕ → ℕ × ℕ) (scenario : Scenario) (journal prefix : Rows) (calm : IsCalmJournal words scenario journal) (is : IsPrefixOf journal prefix) where
   bound : IsBounded scenario
   bound = bounded scenario calm.valid
 
-  timely : AreInTime (players words (births as_nodes scenario)) front
+  timely : AreInTime (players words (births as_nodes scenario)) prefix
   timely = λ before row after e. calm.timely before row (after ++ is.more) (is.is ∙ (ap (λ rows. rows ++ is.more) e ∙ append_assoc before (row ∷ after) is.more))
 
   -- a member of a group of the scenario is one of its nodes
@@ -63,8 +63,8 @@ module _ (bounded : ValidScenariosAreBounded) (words : ℕ → ℕ → ℕ × �
               omega (arith, one, who, same, high))
         ]
 
-    stays : value player_table seat front ≡ seat.actor
-    stays = by_time (players words (births as_nodes scenario)) (λ rows. value player_table seat rows ≡ seat.actor) refl next_row front timely
+    stays : value player_table seat prefix ≡ seat.actor
+    stays = by_time (players words (births as_nodes scenario)) (λ rows. value player_table seat rows ≡ seat.actor) refl next_row prefix timely
       where
         next_row : (rows : Rows) (row : Row Mail OrderLine) → AreInTime (players words (births as_nodes scenario)) (rows ++ row ∷ []) → value player_table seat rows ≡ seat.actor → value player_table seat (rows ++ row ∷ []) ≡ seat.actor
         next_row rows row t was =
@@ -72,7 +72,7 @@ module _ (bounded : ValidScenariosAreBounded) (words : ℕ → ℕ → ℕ × �
             value-snoc player_table seat rows row
             ∙ (cond-false (eqb row.who node) _ (value player_table seat rows) (ne_eqb row.who node (λ e. unborn c.seat c.born (sym (ap (λ (r : Row Mail OrderLine). r.who) c.row_is) ∙ e))) ∙ was)
 
-    no_replica : (name : Draw) (r : ReplicaState) → replica_of name (replicas_of (value player_table seat front)) ≡ Some r → ⊥
+    no_replica : (name : Draw) (r : ReplicaState) → replica_of name (replicas_of (value player_table seat prefix)) ≡ Some r → ⊥
     no_replica name r e =
         let here : replica_of name (born_replicas slots_ahead node scenario.groups) ≡ Some r = sym (ap (λ (p : Player). replica_of name (replicas_of p)) stays) ∙ e in
         let f = find_found (λ (x : ReplicaState). same_draw (name_of x) name) (born_replicas slots_ahead node scenario.groups) r here in
@@ -81,15 +81,15 @@ module _ (bounded : ValidScenariosAreBounded) (words : ℕ → ℕ → ℕ × �
         let low = member_in m.0 b.0 node b.1 in
         omega (arith, low, out)
 
-  pub at_nodes : AreAtNodes scenario front
+  pub at_nodes : AreAtNodes scenario prefix
   at_nodes name node (r, e) = elim (cases_Bool (is_node node)) [
     | inl t ↦ (
         let both = and_parts (leb 1 node) (leb node most_nodes) t in
         let low = leb-true 1 node both.0 in
         let high = leb-true node most_nodes both.1 in
         elim (cases_lt scenario.nodes node) [
-          | inl out ↦ absurd (no_replica node high out name r (sym (cond-true (is_node node) (replica_of name (replicas_of (value player_table (node_seat as_nodes scenario.groups scenario.policy node) front))) None t) ∙ e))
+          | inl out ↦ absurd (no_replica node high out name r (sym (cond-true (is_node node) (replica_of name (replicas_of (value player_table (node_seat as_nodes scenario.groups scenario.policy node) prefix))) None t) ∙ e))
           | inr in_ ↦ (low, in_)
         ])
-    | inr f ↦ absurd (none-some r (sym (cond-false (is_node node) (replica_of name (replicas_of (value player_table (node_seat as_nodes scenario.groups scenario.policy node) front))) None f) ∙ e))
+    | inr f ↦ absurd (none-some r (sym (cond-false (is_node node) (replica_of name (replicas_of (value player_table (node_seat as_nodes scenario.groups scenario.policy node) prefix))) None f) ∙ e))
   ]

@@ -4,7 +4,7 @@ use Rattle.std.specs.Prelude.{is_some}
 use Rattle.std.specs.List.{list_any}
 use Rattle.std.proofs.lemmas.Bool.{cond-true}
 use Rattle.sc_base.specs.Definitions.{Among, is_member, least_of}
-use Rattle.sc_node_table.specs.Values.{Draw, Offer, Watch, Command, Call, Split, Begin, Prepared, RecordVote, GiveUp, Watched, RecordWatch, Core, Lock, Free, Coordinating, Promised, Watching, Effect, Link, Outcome, Abort, Past, Vote, Route, ToldResult, AnswerBody, Mail, Told, TxOutcome, Prepare, Accept, Learn, Must, Gap}
+use Rattle.sc_node_table.specs.Values.{Draw, Offer, Watch, Command, Call, Split, Begin, Prepared, RecordVote, GiveUp, Watched, RecordWatch, Core, Lock, Free, Coordinating, Promised, Watching, Effect, Link, Outcome, Abort, Past, Vote, Route, OrderResult, AnswerBody, Mail, Told, TxOutcome, Prepare, Accept, Learn, Must, Gap}
 use Rattle.sc_cmd.specs.Definitions.{decided_in, cast_in, is_changed}
 use Rattle.sc_cmd.specs.declared.votes.Past.TheVariants as Cast
 use Rattle.sc_cmd.specs.declared.votes.Vote.TheVariants as Votes
@@ -12,9 +12,9 @@ use Rattle.sc_mail.specs.declared.bodies.AnswerBody.TheVariants as Says
 use Rattle.sc_paxos_words.specs.declared.answers.Must.TheVariants.{Value, Free as Open}
 use Rattle.sc_paxos_words.specs.Definitions.{must}
 use Rattle.sc_paxos_law.proofs.Lemmas.{Among-left, Among-right}
-use Rattle.sc_policy.specs.Definitions.{is_told}
+use Rattle.sc_policy.specs.Definitions.{is_reported}
 use Rattle.sc_machine_table.specs.Definitions.{Group, applied}
-use Rattle.sc_node_table.specs.Definitions.{elected, ended, stopped, open_nodes, entered, answer_of, told_call, order_result, told_effect, announced, learnt_to, welcomed, landed, left_gone, left, is_among, looked_for, looked, executed_one, executed, install_to, asked_to_promise, welcomed_all, sent, answered_all, sent_others, order_number, told_desk, told_order, Found, is_act, from_calls, from_acts, from_queues, found_by, found_for, offered, pumped_from, pumped, ReplicaState, Place, name_of, next, members, settled, may_offer, taken_at, under_way, is_idle, last_slot, before_of, asked_first, begun_result, spoken_number, told_result, told_begun, asked_on, vote_sent, watch_sent, aborted_to, aborted_watcher, given_up_by, vote_answered, released_to, watch_answered_by, went_on, spoken_mails, spoken}
+use Rattle.sc_node_table.specs.Definitions.{elected, ended, stopped, open_nodes, entered, answer_of, answered_or_put_back, order_result, effect_reported, announced, learnt_to, welcomed, landed, left_gone, left, is_among, looked_for, looked, executed_one, executed, install_to, asked_to_promise, welcomed_all, sent, answered_all, sent_others, order_number, result_sent, order_reported, Found, is_act, from_backlog, from_acts, from_queues, found_by, found_for, offered, pumped_from, pumped, ReplicaState, Place, name_of, next, members, settled, may_offer, taken_at, under_way, is_idle, last_slot, before_of, asked_first, begun_result, spoken_number, result_reported, begun_reported, asked_on, vote_sent, watch_sent, aborted_to, aborted_watcher, given_up_by, vote_answered, released_to, watch_answered_by, went_on, spoken_mails, spoken}
 use Rattle.sc_node_table.specs.declared.Before.{Before}
 use Rattle.sc_law_walks.proofs.Lemmas.{either_way, executed_place, welcomed_place, next_found}
 use Rattle.sc_law_walks.proofs.PlaceWalks.{Talk, grows}
@@ -29,7 +29,7 @@ pub reported_behind : (n : ℕ) (mails more : List Mail) → IsReported more n �
 reported_behind n mails more k = record { mail = k.mail; result = k.result; among = Among-right k.mail mails more k.among; body = k.body }
 
 -- a report to the desk
-pub desk_reports : (me n : ℕ) (result : ToldResult) (mails : List Mail) → IsReported (told_desk me n result mails) n
+pub desk_reports : (me n : ℕ) (result : OrderResult) (mails : List Mail) → IsReported (result_sent me n result mails) n
 desk_reports me n result mails = reported_behind n mails (record { from = me; to = 0; body = Told n result } ∷ []) (record { mail = record { from = me; to = 0; body = Told n result }; result = result; among = inl refl; body = refl })
 
 module _ (n : ℕ) where
@@ -45,15 +45,15 @@ module _ (n : ℕ) where
   abbrev H : Place → Type 0
   H place = Q place.1
 
-  order_reports : (me : ℕ) (result : ToldResult) (mails : List Mail) → is_told n ≡ true → Q (told_order me n result mails)
-  unfolding told_order
-  order_reports me result mails told = subst Q (sym (cond-true (is_told n) (told_desk me n result mails) mails told)) (desk_reports me n result mails)
+  order_reports : (me : ℕ) (result : OrderResult) (mails : List Mail) → is_reported n ≡ true → Q (order_reported me n result mails)
+  unfolding order_reported
+  order_reports me result mails told = subst Q (sym (cond-true (is_reported n) (result_sent me n result mails) mails told)) (desk_reports me n result mails)
 
   -- ---- the pump
 
-  calls_find : (r : ReplicaState) (mails : List Mail) → Q mails → Q (from_calls (r, mails)).1.1
-  unfolding from_calls
-  calls_find r mails m = next_found r.me (is_idle r) r.group.core (λ calls ms. Q ms) (λ found. Q found.2) (λ calls ms q. q) (λ command calls ms q. q) (λ command answer calls ms wait e q. one_answered r.me Q (talk r.me) r.group.core.id answer command ms q) r.calls mails m
+  calls_find : (r : ReplicaState) (mails : List Mail) → Q mails → Q (from_backlog (r, mails)).1.1
+  unfolding from_backlog
+  calls_find r mails m = next_found r.me (is_idle r) r.group.core (λ backlog ms. Q ms) (λ found. Q found.2) (λ backlog ms q. q) (λ command backlog ms q. q) (λ command answer backlog ms wait e q. one_answered r.me Q (talk r.me) r.group.core.id answer command ms q) r.backlog mails m
 
   acts_find : (acts : List Command) (r : ReplicaState) (mails : List Mail) → Q mails → Q (from_acts acts (r, mails)).1.1
   acts_find [] r mails m = calls_find r mails m
@@ -100,7 +100,7 @@ module _ (n : ℕ) where
 
   ends : (hint : Option ℕ) (answer : AnswerBody) (r : ReplicaState) (mails : List Mail) → Q mails → H (ended hint answer (r, mails))
   unfolding ended
-  ends hint answer r mails m = all_dismissed r.me Q (talk r.me) (name_of r) hint answer r.calls (answered_all r.me (name_of r) answer (under_way r) mails) (all_answered r.me Q (talk r.me) (name_of r) answer (under_way r) mails m)
+  ends hint answer r mails m = all_dismissed r.me Q (talk r.me) (name_of r) hint answer r.backlog (answered_all r.me (name_of r) answer (under_way r) mails) (all_answered r.me Q (talk r.me) (name_of r) answer (under_way r) mails m)
 
   gone_leaves : (gone : Option Route) (r : ReplicaState) (mails : List Mail) → Q mails → H (left_gone gone (r, mails))
   gone_leaves (Some into) r mails m = ends None (Says.Gone into) r mails m
@@ -122,22 +122,22 @@ module _ (n : ℕ) where
 
   -- ---- entries
 
-  calls_told : (answer : Option AnswerBody) (command : Command) (place : Place) → H place → H (told_call answer command place)
-  unfolding told_call
+  calls_told : (answer : Option AnswerBody) (command : Command) (place : Place) → H place → H (answered_or_put_back answer command place)
+  unfolding answered_or_put_back
   calls_told (Some answer) (Call client seq op) (r, mails) m = client_reported r.me Q (talk r.me) client (name_of r) seq answer mails m
   calls_told None (Call client seq op) (r, mails) m = m
   calls_told (Some answer) _ place m = m
   calls_told None _ place m = m
 
-  effects_told : (result : Option ToldResult) (command : Command) (place : Place) → H place → H (told_effect result command place)
-  unfolding told_effect
+  effects_told : (result : Option OrderResult) (command : Command) (place : Place) → H place → H (effect_reported result command place)
+  unfolding effect_reported
   effects_told None command place m = m
   effects_told (Some result) command (r, mails) m = desk_reported r.me Q (talk r.me) (order_number command) result mails m
 
   announces : (counted : Bool) (effect : Effect) (command : Command) (place : Place) → H place → H (announced counted effect command place)
   unfolding announced
   announces counted effect command place m =
-      effects_told (order_result command effect) command (cond counted (told_call (answer_of effect) command place) place) (either_way H counted (told_call (answer_of effect) command place) place (calls_told (answer_of effect) command place m) m)
+      effects_told (order_result command effect) command (cond counted (answered_or_put_back (answer_of effect) command place) place) (either_way H counted (answered_or_put_back (answer_of effect) command place) place (calls_told (answer_of effect) command place m) m)
 
   speaks : (counted : Bool) (before : Before) (effect : Effect) (command : Command) (place : Place) → H place → H (spoken counted before effect command place)
   unfolding spoken
@@ -185,21 +185,21 @@ module _ (n : ℕ) where
   -- a join or a leave reports its result; a split, or an entry of a transaction, reports that of the order that it ends
   abbrev pub Ends : Command → Group → Type 0
   Ends command group =
-      ((order_number command ≡ n) × (result : ToldResult) × (order_result command (applied group command).1 ≡ Some result))
-      ⊎ ((spoken_number (before_of group.core).order command ≡ n) × (result : ToldResult) × (begun_result (before_of group.core).alone (applied group command).1 command ≡ Some result))
+      ((order_number command ≡ n) × (result : OrderResult) × (order_result command (applied group command).1 ≡ Some result))
+      ⊎ ((spoken_number (before_of group.core).order command ≡ n) × (result : OrderResult) × (begun_result (before_of group.core).alone (applied group command).1 command ≡ Some result))
 
-  effect_reports : (command : Command) (result : ToldResult) (o : Option ToldResult) (place : Place) → is_told n ≡ true → order_number command ≡ n → o ≡ Some result → H (told_effect o command place)
-  unfolding told_effect
+  effect_reports : (command : Command) (result : OrderResult) (o : Option OrderResult) (place : Place) → is_reported n ≡ true → order_number command ≡ n → o ≡ Some result → H (effect_reported o command place)
+  unfolding effect_reported
   effect_reports command result None place told number e = absurd cc
-  effect_reports command result (Some other) (r, mails) told number e = subst (λ (k : ℕ). Q (told_order r.me k other mails)) (sym number) (order_reports r.me other mails told)
+  effect_reports command result (Some other) (r, mails) told number e = subst (λ (k : ℕ). Q (order_reported r.me k other mails)) (sym number) (order_reports r.me other mails told)
 
-  announced_reports : (effect : Effect) (command : Command) (result : ToldResult) (place : Place) → is_told n ≡ true → order_number command ≡ n → order_result command effect ≡ Some result → H (announced true effect command place)
+  announced_reports : (effect : Effect) (command : Command) (result : OrderResult) (place : Place) → is_reported n ≡ true → order_number command ≡ n → order_result command effect ≡ Some result → H (announced true effect command place)
   unfolding announced
-  announced_reports effect command result place told number e = effect_reports command result (order_result command effect) (told_call (answer_of effect) command place) told number e
+  announced_reports effect command result place told number e = effect_reports command result (order_result command effect) (answered_or_put_back (answer_of effect) command place) told number e
 
-  begun_reports : (me number : ℕ) (result : ToldResult) (o : Option ToldResult) (mails : List Mail) → is_told n ≡ true → number ≡ n → o ≡ Some result → Q (told_result me o number mails)
+  begun_reports : (me number : ℕ) (result : OrderResult) (o : Option OrderResult) (mails : List Mail) → is_reported n ≡ true → number ≡ n → o ≡ Some result → Q (result_reported me o number mails)
   begun_reports me number result None mails told same e = absurd cc
-  begun_reports me number result (Some other) mails told same e = subst (λ (k : ℕ). Q (told_order me k other mails)) (sym same) (order_reports me other mails told)
+  begun_reports me number result (Some other) mails told same e = subst (λ (k : ℕ). Q (order_reported me k other mails)) (sym same) (order_reports me other mails told)
 
   -- how a transaction goes on comes behind the report
   module _ (me : ℕ) where
@@ -257,13 +257,13 @@ module _ (n : ℕ) where
     went_more group before effect (RecordWatch tx vote by) mails m = watch_replies (decided_in effect) vote before tx by mails m
     went_more group before effect _ mails m = m
 
-  spoken_reports : (before : Before) (effect : Effect) (command : Command) (result : ToldResult) (place : Place) → is_told n ≡ true → spoken_number before.order command ≡ n → begun_result before.alone effect command ≡ Some result → H (spoken true before effect command place)
-  unfolding spoken spoken_mails told_begun
+  spoken_reports : (before : Before) (effect : Effect) (command : Command) (result : OrderResult) (place : Place) → is_reported n ≡ true → spoken_number before.order command ≡ n → begun_result before.alone effect command ≡ Some result → H (spoken true before effect command place)
+  unfolding spoken spoken_mails begun_reported
   spoken_reports before effect command result (r, mails) told number e =
-      went_more r.me r.group before effect command (told_result r.me (begun_result before.alone effect command) (spoken_number before.order command) mails)
+      went_more r.me r.group before effect command (result_reported r.me (begun_result before.alone effect command) (spoken_number before.order command) mails)
       (begun_reports r.me (spoken_number before.order command) result (begun_result before.alone effect command) mails told number e)
 
-  one_ends : (command : Command) (r : ReplicaState) (mails : List Mail) → is_told n ≡ true → Ends command r.group → H (executed_one true command (r, mails))
+  one_ends : (command : Command) (r : ReplicaState) (mails : List Mail) → is_reported n ≡ true → Ends command r.group → H (executed_one true command (r, mails))
   unfolding executed_one
   one_ends command r mails told (inl k) =
       after_announced command r (announced true (applied r.group command).1 command (entered command r, mails)) (announced_reports (applied r.group command).1 command k.1 (entered command r, mails) told k.0 k.2)
@@ -272,5 +272,5 @@ module _ (n : ℕ) where
       (spoken_reports (before_of r.group.core) (applied r.group command).1 command k.1 (announced true (applied r.group command).1 command (entered command r, mails)) told k.0 k.2)
 
   -- the leader that counted the entry reports the result
-  pub entry_reports : (command : Command) (r : ReplicaState) (mails : List Mail) → is_told n ≡ true → Ends command r.group → IsReported (executed true command (r, mails)).0.1 n
+  pub entry_reports : (command : Command) (r : ReplicaState) (mails : List Mail) → is_reported n ≡ true → Ends command r.group → IsReported (executed true command (r, mails)).0.1 n
   entry_reports command r mails told k = executed_place H (λ o. Unit {0}) (λ place m. tt) (λ other place o m. one_goes other place m) pumps true command (r, mails) (one_ends command r mails told k)

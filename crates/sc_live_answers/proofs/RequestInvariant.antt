@@ -35,16 +35,16 @@ snoc_parts (y ∷ xs) last (b ∷ before) x after e =
       | inr q ↦ inr (q.0, ap (λ t. y ∷ t) q.1 ∙ ap (λ h. h ∷ (before ++ x ∷ q.0)) head)
     ]
 
-none_behind : {X : Type 0} (front : List X) (x : X) (back : List X) → [] ≡ front ++ x ∷ back → ⊥
+none_behind : {X : Type 0} (prefix : List X) (x : X) (back : List X) → [] ≡ prefix ++ x ∷ back → ⊥
 none_behind [] x back e = cc
-none_behind (y ∷ front) x back e = cc
+none_behind (y ∷ prefix) x back e = cc
 
 -- first rows of a journal in time are in time
 pub prefix_timely : (words : ℕ → ℕ → ℕ × ℕ) (scenario : Scenario) (journal rows : Rows) → IsCalmJournal words scenario journal → IsPrefixOf journal rows → AreInTime (players words (births as_nodes scenario)) rows
-prefix_timely words scenario journal rows calm front before row after e = calm.timely before row (after ++ front.more) (front.is ∙ (ap (λ l. l ++ front.more) e ∙ append_assoc before (row ∷ after) front.more))
+prefix_timely words scenario journal rows calm prefix before row after e = calm.timely before row (after ++ prefix.more) (prefix.is ∙ (ap (λ l. l ++ prefix.more) e ∙ append_assoc before (row ∷ after) prefix.more))
 
 pub prefix_short : (words : ℕ → ℕ → ℕ × ℕ) (scenario : Scenario) (journal rows : Rows) → IsCalmJournal words scenario journal → IsPrefixOf journal rows → length rows ≤ 2 ^ 28
-prefix_short words scenario journal rows calm front = (let long = ap length front.is in let sum = length-append rows front.more in let short = calm.short in omega (arith, long, sum, short))
+prefix_short words scenario journal rows calm prefix = (let long = ap length prefix.is in let sum = length-append rows prefix.more in let short = calm.short in omega (arith, long, sum, short))
 
 -- what a setting with other ways counts as
 other_ways : (set other : Setting) (chart : Chart) → other.frames ≡ set.frames → other.at ≡ set.at → ((group : Draw) (node : ℕ) → other.ways.far group node ≡ set.ways.far group node) → CountsAs set chart → CountsAs other chart
@@ -99,18 +99,18 @@ module _ (all_bounded : ValidScenariosAreBounded) (frames_law : QuietJournalsHav
   begin : IsRequested words scenario first far sent quiet [] × NobodyWaits scenario first quiet
   begin = (
     record {
-      requests = λ front back row e. absurd (none_behind front row back e);
+      requests = λ prefix back row e. absurd (none_behind prefix row back e);
       asking = subst (IsAsking words scenario set first) (sym (append-nil quiet)) (quiet_of.asking all_bounded frames_law rise_law ask_law cuts_law round_law linked_law words scenario first others far sent journal quiet calm groups rests known);
     },
     quiet_of.waits all_bounded frames_law rise_law ask_law cuts_law round_law linked_law words scenario first others far sent journal quiet calm groups rests known,
   )
 
-  module _ (after : Rows) (front : IsPrefixOf journal (quiet ++ after)) (asked : IsRequested words scenario first far sent quiet after) where
+  module _ (after : Rows) (prefix : IsPrefixOf journal (quiet ++ after)) (asked : IsRequested words scenario first far sent quiet after) where
     abbrev rows : Rows
     rows = quiet ++ after
 
     timely : AreInTime s (quiet ++ after)
-    timely = prefix_timely words scenario journal (quiet ++ after) calm front
+    timely = prefix_timely words scenario journal (quiet ++ after) calm prefix
 
     tidy : IsTidy (quiet ++ after)
     tidy = in_time_tidy s (quiet ++ after) timely
@@ -121,8 +121,8 @@ module _ (all_bounded : ValidScenariosAreBounded) (frames_law : QuietJournalsHav
         by : (o : Option ReplicaState) → replica_at scenario rows frame.core.id node ≡ o → next_in o + slots_ahead ≤ last_slot
         by None e = omega arith
         by (Some r) e =
-            (slots_left words scenario rows frame.core.id node r timely (prefix_short words scenario journal rows calm front)
-            (views.nodes scenario rows frame.core.id node (all_bounded scenario calm.valid) (known.homes rows front) ∙ e)).0
+            (slots_left words scenario rows frame.core.id node r timely (prefix_short words scenario journal rows calm prefix)
+            (views.nodes scenario rows frame.core.id node (all_bounded scenario calm.valid) (known.homes rows prefix) ∙ e)).0
 
     module _ (seat : Seat Player) (event : Event OrderLine) (seated : IsSeat (births as_nodes scenario) seat) (in_order : IsInOrder s (quiet ++ after) seat.who event) where
       abbrev row : Row Mail OrderLine
@@ -157,7 +157,7 @@ module _ (all_bounded : ValidScenariosAreBounded) (frames_law : QuietJournalsHav
             let still = quiet_of.own_prefix words scenario quiet rests.calm in
             other_ways (setting_at (replicas_after scenario quiet) (frames_after scenario quiet) (chart_at far sent s rows).ways) set (chart_at far sent s rows) refl refl
             (λ group node. ap (λ q. far_at far (births as_nodes scenario) q group node) (still ∙ sym own))
-            (count_law words scenario first others quiet rows far sent (frames_after scenario quiet) rests.turn calm.valid groups lawful rests.is (known.homes quiet rests.front) frames rests.reach known.agree own rests.turns)
+            (count_law words scenario first others quiet rows far sent (frames_after scenario quiet) rests.turn calm.valid groups lawful rests.is (known.homes quiet rests.prefix) frames rests.reach known.agree own rests.turns)
 
         may : MayBegin words scenario set first quiet
         may = record {
@@ -185,7 +185,7 @@ module _ (all_bounded : ValidScenariosAreBounded) (frames_law : QuietJournalsHav
         let named : lead.group.core.id ≡ f.0 = (rests.is.kept f.0 lead.me lead f.1.newest.is_there).name_is in
         let same : f.0 ≡ name = sym named ∙ (ap (λ (x : Frame). x.core.id) f.2 ∙ is) in
         let there : replicas_after scenario quiet name lead.me ≡ Some lead = subst (λ n. replicas_after scenario quiet n lead.me ≡ Some lead) same f.1.newest.is_there in
-        none-some lead (sym (none lead.me) ∙ (views.nodes scenario quiet name lead.me (all_bounded scenario calm.valid) (known.homes quiet rests.front) ∙ there))
+        none-some lead (sym (none lead.me) ∙ (views.nodes scenario quiet name lead.me (all_bounded scenario calm.valid) (known.homes quiet rests.prefix) ∙ there))
 
     young : (base : Base) → Among base (groups_at as_nodes scenario.groups journal) → IsQuietWhileYoung words (births as_nodes scenario) (quiet ++ after) base
     young base among who member none = elim (there_or (births as_nodes scenario) quiet base.core.id) [
@@ -201,13 +201,13 @@ requests_begin all_bounded frames_law rise_law ask_law cuts_law round_law linked
     begin all_bounded frames_law rise_law ask_law cuts_law round_law linked_law views count_law know_one count_once go_on finds_law slots_left last_law words scenario first others far sent journal quiet calm groups rests known
 
 pub requests_stay : ValidScenariosAreBounded → QuietJournalsHaveFrames → ChartHintsRise → QuietJournalsAsk → QuietGroupsHaveCuts → StandingGroupsAreRound → QuietSettingsAreLinked → ViewsAgree → QuietChartsCount → QuietJournalsKnowOne → LawfulQuietJournalsCountOnce → RequestsGoOn → RequestRowsFindCalm → SlotsAreLeft → ReplicasLast → RequestsStay
-requests_stay all_bounded frames_law rise_law ask_law cuts_law round_law linked_law views count_law know_one count_once go_on finds_law slots_left last_law words scenario first others far sent journal quiet after seat event calm groups rests known asked front seated in_order =
-    stays all_bounded frames_law rise_law ask_law cuts_law round_law linked_law views count_law know_one count_once go_on finds_law slots_left last_law words scenario first others far sent journal quiet calm groups rests known after front asked seat event seated in_order
+requests_stay all_bounded frames_law rise_law ask_law cuts_law round_law linked_law views count_law know_one count_once go_on finds_law slots_left last_law words scenario first others far sent journal quiet after seat event calm groups rests known asked prefix seated in_order =
+    stays all_bounded frames_law rise_law ask_law cuts_law round_law linked_law views count_law know_one count_once go_on finds_law slots_left last_law words scenario first others far sent journal quiet calm groups rests known after prefix asked seat event seated in_order
 
 pub requests_find : ValidScenariosAreBounded → QuietJournalsHaveFrames → ChartHintsRise → QuietJournalsAsk → QuietGroupsHaveCuts → StandingGroupsAreRound → QuietSettingsAreLinked → ViewsAgree → QuietChartsCount → QuietJournalsKnowOne → LawfulQuietJournalsCountOnce → RequestsGoOn → RequestRowsFindCalm → SlotsAreLeft → ReplicasLast → RequestsFindCalm
-requests_find all_bounded frames_law rise_law ask_law cuts_law round_law linked_law views count_law know_one count_once go_on finds_law slots_left last_law words scenario first others far sent journal quiet after seat event calm groups rests known asked front seated in_order own pump near =
-    finds all_bounded frames_law rise_law ask_law cuts_law round_law linked_law views count_law know_one count_once go_on finds_law slots_left last_law words scenario first others far sent journal quiet calm groups rests known after front asked seat event seated in_order own pump near
+requests_find all_bounded frames_law rise_law ask_law cuts_law round_law linked_law views count_law know_one count_once go_on finds_law slots_left last_law words scenario first others far sent journal quiet after seat event calm groups rests known asked prefix seated in_order own pump near =
+    finds all_bounded frames_law rise_law ask_law cuts_law round_law linked_law views count_law know_one count_once go_on finds_law slots_left last_law words scenario first others far sent journal quiet calm groups rests known after prefix asked seat event seated in_order own pump near
 
 pub requests_leave_young : ValidScenariosAreBounded → QuietJournalsHaveFrames → ChartHintsRise → QuietJournalsAsk → QuietGroupsHaveCuts → StandingGroupsAreRound → QuietSettingsAreLinked → ViewsAgree → QuietChartsCount → QuietJournalsKnowOne → LawfulQuietJournalsCountOnce → RequestsGoOn → RequestRowsFindCalm → SlotsAreLeft → ReplicasLast → RequestsLeaveYoung
-requests_leave_young all_bounded frames_law rise_law ask_law cuts_law round_law linked_law views count_law know_one count_once go_on finds_law slots_left last_law words scenario first others far sent journal quiet after base calm groups rests front known asked among =
-    young all_bounded frames_law rise_law ask_law cuts_law round_law linked_law views count_law know_one count_once go_on finds_law slots_left last_law words scenario first others far sent journal quiet calm groups rests known after front asked base among
+requests_leave_young all_bounded frames_law rise_law ask_law cuts_law round_law linked_law views count_law know_one count_once go_on finds_law slots_left last_law words scenario first others far sent journal quiet after base calm groups rests prefix known asked among =
+    young all_bounded frames_law rise_law ask_law cuts_law round_law linked_law views count_law know_one count_once go_on finds_law slots_left last_law words scenario first others far sent journal quiet calm groups rests known after prefix asked base among

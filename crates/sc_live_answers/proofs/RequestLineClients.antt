@@ -5,7 +5,7 @@ use Rattle.std.proofs.lemmas.List.Folds.{list_any-append}
 use Rattle.sc_base.specs.Definitions.{Among, Each, client_actor, is_member}
 use Rattle.sc_node_table.specs.Values.{Draw, Op, Base, OrderLine, Mail, MailBody, Request, Answer, Accept, Accepted, Learn, Node, Client, Seat, Event, Deliver, Tick, Go, Got, Row}
 use Rattle.sc_actor.specs.declared.rows.Input.TheVariants.{Go as GoInput}
-use Rattle.sc_actor.specs.Definitions.{mails, value, acted, input_of, System, row_of, has_gone, is_go}
+use Rattle.sc_actor.specs.Definitions.{mails, value, acted, input_of, System, row_of, has_started, is_go}
 use Rattle.sc_client_table.specs.Definitions.{Client as ClientState, table}
 use Rattle.sc_paxos_words.proofs.Lemmas.{Each-append, Each-filter}
 use Rattle.sc_node_table.specs.Definitions.{is_node, node_table, slots_ahead}
@@ -28,14 +28,14 @@ module _ (words : ℕ → ℕ → ℕ × ℕ) (scenario : Scenario) (begins : Is
   Holds rows = IsAsking words scenario set begins.first rows × R rows
 
   module _ (before after : Journal) (requests : AreRequests words scenario set before after) where
-    pub line_keeps : (front back : Journal) → after ≡ front ++ back → IsAsking words scenario set begins.first (before ++ front) × R (before ++ front) → IsAsking words scenario set begins.first (before ++ after) × R (before ++ after)
-    line_keeps front [] e h = subst (λ (l : Journal). Holds (before ++ l)) (sym (e ∙ append-nil front)) h
-    line_keeps front (row ∷ back) e h =
-        let r = requests front back row e in
-        let then_ : IsAsking words scenario set begins.first ((before ++ front) ++ row ∷ []) = clients_of.asking_row words scenario begins set is linked (before ++ front) r.0 h.0 r.1 row r.2 in
-        let kept = step (before ++ front) r.0 h.0 r.1 row r.2 h.1 in
-        let place : (before ++ front) ++ row ∷ [] ≡ before ++ (front ++ row ∷ []) = append_assoc before front (row ∷ []) in
-        line_keeps (front ++ row ∷ []) back (e ∙ sym (append_assoc front (row ∷ []) back)) (subst Holds place (then_, kept))
+    pub line_keeps : (prefix back : Journal) → after ≡ prefix ++ back → IsAsking words scenario set begins.first (before ++ prefix) × R (before ++ prefix) → IsAsking words scenario set begins.first (before ++ after) × R (before ++ after)
+    line_keeps prefix [] e h = subst (λ (l : Journal). Holds (before ++ l)) (sym (e ∙ append-nil prefix)) h
+    line_keeps prefix (row ∷ back) e h =
+        let r = requests prefix back row e in
+        let then_ : IsAsking words scenario set begins.first ((before ++ prefix) ++ row ∷ []) = clients_of.asking_row words scenario begins set is linked (before ++ prefix) r.0 h.0 r.1 row r.2 in
+        let kept = step (before ++ prefix) r.0 h.0 r.1 row r.2 h.1 in
+        let place : (before ++ prefix) ++ row ∷ [] ≡ before ++ (prefix ++ row ∷ []) = append_assoc before prefix (row ∷ []) in
+        line_keeps (prefix ++ row ∷ []) back (e ∙ sym (append_assoc prefix (row ∷ []) back)) (subst Holds place (then_, kept))
 
 -- ---- mail to who is no actor
 
@@ -83,7 +83,7 @@ module _ (words : ℕ → ℕ → ℕ × ℕ) (scenario : Scenario) (begins : Is
   AtDesk rows = (who : ℕ) → is_born (system_of as_nodes words scenario) who ≡ false → Each IsNothing (rest (system_of as_nodes words scenario) rows who)
 
   abbrev pub AreFresh : (Asks → ClientState → Type 0) → Journal → Type 0
-  AreFresh Born rows = (asks : Asks) (client : ClientState) → Among asks scenario.clients → has_gone rows (client_actor asks.client) ≡ false → value player_table (client_seat (route_of begins.first) asks) rows ≡ Client client → Born asks client
+  AreFresh Born rows = (asks : Asks) (client : ClientState) → Among asks scenario.clients → has_started rows (client_actor asks.client) ≡ false → value player_table (client_seat (route_of begins.first) asks) rows ≡ Client client → Born asks client
 
   module _ (rows : Journal) (t : IsTidy rows) (j : IsAsking words scenario set begins.first rows) (room : AreFarFromLast scenario set rows) where
     desk_by : (row : Row Mail OrderLine) → IsOrderly (system_of as_nodes words scenario) rows row → ((who : ℕ) → is_born (system_of as_nodes words scenario) who ≡ false → Each IsNothing (mail_for (system_of as_nodes words scenario) who row.sent)) → AtDesk rows → AtDesk (rows ++ row ∷ [])
@@ -135,7 +135,7 @@ module _ (words : ℕ → ℕ → ℕ × ℕ) (scenario : Scenario) (begins : Is
 
       -- ---- no mail is for one that has not started
 
-      begun_none : has_gone rows (client_actor asks.client) ≡ false → (client seq : ℕ) (op : Op) → IsBegun scenario rows client seq op → client_actor asks.client ≡ client_actor client → ⊥
+      begun_none : has_started rows (client_actor asks.client) ≡ false → (client seq : ℕ) (op : Op) → IsBegun scenario rows client seq op → client_actor asks.client ≡ client_actor client → ⊥
       begun_none not_gone client seq op b e =
           let c = j.clients asks a in
           let same : b.asks ≡ asks = begins.once b.asks asks b.is_asks a (b.client_is ∙ (let k = e in omega (arith, k))) in
@@ -149,34 +149,34 @@ module _ (words : ℕ → ℕ → ℕ × ℕ) (scenario : Scenario) (begins : Is
           let one = b.from_one in
           omega (arith, count, waits, replies, low, one)
 
-      aside_none : (body : MailBody) (from to : ℕ) → to ≡ client_actor asks.client → has_gone rows (client_actor asks.client) ≡ false → IsAsideBody (IsBegun scenario rows) set from to body → ⊥
+      aside_none : (body : MailBody) (from to : ℕ) → to ≡ client_actor asks.client → has_started rows (client_actor asks.client) ≡ false → IsAsideBody (IsBegun scenario rows) set from to body → ⊥
       aside_none (Request group client seq op) from to e not_gone b = (let at = seated.homes group to b.1 in both_ways (is_node (client_actor asks.client)) (client_number words scenario begins asks a) (ap is_node (sym e) ∙ node_number words scenario begins to at.0 at.1))
       aside_none (Answer group seq answer) from to e not_gone b = begun_none not_gone b.client seq b.op b.is_begun (sym e ∙ b.to_is)
       aside_none _ from to e not_gone b = b
 
-      no_mail : has_gone rows (client_actor asks.client) ≡ false → (mail : Mail) → mail.to ≡ client_actor asks.client → IsCalmMail (IsBegun scenario rows) set mail → ⊥
+      no_mail : has_started rows (client_actor asks.client) ≡ false → (mail : Mail) → mail.to ≡ client_actor asks.client → IsCalmMail (IsBegun scenario rows) set mail → ⊥
       no_mail not_gone mail to (inr s) = aside_none mail.body mail.from mail.to to not_gone s
       no_mail not_gone mail to (inl p) =
           let for : IsFor (IsBegun scenario rows) set.frames is.are is.apart p.frame mail.from mail.to mail.body = for_node (IsBegun scenario rows) set.frames is.are is.apart p.frame (is.are p.frame p.is_frame) mail.from mail.to mail.body p.says (λ c n op b e. begun_none not_gone c n op b (sym to ∙ e)) in
           both_ways (is_node (client_actor asks.client)) (client_number words scenario begins asks a) (ap is_node (sym to) ∙ (is.are p.frame p.is_frame).nodes for.slot mail.to for.member)
 
       own_fresh : {X : Type 0} (event : Event OrderLine) → IsInOrder (system_of as_nodes words scenario) rows (client_actor asks.client) event
-          → has_gone (rows ++ row_of player_table (client_seat (route_of begins.first) asks) rows event ∷ []) (client_actor asks.client) ≡ false → X
+          → has_started (rows ++ row_of player_table (client_seat (route_of begins.first) asks) rows event ∷ []) (client_actor asks.client) ≡ false → X
       own_fresh (Deliver number) fine not_gone =
           let first = clients_of.first words scenario begins set is linked rows t j asks a born number fine in
           absurd (no_mail (sym (started_still words scenario begins rows (row_of player_table (cseat asks) rows (Deliver number)) (client_actor asks.client) refl) ∙ not_gone) first.mail first.receiver (clients_of.is_calm words scenario begins set is linked rows t j asks a born number fine))
       own_fresh Go fine not_gone =
-          let gone_now : has_gone (rows ++ row_of player_table (cseat asks) rows Go ∷ []) (client_actor asks.client) ≡ true =
+          let gone_now : has_started (rows ++ row_of player_table (cseat asks) rows Go ∷ []) (client_actor asks.client) ≡ true =
           list_any-append (λ (r : Row Mail OrderLine). eqb r.who (client_actor asks.client) && is_go r.event) rows (row_of player_table (cseat asks) rows Go ∷ [])
-          ∙ (ap (λ b. has_gone rows (client_actor asks.client) || ((b && true) || false)) (eq-eqb (client_actor asks.client) (client_actor asks.client) refl) ∙ or_right (has_gone rows (client_actor asks.client)) true refl) in
-          absurd (both_ways (has_gone (rows ++ row_of player_table (cseat asks) rows Go ∷ []) (client_actor asks.client)) not_gone gone_now)
+          ∙ (ap (λ b. has_started rows (client_actor asks.client) || ((b && true) || false)) (eq-eqb (client_actor asks.client) (client_actor asks.client) refl) ∙ or_right (has_started rows (client_actor asks.client)) true refl) in
+          absurd (both_ways (has_started (rows ++ row_of player_table (cseat asks) rows Go ∷ []) (client_actor asks.client)) not_gone gone_now)
       own_fresh Tick fine not_gone = absurd fine
       own_fresh _ fine not_gone = absurd fine
 
     -- ---- each row
 
     other_fresh : (Born : Asks → ClientState → Type 0) (row : Row Mail OrderLine) → AreFresh Born rows → (asks : Asks) (client : ClientState) → Among asks scenario.clients → (client_actor asks.client ≡ row.who → ⊥)
-        → has_gone (rows ++ row ∷ []) (client_actor asks.client) ≡ false → value player_table (client_seat (route_of begins.first) asks) (rows ++ row ∷ []) ≡ Client client → Born asks client
+        → has_started (rows ++ row ∷ []) (client_actor asks.client) ≡ false → value player_table (client_seat (route_of begins.first) asks) (rows ++ row ∷ []) ≡ Client client → Born asks client
     other_fresh Born row fresh asks client a ne not_gone v = fresh asks client a (sym (gone_others words scenario begins rows row (client_actor asks.client) ne) ∙ not_gone) (sym (value_others words scenario begins rows row (cseat asks) ne) ∙ v)
 
     pub keeps_row : (Born : Asks → ClientState → Type 0) (row : Row Mail OrderLine) → IsOrderly (system_of as_nodes words scenario) rows row → AtDesk rows × AreFresh Born rows → AtDesk (rows ++ row ∷ []) × AreFresh Born (rows ++ row ∷ [])
@@ -196,7 +196,7 @@ module _ (words : ℕ → ℕ → ℕ × ℕ) (scenario : Scenario) (begins : Is
             desk_by row o (λ who away. subst (λ (r : Row Mail OrderLine). Each IsNothing (mail_for sys who r.sent)) (sym row_is) (client_sent d.asks d.is_asks born o.event fine who)) h.0,
             λ asks client a not_gone v. elim (cases_eq (client_actor asks.client) (client_actor d.asks.client)) [
               | inl here ↦ own_fresh d.asks d.is_asks born o.event fine
-                  (ap (λ (r : Row Mail OrderLine). has_gone (rows ++ r ∷ []) (client_actor d.asks.client)) (sym row_is) ∙ (ap (has_gone (rows ++ row ∷ [])) (sym here) ∙ not_gone))
+                  (ap (λ (r : Row Mail OrderLine). has_started (rows ++ r ∷ []) (client_actor d.asks.client)) (sym row_is) ∙ (ap (has_started (rows ++ row ∷ [])) (sym here) ∙ not_gone))
               | inr ne ↦ other_fresh Born row h.1 asks client a (λ e. ne (e ∙ ap (λ (r : Row Mail OrderLine). r.who) row_is)) not_gone v
             ],
           ))
@@ -215,7 +215,7 @@ module _ (words : ℕ → ℕ → ℕ × ℕ) (scenario : Scenario) (begins : Is
           let fine = subst (λ (seat : Seat Player). IsInOrder sys rows seat.who o.event) d.seat_is o.in_order in
           λ asks client a not_gone v. elim (cases_eq (client_actor asks.client) (client_actor d.asks.client)) [
             | inl here ↦ own_fresh d.asks d.is_asks born o.event fine
-                (ap (λ (r : Row Mail OrderLine). has_gone (rows ++ r ∷ []) (client_actor d.asks.client)) (sym row_is) ∙ (ap (has_gone (rows ++ row ∷ [])) (sym here) ∙ not_gone))
+                (ap (λ (r : Row Mail OrderLine). has_started (rows ++ r ∷ []) (client_actor d.asks.client)) (sym row_is) ∙ (ap (has_started (rows ++ row ∷ [])) (sym here) ∙ not_gone))
             | inr ne ↦ other_fresh Born row h asks client a (λ e. ne (e ∙ ap (λ (r : Row Mail OrderLine). r.who) row_is)) not_gone v
           ])
     ]

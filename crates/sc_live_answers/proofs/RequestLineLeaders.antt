@@ -5,7 +5,7 @@ use Rattle.sc_base.specs.Definitions.{Among, client_actor}
 use Rattle.sc_node_table.specs.Values.{Draw, Base, OrderLine, Mail, Client, Seat, Event, Deliver, Tick, Go, Got, Row}
 use Rattle.sc_lookup.specs.declared.ways.Way.{Way}
 use Rattle.sc_actor.specs.declared.rows.Input.TheVariants.{Go as GoInput}
-use Rattle.sc_actor.specs.Definitions.{value, System, row_of, has_gone}
+use Rattle.sc_actor.specs.Definitions.{value, System, row_of, has_started}
 use Rattle.sc_client_table.specs.Definitions.{Client as ClientState, table}
 use Rattle.sc_node_table.specs.Definitions.{is_node}
 use Rattle.sc_scenario.specs.declared.scenarios.Asks.{Asks}
@@ -56,7 +56,7 @@ module _ (words : ℕ → ℕ → ℕ × ℕ) (scenario : Scenario) (begins : Is
           let became = clients_of.became words scenario begins set is linked rows t j asks a born (Deliver number) fine step (clients_of.got_is words scenario begins set is linked rows t j asks a born number fine) (clients_of.got_more words scenario begins set is linked rows t j asks a born number fine) in
           let answer = first_is words scenario begins set is linked seated rows t j h.sought asks a (h.few asks a) number fine c.client c.is first.mail first.sent in
           subst (AsksLeaders set) (client_is (sym became ∙ v))
-          (ask_leaders.takes scenario rows set asks (has_gone rows (client_actor asks.client)) c.client first.mail is linked c.calm (clients_of.is_calm words scenario begins set is linked rows t j asks a born number fine) (first.receiver ∙ ap client_actor (sym c.calm.me_is))
+          (ask_leaders.takes scenario rows set asks (has_started rows (client_actor asks.client)) c.client first.mail is linked c.calm (clients_of.is_calm words scenario begins set is linked rows t j asks a born number fine) (first.receiver ∙ ap client_actor (sym c.calm.me_is))
           (clients_of.asked_right words scenario begins set is linked rows t j asks a born number fine) (h.leads asks c.client a c.is) answer)
       own_leads Go fine client v =
           let c = clients_of.c words scenario begins set is linked rows t j asks a born in

@@ -188,11 +188,11 @@ module _ (words : ℕ → ℕ → ℕ × ℕ) (scenario : Scenario) (begins : Is
   Holds rows = IsAsking words scenario set begins.first rows × HaveServed scenario set rows
 
   module _ (before after : Journal) (requests : AreRequests words scenario set before after) where
-    pub line_serves : (front back : Journal) → after ≡ front ++ back → IsAsking words scenario set begins.first (before ++ front) × HaveServed scenario set (before ++ front) → IsAsking words scenario set begins.first (before ++ after) × HaveServed scenario set (before ++ after)
-    line_serves front [] e h = subst (λ (l : Journal). Holds (before ++ l)) (sym (e ∙ append-nil front)) h
-    line_serves front (row ∷ back) e h =
-        let r = requests front back row e in
-        let then_ : IsAsking words scenario set begins.first ((before ++ front) ++ row ∷ []) = asking_row words scenario begins set is linked (before ++ front) r.0 h.0 r.1 row r.2 in
-        let served = by_leaves (before ++ front) ((before ++ front) ++ row ∷ []) (λ frame a. h.0.groups frame a) h.1 (row_leaves words scenario begins set is (before ++ front) r.0 h.0 r.1 row r.2) in
-        let place : (before ++ front) ++ row ∷ [] ≡ before ++ (front ++ row ∷ []) = append_assoc before front (row ∷ []) in
-        line_serves (front ++ row ∷ []) back (e ∙ sym (append_assoc front (row ∷ []) back)) (subst Holds place (then_, served))
+    pub line_serves : (prefix back : Journal) → after ≡ prefix ++ back → IsAsking words scenario set begins.first (before ++ prefix) × HaveServed scenario set (before ++ prefix) → IsAsking words scenario set begins.first (before ++ after) × HaveServed scenario set (before ++ after)
+    line_serves prefix [] e h = subst (λ (l : Journal). Holds (before ++ l)) (sym (e ∙ append-nil prefix)) h
+    line_serves prefix (row ∷ back) e h =
+        let r = requests prefix back row e in
+        let then_ : IsAsking words scenario set begins.first ((before ++ prefix) ++ row ∷ []) = asking_row words scenario begins set is linked (before ++ prefix) r.0 h.0 r.1 row r.2 in
+        let served = by_leaves (before ++ prefix) ((before ++ prefix) ++ row ∷ []) (λ frame a. h.0.groups frame a) h.1 (row_leaves words scenario begins set is (before ++ prefix) r.0 h.0 r.1 row r.2) in
+        let place : (before ++ prefix) ++ row ∷ [] ≡ before ++ (prefix ++ row ∷ []) = append_assoc before prefix (row ∷ []) in
+        line_serves (prefix ++ row ∷ []) back (e ∙ sym (append_assoc prefix (row ∷ []) back)) (subst Holds place (then_, served))

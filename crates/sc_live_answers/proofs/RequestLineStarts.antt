@@ -5,7 +5,7 @@ use Rattle.std.proofs.lemmas.List.Sums.{sum_by-cons}
 use Rattle.sc_base.specs.Definitions.{Among, same_draw, client_actor}
 use Rattle.sc_base.proofs.Lemmas.{same_name, draw_is}
 use Rattle.sc_node_table.specs.Values.{Mail, Node}
-use Rattle.sc_actor.specs.Definitions.{mails, copies, has_gone}
+use Rattle.sc_actor.specs.Definitions.{mails, copies, has_started}
 use Rattle.sc_client_table.specs.Definitions.{Client as ClientState, born_client}
 use Rattle.sc_node_table.specs.Definitions.{replica_of, ReplicaState, name_of}
 use Rattle.sc_paxos_words.proofs.Lemmas.{Each-among}
@@ -24,7 +24,7 @@ use Rattle.sc_live_answers.proofs.QuestionTargets.{no_append}
 pub know_one : QuietJournalsKnowOne
 know_one words scenario first rows q asks client a not_gone v =
     let p = q.players asks a in
-    let answered = Each-among (λ (c : Bool × ClientState). IsAnswered c.0 (route_of first) c.1) q.clients (has_gone rows (client_actor asks.client), p.0) q.quiet.answered p.4 in
+    let answered = Each-among (λ (c : Bool × ClientState). IsAnswered c.0 (route_of first) c.1) q.clients (has_started rows (client_actor asks.client), p.0) q.quiet.answered p.4 in
     let born : client ≡ born_client client.me client.requests (route_of first) =
     subst (λ (c : ClientState). c ≡ born_client c.me c.requests (route_of first)) (client_is (sym p.1 ∙ v)) (subst (λ b. IsAnswered b (route_of first) p.0) not_gone answered) in
     (_, ap (λ (c : ClientState). c.known) born)
@@ -57,10 +57,10 @@ no_mail words scenario first rows q =
 none_at_rest : (c : ℕ) (r : ReplicaState) → IsAtRest r → replica_tokens c r ≡ 0
 none_at_rest c r rests =
     let acts = ap (sum_by (command_token c)) rests.acts in
-    let calls = ap (sum_by (command_token c)) rests.calls in
+    let backlog = ap (sum_by (command_token c)) rests.backlog in
     let flights = ap (flight_tokens c) rests.flights in
     let ready = ap (ready_tokens c) rests.ready in
-    omega (arith, acts, calls, flights, ready)
+    omega (arith, acts, backlog, flights, ready)
 
 none_of_all : (c : ℕ) (replicas : List ReplicaState) → ((r : ReplicaState) → Among r replicas → replica_tokens c r ≡ 0) → sum_by (replica_tokens c) replicas ≡ 0
 none_of_all c [] all = refl

@@ -34,9 +34,9 @@ call_works begun frame (Call client seq op) p = refl
 call_works begun frame Noop p = refl
 call_works begun frame _ p = absurd p
 
-calls_work : (begun : Requests) (frame : Frame) (calls : List Command) → Each (IsPlainCommand begun frame) calls → works_in calls ≡ []
+calls_work : (begun : Requests) (frame : Frame) (backlog : List Command) → Each (IsPlainCommand begun frame) backlog → works_in backlog ≡ []
 calls_work begun frame [] p = refl
-calls_work begun frame (call ∷ calls) p = ap (λ o. listed o ++ works_in calls) (call_works begun frame call p.0) ∙ calls_work begun frame calls p.1
+calls_work begun frame (call ∷ backlog) p = ap (λ o. listed o ++ works_in backlog) (call_works begun frame call p.0) ∙ calls_work begun frame backlog p.1
 
 flights_work : (begun : Requests) (frame : Frame) (flights : List (Flight Command)) → Each (IsPlainFlight begun frame) flights → works_flying flights ≡ []
 flights_work begun frame [] p = refl
@@ -54,8 +54,8 @@ plain_works begun frame me r runs (inl p) = by p.1
     by (inr follows) = absurd (both_ways r.running follows.1.stopped runs)
     by (inl leads) =
         let l = leads.1.leader in
-        ap (λ w. works_in w ++ (works_in r.calls ++ (works_flying r.leader.flights ++ works_ready r.ready))) p.0.acts
-        ∙ (ap (λ w. w ++ (works_flying r.leader.flights ++ works_ready r.ready)) (calls_work begun frame r.calls l.calls)
+        ap (λ w. works_in w ++ (works_in r.backlog ++ (works_flying r.leader.flights ++ works_ready r.ready))) p.0.acts
+        ∙ (ap (λ w. w ++ (works_flying r.leader.flights ++ works_ready r.ready)) (calls_work begun frame r.backlog l.backlog)
         ∙ (ap (λ w. w ++ works_ready r.ready) (flights_work begun frame r.leader.flights l.flights) ∙ ready_work begun frame r.ready l.ready))
 
 -- one that runs has the state of its frame
@@ -77,7 +77,7 @@ module _ (all_bounded : ValidScenariosAreBounded) (found_law : PrefixesAreFound)
   rows = quiet ++ after
 
   found : IsFoundPrefix words scenario journal (quiet ++ after)
-  found = found_law words scenario journal (quiet ++ after) calm asked.front
+  found = found_law words scenario journal (quiet ++ after) calm asked.prefix
 
   -- a replica that is seen is its node's, which is as requests leave it
   record IsAskedAt (name : Draw) (who : ℕ) (r : ReplicaState) : Type 0 where
@@ -144,7 +144,7 @@ module _ (all_bounded : ValidScenariosAreBounded) (found_law : PrefixesAreFound)
     ]
       where
         back : (node : ℕ) (r : ReplicaState) → replicas_after scenario quiet name node ≡ Some r → IsThere all quiet name
-        back node r e = (node, r, sym ((found_law words scenario journal quiet calm asked.rests.front).views name node) ∙ e)
+        back node r e = (node, r, sym ((found_law words scenario journal quiet calm asked.rests.prefix).views name node) ∙ e)
 
         by : (o : Option Route) → KnowsBetter set name there.1 o → IsThere all quiet name
         by (Some into) h = back h.node h.r h.is_there
@@ -161,7 +161,7 @@ record IsHeld (words : ℕ → ℕ → ℕ × ℕ) (scenario : Scenario) (first 
 pub begin_asked : RestingPrefixesAreKnown → RequestsBegin → RequestsKeepBallots → NoMailForStrangers → RequestsBeginAsked
 begin_asked known_law begin_law ballots_law no_law words scenario first others far sends journal quiet calm groups rests room =
     let known = known_law words scenario first journal quiet far calm rests room in
-    let q : IsQuietPrefix words scenario journal quiet = record { calm = calm; begins = rests.front; quiet = rests.calm; sent = rests.sent } in
+    let q : IsQuietPrefix words scenario journal quiet = record { calm = calm; begins = rests.prefix; quiet = rests.calm; sent = rests.sent } in
     let held : IsHeld words scenario first journal quiet rests quiet = record {
       sent = rests.sent;
       rising = rests.rising;
@@ -172,7 +172,7 @@ begin_asked known_law begin_law ballots_law no_law words scenario first others f
       record {
         rests = rests;
         known = known;
-        front = subst (IsPrefixOf journal) (sym (append-nil quiet)) rests.front;
+        prefix = subst (IsPrefixOf journal) (sym (append-nil quiet)) rests.prefix;
         requested = begun.0;
         sent = then.sent;
         rising = then.rising;
@@ -185,7 +185,7 @@ begin_asked known_law begin_law ballots_law no_law words scenario first others f
 
 module _ (all_bounded : ValidScenariosAreBounded) (found_law : PrefixesAreFound) (few_law : SlotsAreLeft) (stay_law : RequestsStay) (young_law : RequestsLeaveYoung) (next_law : NextRowsAreSent) (rise_law : NextRowsRise) (ballots_law : RequestsKeepBallots)
     (words : ℕ → ℕ → ℕ × ℕ) (scenario : Scenario) (first : Base) (others : List Base) (far sends : ℕ) (journal quiet after : Rows) (seat : Seat Player) (event : Event OrderLine) (calm : IsCalmJournal words scenario journal) (groups : scenario.groups ≡ first ∷ others)
-    (asked : IsAskedSince words scenario first far sends journal quiet after) (front : IsPrefixOf journal (with_event (quiet ++ after) seat event)) (seated : IsSeat (births as_nodes scenario) seat)
+    (asked : IsAskedSince words scenario first far sends journal quiet after) (prefix : IsPrefixOf journal (with_event (quiet ++ after) seat event)) (seated : IsSeat (births as_nodes scenario) seat)
     (in_order : IsInOrder (players words (births as_nodes scenario)) (quiet ++ after) seat.who event) where
   abbrev s : System Player Mail OrderLine
   s = players words (births as_nodes scenario)
@@ -194,13 +194,13 @@ module _ (all_bounded : ValidScenariosAreBounded) (found_law : PrefixesAreFound)
   row = row_of player_table seat (quiet ++ after) event
 
   timely : AreInTime s (with_event (quiet ++ after) seat event)
-  timely = prefix_timely words scenario journal (with_event (quiet ++ after) seat event) calm front
+  timely = prefix_timely words scenario journal (with_event (quiet ++ after) seat event) calm prefix
 
   steps : (base : Base) (among : Among base (groups_at as_nodes scenario.groups journal))
       → IsSentStep (logged_sets as_nodes base journal) (over_at as_nodes base journal) (slot_leaders_at as_nodes scenario base journal) words (births as_nodes scenario) (quiet ++ after) seat event base (asked.sent base among).course
   steps base among =
-      next_law words scenario journal base (journal_group words scenario journal calm base among) calm.timely (journal_few few_law words scenario journal calm base) (quiet ++ after) front.more seat event front.is seated (asked.sent base among)
-      (young_law words scenario first others far sends journal quiet after base calm groups asked.rests asked.front asked.known asked.requested among)
+      next_law words scenario journal base (journal_group words scenario journal calm base among) calm.timely (journal_few few_law words scenario journal calm base) (quiet ++ after) prefix.more seat event prefix.is seated (asked.sent base among)
+      (young_law words scenario first others far sends journal quiet after base calm groups asked.rests asked.prefix asked.known asked.requested among)
 
   held : IsHeld words scenario first journal quiet asked.rests (with_event (quiet ++ after) seat event)
   held = record {
@@ -219,8 +219,8 @@ module _ (all_bounded : ValidScenariosAreBounded) (found_law : PrefixesAreFound)
       record {
         rests = asked.rests;
         known = asked.known;
-        front = subst (IsPrefixOf journal) whole front;
-        requested = stay_law words scenario first others far sends journal quiet after seat event calm groups asked.rests asked.known asked.requested asked.front seated in_order;
+        prefix = subst (IsPrefixOf journal) whole prefix;
+        requested = stay_law words scenario first others far sends journal quiet after seat event calm groups asked.rests asked.known asked.requested asked.prefix seated in_order;
         sent = then.sent;
         rising = then.rising;
         ballots = then.ballots;
@@ -231,9 +231,9 @@ stay_asked = stays
 
 -- so does each row of the journal that gives no order
 pub rows_asked : RequestsStayAsked → AskedRowsGoOn
-rows_asked stay_law words scenario first others far sends journal quiet after row calm groups asked front untold =
+rows_asked stay_law words scenario first others far sends journal quiet after row calm groups asked prefix untold =
     let s : System Player Mail OrderLine = players words (births as_nodes scenario) in
-    let then : IsPrefixOf journal ((quiet ++ after) ++ row ∷ []) = subst (IsPrefixOf journal) (sym (append_assoc quiet after (row ∷ []))) front in
+    let then : IsPrefixOf journal ((quiet ++ after) ++ row ∷ []) = subst (IsPrefixOf journal) (sym (append_assoc quiet after (row ∷ []))) prefix in
     let c = (last_in_time s (quiet ++ after) row (prefix_timely words scenario journal ((quiet ++ after) ++ row ∷ []) calm then)).0 in
     let told : is_told c.event ≡ false = ap (λ (x : Row Mail OrderLine). is_told x.event) (sym c.row_is) ∙ untold in
     subst (λ (x : Row Mail OrderLine). IsAskedSince words scenario first far sends journal quiet (after ++ x ∷ [])) (sym c.row_is)
@@ -242,7 +242,7 @@ rows_asked stay_law words scenario first others far sends journal quiet after ro
 
 pub asked_find : SentNodesMayPump → RequestsFindCalm → AskedRowsFindCalm
 asked_find pump_law find_law words scenario first others far sends journal quiet after seat event calm groups asked seated in_order own near =
-    find_law words scenario first others far sends journal quiet after seat event calm groups asked.rests asked.known asked.requested asked.front seated in_order own (pump_law words scenario journal (quiet ++ after) calm asked.front asked.sent) near
+    find_law words scenario first others far sends journal quiet after seat event calm groups asked.rests asked.known asked.requested asked.prefix seated in_order own (pump_law words scenario journal (quiet ++ after) calm asked.prefix asked.sent) near
 
 -- ---- the groups stay the same, and the journal rests again
 
@@ -254,7 +254,7 @@ module _ (all_bounded : ValidScenariosAreBounded) (frames_law : QuietJournalsHav
 
   module _ (last_law : ReplicasLast) (name : Draw) where
     goes_on_there : IsThere (births as_nodes scenario) quiet name → IsThere (births as_nodes scenario) (quiet ++ after) name
-    goes_on_there there = (let later = last_law words scenario quiet after name there.0 there.1 (prefix_timely words scenario journal (quiet ++ after) calm asked.front) there.2 in (there.0, later.0, later.1))
+    goes_on_there there = (let later = last_law words scenario quiet after name there.0 there.1 (prefix_timely words scenario journal (quiet ++ after) calm asked.prefix) there.2 in (there.0, later.0, later.1))
 
     same_groups : (IsThere (births as_nodes scenario) (quiet ++ after) name → IsThere (births as_nodes scenario) quiet name) × (IsThere (births as_nodes scenario) quiet name → IsThere (births as_nodes scenario) (quiet ++ after) name)
     same_groups = (was_there all_bounded found_law words scenario first far sends journal quiet after calm asked is_setting name, goes_on_there)
@@ -265,10 +265,10 @@ module _ (all_bounded : ValidScenariosAreBounded) (frames_law : QuietJournalsHav
     rests = asked.rests
 
     q : IsQuietPrefix words scenario journal quiet
-    q = record { calm = calm; begins = asked.rests.front; quiet = asked.rests.calm; sent = asked.rests.sent }
+    q = record { calm = calm; begins = asked.rests.prefix; quiet = asked.rests.calm; sent = asked.rests.sent }
 
-    front : IsQuietPrefix words scenario journal (quiet ++ after)
-    front = record { calm = calm; begins = asked.front; quiet = still; sent = asked.sent }
+    prefix : IsQuietPrefix words scenario journal (quiet ++ after)
+    prefix = record { calm = calm; begins = asked.prefix; quiet = still; sent = asked.sent }
 
     -- a group's ballot has the round that it had
     same_round : (base : Base) (among : Among base (groups_at as_nodes scenario.groups journal)) → (asked.sent base among).course.ballot.round ≡ (rests.sent base among).course.ballot.round
@@ -284,7 +284,7 @@ module _ (all_bounded : ValidScenariosAreBounded) (frames_law : QuietJournalsHav
 
     few_rounds : (name : Draw) (node : ℕ) (r : ReplicaState) → view_at (births as_nodes scenario) (quiet ++ after) name node ≡ Some r → r.top.round ≤ orders (quiet ++ after) + 1
     few_rounds name node r e =
-        let g = named_there found_law words scenario journal (quiet ++ after) calm asked.front name (node, r, e) in
+        let g = named_there found_law words scenario journal (quiet ++ after) calm asked.prefix name (node, r, e) in
         let here : view_at (births as_nodes scenario) (quiet ++ after) g.0.core.id node ≡ Some r = ap (λ n. view_at (births as_nodes scenario) (quiet ++ after) n node) g.2 ∙ e in
         let top = seen_law.most (logged_sets as_nodes g.0 journal) (over_at as_nodes g.0 journal) (slot_leaders_at as_nodes scenario g.0 journal) words (births as_nodes scenario) (quiet ++ after) g.0 (asked.sent g.0 g.1) node r here in
         let was = seen_law.quiet words (logged_sets as_nodes g.0 journal) (over_at as_nodes g.0 journal) (slot_leaders_at as_nodes scenario g.0 journal) scenario quiet g.0 (rests.sent g.0 g.1) (quiet_marks no_law words scenario journal quiet q g.0.core.id)
@@ -294,11 +294,11 @@ module _ (all_bounded : ValidScenariosAreBounded) (frames_law : QuietJournalsHav
         omega (arith, top, was, same, more)
 
     in_turn : (later : Draw → ℕ) × GoInTurn (names_at (births as_nodes scenario) (quiet ++ after)) (all_replicas (births as_nodes scenario) (quiet ++ after)) later
-    in_turn = turn_law words scenario journal quiet after rests.turn q (free_law words scenario journal quiet q rests.still) front (none_goes all_bounded found_law words scenario first far sends journal quiet after calm asked is_setting) rests.turns
+    in_turn = turn_law words scenario journal quiet after rests.turn q (free_law words scenario journal quiet q rests.still) prefix (none_goes all_bounded found_law words scenario first far sends journal quiet after calm asked is_setting) rests.turns
 
     rests_again : RestsAt words scenario first journal (quiet ++ after)
-    unfolding front
-    rests_again = leave_law words scenario first others far sends journal quiet after groups rests asked.known asked.requested front (record {
+    unfolding prefix
+    rests_again = leave_law words scenario first others far sends journal quiet after groups rests asked.known asked.requested prefix (record {
       errands = errands;
       rounds = few_rounds;
       rising = asked.rising;

@@ -43,11 +43,11 @@ module _ (begun : Requests) (frame : Frame) (is : IsFrame frame) where
 
   -- at a node that left, only what is to be accepted comes, which leaves the state as it is
   group_same : (me from : ℕ) (body : MailBody) (r : ReplicaState) (place : Place) → is_member frame.core.members me ≡ false → IsPlainBody begun frame from me body → Does begun frame is me r from body place → place.0.group ≡ r.group
-  group_same me from (Accept group ballot slot command) r place left b does = does.group_is
-  group_same me from (Request group client seq op) r place left b does = absurd (away me left does.0)
-  group_same me from (Accepted group ballot slot) r place left b does = absurd (away me left does.0)
-  group_same me from (Learn group slot command) r place left b does = absurd (both_ways (is_member frame.core.members me) left b.1.to_in)
-  group_same me from _ r place left b does = absurd does
+  group_same me from (Accept group ballot slot command) r place left b response = response.group_is
+  group_same me from (Request group client seq op) r place left b response = absurd (away me left response.0)
+  group_same me from (Accepted group ballot slot) r place left b response = absurd (away me left response.0)
+  group_same me from (Learn group slot command) r place left b response = absurd (both_ways (is_member frame.core.members me) left b.1.to_in)
+  group_same me from _ r place left b response = absurd response
 
   module _ (ways : Ways) (bounded : AreBounded ways) where
     -- what a plain replica finds in a mail of its group
@@ -90,7 +90,7 @@ module _ (begun : Requests) (set : Setting) (is : IsSetting set) (chart : Chart)
           same = row.0.name_is;
         };
         may = may_take begun m.frame frame_is chart.ways counts.bounded node.me mail.from mail.body here.0 k says d.0 not_client;
-        alone = λ led. plain_owes begun m.frame frame_is node.me here.0 (after_mail mail.from mail.body here.0).0 k row.0.after (λ left. group_same begun m.frame frame_is node.me mail.from mail.body here.0 (after_mail mail.from mail.body here.0) left says row.0.does);
+        alone = λ led. plain_owes begun m.frame frame_is node.me here.0 (after_mail mail.from mail.body here.0).0 k row.0.after (λ left. group_same begun m.frame frame_is node.me mail.from mail.body here.0 (after_mail mail.from mail.body here.0) left says row.0.response);
       })
 
   -- a hint of one that does not run is nearer

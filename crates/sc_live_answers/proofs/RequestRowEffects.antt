@@ -166,11 +166,11 @@ module _ (begun : Requests) (frame : Frame) (is : IsFrame frame) (r : ReplicaSta
   pub serves_row : (me : ℕ) (body : MailBody) → IsPlainAt begun frame me r → IsPlainBody begun frame from me body → IsDue r body → ((client seq : ℕ) (op : Op) → begun client seq op → me ≡ client_actor client → ⊥) → Serves frame me body r (mailed from body (r, [])).0.0
   unfolding mailed
   serves_row me (Request group client seq op) k b due not_client =
-      by_request me (Request group client seq op) client seq op (mailed from (Request group client seq op) (r, [])).0 k (leaves_bare r _ (request_kept client seq op r [])) (replica_row begun frame is r from room me (Request group client seq op) k b due not_client).0.does
+      by_request me (Request group client seq op) client seq op (mailed from (Request group client seq op) (r, [])).0 k (leaves_bare r _ (request_kept client seq op r [])) (replica_row begun frame is r from room me (Request group client seq op) k b due not_client).0.response
   serves_row me (Accepted group ballot slot) k b due not_client =
       by_vote me (Accepted group ballot slot) slot (mailed from (Accepted group ballot slot) (r, [])).0
       (λ c. (vote_goes begun frame is r r (record { group = c.plain.group; me_is = c.plain.me_is; running = c.leader.running; ready = c.leader.ready; leaves = leaves_itself r }) c.leader.flights from ballot slot).leaves)
-      (replica_row begun frame is r from room me (Accepted group ballot slot) k b due not_client).0.does
+      (replica_row begun frame is r from room me (Accepted group ballot slot) k b due not_client).0.response
   serves_row me (Accept group ballot slot command) k b due not_client =
       subst (λ (x : Ballot). Serves frame me (Accept group x slot command) r (mailed from (Accept group x slot command) (r, [])).0.0) (sym b.1) (by_accept me group slot command k b.2.to_in due)
   serves_row me (Learn group slot command) k b due not_client =

@@ -3,7 +3,7 @@ use Rattle.std.proofs.Common.{◌≡◌, ℕ, ◌-◌, ◌≤◌, eqb, List, ◌
 use Rattle.std.specs.Prelude.{slice_get}
 use Rattle.sc_base.specs.Definitions.{Among, Each, client_actor}
 use Rattle.sc_node_table.specs.Values.{Op, Base, OrderLine, Mail, Node, Client, Seat, Event, Deliver, Go}
-use Rattle.sc_actor.specs.Definitions.{mails, numbered, value, row_of, has_gone, waiting, kth}
+use Rattle.sc_actor.specs.Definitions.{mails, numbered, value, row_of, has_started, waiting, kth}
 use Rattle.sc_client_table.specs.Definitions.{Client as ClientState}
 use Rattle.sc_scenario.specs.declared.scenarios.Asks.{Asks}
 use Rattle.sc_scenario.specs.declared.scenarios.Scenario.{Scenario}
@@ -73,7 +73,7 @@ module _ (heard : AnswersAreHeardCalmly) (goes : ClientsGoCalmly) (words : ℕ �
         let same : first.mail ≡ mail = some_mail (sym first.sent ∙ sent) in
         let calm = (subst (Each (IsCalmMail (IsBegun scenario rows) set)) first.first (j.left (client_actor asks.client) there)).0 in
         subst (IsCalmFor chart (led_elsewhere (births as_nodes scenario) rows (client_actor asks.client)) mail) (sym c.is)
-        (heard scenario rows set chart (led_elsewhere (births as_nodes scenario) rows (client_actor asks.client)) asks (has_gone rows (client_actor asks.client)) c.client mail is linked reached counts c.calm
+        (heard scenario rows set chart (led_elsewhere (births as_nodes scenario) rows (client_actor asks.client)) asks (has_started rows (client_actor asks.client)) c.client mail is linked reached counts c.calm
         (subst (IsCalmMail (IsBegun scenario rows) set) same calm)
         (ap (λ (m : Mail). m.to) (sym same) ∙ (first.receiver ∙ ap client_actor (sym c.calm.me_is)))
         known_op (leads asks c.client a c.is) (expects asks c.client number mail a c.is fine sent))

@@ -3,7 +3,7 @@ use Rattle.std.proofs.Common.{◌≡◌, ℕ, ◌+◌, ◌≤◌, true, List, []
 use Rattle.std.proofs.lemmas.Bool.{cases_Bool}
 use Rattle.sc_base.specs.Definitions.{Among, client_actor}
 use Rattle.sc_node_table.specs.Values.{Draw, Base, OrderLine, Mail, Seat, Client}
-use Rattle.sc_actor.specs.Definitions.{mails, System, has_gone, is_quiet, value}
+use Rattle.sc_actor.specs.Definitions.{mails, System, has_started, is_quiet, value}
 use Rattle.sc_live_orderly.specs.Definitions.{is_born, orders, AreInTime}
 use Rattle.sc_live_orderly.proofs.Lemmas.{in_time_tidy, quiet-empty, seat_found}
 use Rattle.sc_scenario.specs.declared.scenarios.Scenario.{Scenario}
@@ -40,17 +40,17 @@ module _ (all_bounded : ValidScenariosAreBounded) (few_law : SlotsAreLeft) (born
   under = o.under
 
   timely : AreInTime s rows
-  timely = prefix_timely words scenario journal rows calm under.front
+  timely = prefix_timely words scenario journal rows calm under.prefix
 
   named : (name : Draw) → IsThere all rows name → IsNamedGroup scenario journal name
-  named = named_there found_law words scenario journal rows calm under.front
+  named = named_there found_law words scenario journal rows calm under.prefix
 
   group : (base : Base) → Among base (groups_at as_nodes scenario.groups journal) → IsGroupOf as_nodes words scenario journal base
   group base among = record { open_slots = refl; valid = calm.valid; lawful = calm.lawful; stands = among }
 
   -- no act waits where nothing is in flight
   none_waits : (name : Draw) (node : ℕ) (r : ReplicaState) → view_at all rows name node ≡ Some r → r.running ≡ true → r.leader.flights ≡ [] → r.acts ≡ []
-  none_waits = waits_law.over words scenario journal rows calm under.front under.sent still o.waits
+  none_waits = waits_law.over words scenario journal rows calm under.prefix under.sent still o.waits
 
   -- nothing is left at a leader
   nothing : (name : Draw) (node : ℕ) (r : ReplicaState) → view_at all rows name node ≡ Some r → r.running ≡ true → HasNothing r
@@ -58,11 +58,11 @@ module _ (all_bounded : ValidScenariosAreBounded) (few_law : SlotsAreLeft) (born
       let g = named name (node, r, e) in
       let t = under.sent g.0 g.1 in
       let here : view_at all rows g.0.core.id node ≡ Some r = ap (λ n. view_at all rows n node) g.2 ∙ e in
-      let left = few_law words scenario rows name node r timely (prefix_short words scenario journal rows calm under.front) e in
+      let left = few_law words scenario rows name node r timely (prefix_short words scenario journal rows calm under.prefix) e in
       let low = left.0 in
       nothing_law (logged_sets as_nodes g.0 journal) (over_at as_nodes g.0 journal) (slot_leaders_at as_nodes scenario g.0 journal) words all rows g.0 t.course node r (born_law scenario) (rosters_law.rosters as_nodes words scenario journal g.0 (group g.0 g.1)) timely still
-      (no_law.strangers words scenario journal rows calm under.front under.sent g.0.core.id) t.led here runs (omega (arith, low))
-      (λ none. (ap works_in (none_waits name node r e runs none), ap works_in (o.work.replicas name node r e).calls))
+      (no_law.strangers words scenario journal rows calm under.prefix under.sent g.0.core.id) t.led here runs (omega (arith, low))
+      (λ none. (ap works_in (none_waits name node r e runs none), ap works_in (o.work.replicas name node r e).backlog))
 
   over : IsAt Still (scene_at all rows)
   over = (over_law.over words all rows timely still (actors_law words scenario (mails rows) o.home) nothing (under.stage, under.untouched.stands)).0
@@ -70,8 +70,8 @@ module _ (all_bounded : ValidScenariosAreBounded) (few_law : SlotsAreLeft) (born
   -- no mail is under way
   none_quiet : (name : Draw) (who : ℕ) → marks_at s quiet name who ≡ []
   none_quiet name who = elim (cases_Bool (is_born s who)) [
-    | inl t ↦ ap (marks_of name) (quiet-empty s quiet who (in_time_tidy s quiet (prefix_timely words scenario journal quiet calm under.rests.front)) t under.rests.calm)
-    | inr f ↦ no_law.strangers words scenario journal quiet calm under.rests.front under.rests.sent name who f
+    | inl t ↦ ap (marks_of name) (quiet-empty s quiet who (in_time_tidy s quiet (prefix_timely words scenario journal quiet calm under.rests.prefix)) t under.rests.calm)
+    | inr f ↦ no_law.strangers words scenario journal quiet calm under.rests.prefix under.rests.sent name who f
   ]
 
   -- rounds are few
@@ -96,32 +96,32 @@ module _ (all_bounded : ValidScenariosAreBounded) (few_law : SlotsAreLeft) (born
       (subst (λ bases. Among (client_seat (route_of first) asks) (client_seats bases scenario.clients)) (sym groups) (map_among (client_seat (route_of first)) scenario.clients asks a)))
 
   players_so : (asks : Asks) → Among asks scenario.clients → (client : ClientState) × (value player_table (client_seat (route_of first) asks) rows ≡ Client client) × (client.me ≡ asks.client) × (client.requests ≡ asks.ops)
-      × Among (has_gone rows (client_actor asks.client), client) under.rests.is.clients
+      × Among (has_started rows (client_actor asks.client), client) under.rests.is.clients
   players_so asks a =
       let p = under.rests.is.players asks a in
       let h = o.clients (client_seat (route_of first) asks) p.0 (seat_is asks a) p.1 in
       (p.0, h.0, p.2, p.3, subst (λ b. Among (b, p.0) under.rests.is.clients) (sym h.1) p.4)
 
   q : IsQuietPrefix words scenario journal rows
-  q = record { calm = calm; begins = under.front; quiet = still; sent = under.sent }
+  q = record { calm = calm; begins = under.prefix; quiet = still; sent = under.sent }
 
   -- groups went one after another
   in_turn : (turn : Draw → ℕ) × GoInTurn (names_at (births as_nodes scenario) rows) (all_replicas (births as_nodes scenario) rows) turn
   in_turn = subst (λ (xs : Rows). (turn : Draw → ℕ) × GoInTurn (names_at (births as_nodes scenario) xs) (all_replicas (births as_nodes scenario) xs) turn) (sym o.rows_are)
-      (turn_law words scenario first journal quiet o.behind under.stage calm under.rests (subst (IsPrefixOf journal) o.rows_are under.front) (subst (AreSent words scenario journal) o.rows_are under.sent)
+      (turn_law words scenario first journal quiet o.behind under.stage calm under.rests (subst (IsPrefixOf journal) o.rows_are under.prefix) (subst (AreSent words scenario journal) o.rows_are under.sent)
       (subst (λ xs. is_quiet (players words (births as_nodes scenario)) xs ≡ true) o.rows_are still) (subst (λ xs. IsGoingSince scenario journal quiet xs under.stage) o.rows_are o.goes))
 
   rests : RestsAt words scenario first journal rows
   unfolding q
   rests = rest_law words scenario first journal rows q (record {
     still = over;
-    done = λ name node r e runs. (let n = nothing name node r e runs in (none_waits name node r e runs n.flights, (o.work.replicas name node r e).calls));
+    done = λ name node r e runs. (let n = nothing name node r e runs in (none_waits name node r e runs n.flights, (o.work.replicas name node r e).backlog));
     rounds = few_rounds;
     rising = o.rising;
     clients = under.rests.is.clients;
     answered = under.rests.is.quiet.answered;
     players = players_so;
-    reached = reached_law.first words scenario journal rows first others calm under.front groups;
+    reached = reached_law.first words scenario journal rows first others calm under.prefix groups;
     turn = in_turn.0;
     turns = in_turn.1;
   })

@@ -29,8 +29,8 @@ none_went group into (r ∷ replicas) none e = step (same_draw (name_of r) group
 
 module _ (all_bounded : ValidScenariosAreBounded) (few_law : SlotsAreLeft) (stand_law : GroupsBeginStanding) (once_law : LawfulReplicasAreNamedOnce) (sent_law : GroupsBeginSent) (born_law : GroupsAreBornAsBegun) (begin_law : QuietJournalsBegin) (found_law : PrefixesAreFound) (agree_law : ViewsAgree) (rest_law : QuietJournalsRest)
     (words : ℕ → ℕ → ℕ × ℕ) (scenario : Scenario) (first : Base) (others : List Base) (journal : Rows) (groups : scenario.groups ≡ first ∷ others) (calm : IsCalmJournal words scenario journal) where
-  front : IsPrefixOf journal []
-  front = record { more = journal; is = refl }
+  prefix : IsPrefixOf journal []
+  prefix = record { more = journal; is = refl }
 
   group : (base : Base) → Among base (groups_at as_nodes scenario.groups journal) → IsGroupOf as_nodes words scenario journal base
   group base among = record { open_slots = refl; valid = calm.valid; lawful = calm.lawful; stands = among }
@@ -49,12 +49,12 @@ module _ (all_bounded : ValidScenariosAreBounded) (few_law : SlotsAreLeft) (stan
   sent base among = sent_law words scenario journal base (group base among) calm.timely (few base)
 
   q : IsQuietPrefix words scenario journal []
-  q = record { calm = calm; begins = front; quiet = refl; sent = sent }
+  q = record { calm = calm; begins = prefix; quiet = refl; sent = sent }
 
   -- each replica is as its group begins
   as_begun : (name : Draw) (node : ℕ) (r : ReplicaState) → view_at (births as_nodes scenario) [] name node ≡ Some r → (base : Base) × Among base (groups_at as_nodes scenario.groups journal) × (r ≡ born_replica slots_ahead node base)
   as_begun name node r e =
-      let g : IsNamedGroup scenario journal name = named_there found_law words scenario journal [] calm front name (node, r, e) in
+      let g : IsNamedGroup scenario journal name = named_there found_law words scenario journal [] calm prefix name (node, r, e) in
       let here : view_at (births as_nodes scenario) [] g.0.core.id node ≡ Some r = ap (λ n. view_at (births as_nodes scenario) [] n node) g.2 ∙ e in
       elim (born_law words scenario journal g.0 (group g.0 g.1) node) [
         | inl none ↦ absurd (none-some r (sym none ∙ here))
@@ -66,7 +66,7 @@ module _ (all_bounded : ValidScenariosAreBounded) (few_law : SlotsAreLeft) (stan
 
   none_gone : (r : ReplicaState) → Among r (all_replicas (births as_nodes scenario) []) → r.group.core.gone ≡ None
   none_gone r a =
-      let f = found_law words scenario journal [] calm front in
+      let f = found_law words scenario journal [] calm prefix in
       let p = place_of all_bounded once_law agree_law words scenario [] calm.valid f.lawful f.homes r a in
       let is = as_begun (name_of r) p.0 r p.1 in
       ap (λ (x : ReplicaState). x.group.core.gone) is.2 ∙ stand_law.stands as_nodes words scenario journal is.0 (group is.0 is.1)

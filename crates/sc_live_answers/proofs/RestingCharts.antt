@@ -3,7 +3,7 @@ use Rattle.std.proofs.Common.{◌≡◌, ℕ, ◌||◌, ◌⊎◌, Bool, true, f
 use Rattle.std.specs.Prelude.{is_some}
 use Rattle.sc_base.specs.Definitions.{Among, Each, client_actor}
 use Rattle.sc_node_table.specs.Values.{Draw, Base, OrderLine, Mail, Node, Client, Seat, Row}
-use Rattle.sc_actor.specs.Definitions.{value, are_apart, has_gone}
+use Rattle.sc_actor.specs.Definitions.{value, are_apart, has_started}
 use Rattle.sc_client_table.specs.Definitions.{Client as ClientState}
 use Rattle.sc_node_table.specs.Definitions.{NodeState, replica_of, born_node, ReplicaState, name_of, numbers_from, slots_ahead}
 use Rattle.sc_live_orderly.specs.Definitions.{AreInTime}
@@ -32,13 +32,13 @@ use Rattle.sc_live_answers.proofs.PlayerReplicas.{place_of}
 
 -- a group was led after some first rows
 record WasLed (births : List (Seat Player)) (rows : Rows) (name : Draw) : Type 0 where
-  front : Rows
+  prefix : Rows
   more : Rows
-  are : rows ≡ front ++ more
-  led : is_led births front name ≡ true
+  are : rows ≡ prefix ++ more
+  led : is_led births prefix name ≡ true
 
 led_now : (births : List (Seat Player)) (rows : Rows) (name : Draw) → is_led births rows name ≡ true → WasLed births rows name
-led_now births rows name led = record { front = rows; more = []; are = sym (append-nil rows); led = led }
+led_now births rows name led = record { prefix = rows; more = []; are = sym (append-nil rows); led = led }
 
 -- each name of a chart is of a group that was led
 names_were_led : (words : ℕ → ℕ → ℕ × ℕ) (births : List (Seat Player)) (rows : Rows) → AreInTime (players words births) rows → Each (WasLed births rows) (names_at births rows)
@@ -55,7 +55,7 @@ names_were_led words births rows timely = by_time (players words births) (λ l. 
         let grown = names_grow births l row in
         subst (Each (WasLed births (l ++ row ∷ []))) (sym grown.1)
         (Each-append (WasLed births (l ++ row ∷ [])) (names_at births l) grown.0
-        (Each-weaker (WasLed births l) (WasLed births (l ++ row ∷ [])) (λ name was. record { front = was.front; more = was.more ++ row ∷ []; are = ap (λ k. k ++ row ∷ []) was.are ∙ append_assoc was.front was.more (row ∷ []); led = was.led }) (names_at births l) were)
+        (Each-weaker (WasLed births l) (WasLed births (l ++ row ∷ [])) (λ name was. record { prefix = was.prefix; more = was.more ++ row ∷ []; are = ap (λ k. k ++ row ∷ []) was.are ∙ append_assoc was.prefix was.more (row ∷ []); led = was.led }) (names_at births l) were)
         (Each-weaker (λ name. is_led births (l ++ row ∷ []) name ≡ true) (WasLed births (l ++ row ∷ [])) (led_now births (l ++ row ∷ [])) grown.0 grown.2))
 
 -- one that leads is a replica
@@ -82,7 +82,7 @@ led_is_there births rows name apart led =
 
 module _ (found_law : PrefixesAreFound) (words : ℕ → ℕ → ℕ × ℕ) (scenario : Scenario) (first : Base) (journal quiet : Rows) (calm : IsCalmJournal words scenario journal) (rests : RestsAt words scenario first journal quiet) where
   seen_so : (name : Draw) (node : ℕ) → replicas_after scenario quiet name node ≡ view_at (births as_nodes scenario) quiet name node
-  seen_so = (found_law words scenario journal quiet calm rests.front).views
+  seen_so = (found_law words scenario journal quiet calm rests.prefix).views
 
   led_so : (name : Draw) → StandsQuiet (replicas_after scenario quiet) name ⊎ IsGoneQuiet (replicas_after scenario quiet) name → is_led (births as_nodes scenario) quiet name ≡ true
   led_so name (inl stands) = led_there (births as_nodes scenario) quiet name stands.lead.me stands.lead (sym (seen_so name stands.lead.me) ∙ stands.newest.is_there) (ap (λ b. b || is_some stands.lead.group.core.gone) stands.leads.running)
@@ -98,7 +98,7 @@ module _ (all_bounded : ValidScenariosAreBounded) (found_law : PrefixesAreFound)
   all = births as_nodes scenario
 
   views : (name : Draw) (node : ℕ) → replicas_after scenario rows name node ≡ view_at all rows name node
-  views = (found_law words scenario journal rows calm rests.front).views
+  views = (found_law words scenario journal rows calm rests.prefix).views
 
   apart : are_apart (births as_nodes scenario) ≡ true
   apart = (stage scenario (all_bounded scenario calm.valid)).seats_apart
@@ -107,8 +107,8 @@ module _ (all_bounded : ValidScenariosAreBounded) (found_law : PrefixesAreFound)
 
   led_still : (name : Draw) → WasLed all rows name → is_led all rows name ≡ true
   led_still name was =
-      let there = led_is_there all was.front name apart was.led in
-      let later = last_law words scenario was.front was.more name there.0 there.1 (subst (AreInTime (players words all)) was.are timely) there.2 in
+      let there = led_is_there all was.prefix name apart was.led in
+      let later = last_law words scenario was.prefix was.more name there.0 there.1 (subst (AreInTime (players words all)) was.are timely) there.2 in
       there_is_led found_law words scenario first journal rows calm rests name (there.0, later.0, ap (λ l. view_at all l name there.0) was.are ∙ later.1)
 
   all_led : AreAllLed all rows
@@ -118,7 +118,7 @@ module _ (all_bounded : ValidScenariosAreBounded) (found_law : PrefixesAreFound)
 
   node_rests : (seat : Seat Player) → Among seat all → (node : NodeState) → value player_table seat rows ≡ Node node → Each IsAtRest node.replicas
   node_rests seat a node is =
-      let f = found_law words scenario journal rows calm rests.front in
+      let f = found_law words scenario journal rows calm rests.prefix in
       Each-from IsAtRest node.replicas (λ r here. (
       let p = place_of all_bounded once_law agree_law words scenario rows calm.valid f.lawful f.homes r (in_all all rows (name_of r) all seat r a (subst (λ (x : Player). Among r (chart_replicas x)) (sym is) here)) in
       rests.is.quiet.at_rest (name_of r) p.0 r (views (name_of r) p.0 ∙ p.1)))
@@ -130,8 +130,8 @@ module _ (all_bounded : ValidScenariosAreBounded) (found_law : PrefixesAreFound)
   client_rests : (asks : Asks) → Among asks scenario.clients → IsResting (value player_table (client_seat (route_of first) asks) rows)
   client_rests asks a =
       let p = rests.is.players asks a in
-      let answer = Each-among (λ (client : Bool × ClientState). IsAnswered client.0 (route_of first) client.1) rests.is.clients (has_gone rows (client_actor asks.client), p.0) rests.is.quiet.answered p.4 in
-      subst IsResting (sym p.1) (waits_none (has_gone rows (client_actor asks.client)) p.0 answer)
+      let answer = Each-among (λ (client : Bool × ClientState). IsAnswered client.0 (route_of first) client.1) rests.is.clients (has_started rows (client_actor asks.client), p.0) rests.is.quiet.answered p.4 in
+      subst IsResting (sym p.1) (waits_none (has_started rows (client_actor asks.client)) p.0 answer)
 
   seat_rests : (seat : Seat Player) → Among seat all → IsResting (value player_table seat rows)
   seat_rests seat a = elim (Among-either seat (map (node_seat as_nodes scenario.groups scenario.policy) (numbers_from 1 scenario.nodes)) (client_seats scenario.groups scenario.clients) a) [

@@ -205,10 +205,10 @@ module _ (c : ℕ) (begun : Requests) (frame : Frame) (is : IsFrame frame) (me f
       let stopped = learnt_follower begun frame is me r p f is.leads client seq op call low in
       let same = ap (place_tokens c) (learn_is begun frame is me r p f is.leads client seq op call low from slot at) in
       let acts = ap (sum_by (command_token c)) after.acts in
-      let calls = ap (sum_by (command_token c)) stopped.calls in
+      let backlog = ap (sum_by (command_token c)) stopped.backlog in
       let flights = ap (flight_tokens c) stopped.flights in
       let ready = ap (ready_tokens c) stopped.ready in
-      omega (arith, same, acts, calls, flights, ready)
+      omega (arith, same, acts, backlog, flights, ready)
 
   pub stay_row : (body : MailBody) → IsPlainAt begun frame me r → IsPlainBody begun frame from me body → IsDue r body → ((client seq : ℕ) (op : Op) → begun client seq op → me ≡ client_actor client → ⊥) → place_tokens c (mailed from body (r, [])).0 ≤ replica_tokens c r + body_token c me body
   stay_row (Request group client seq op) k b due n = (let leads_ = leading_at begun frame is me r b.1.to_is k in by_request group client seq op leads_.1.taken leads_.1.leader)

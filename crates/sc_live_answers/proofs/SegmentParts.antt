@@ -81,11 +81,11 @@ module _ (laws : SegmentLaws) (words : ℕ → ℕ → ℕ × ℕ) (scenario : S
   OrdersSo quiet rows = IsOrderedSince words scenario first journal quiet (quiet ++ rows)
 
   prefix_before : (rows : Rows) (row : Row Mail OrderLine) → IsPrefixOf journal (rows ++ row ∷ []) → IsPrefixOf journal rows
-  prefix_before rows row front = record { more = row ∷ front.more; is = front.is ∙ append_assoc rows (row ∷ []) front.more }
+  prefix_before rows row prefix = record { more = row ∷ prefix.more; is = prefix.is ∙ append_assoc rows (row ∷ []) prefix.more }
 
   pub asks_none : (quiet : Rows) → IsPrefixOf journal quiet → RestsSo quiet → AsksSo quiet []
-  asks_none quiet front r = record {
-    asked = (laws.ask_law words scenario first others far sends journal quiet frame.calm frame.groups r.rests (frame.few quiet front).0).0;
+  asks_none quiet prefix r = record {
+    asked = (laws.ask_law words scenario first others far sends journal quiet frame.calm frame.groups r.rests (frame.few quiet prefix).0).0;
     reported = subst AreReported (sym (append-nil quiet)) r.reported;
     home = subst (λ (l : Rows). Each (GoesToNode scenario) (mails l)) (sym (append-nil quiet)) r.home;
     named = ap (names_at all) (append-nil quiet);
@@ -93,9 +93,9 @@ module _ (laws : SegmentLaws) (words : ℕ → ℕ → ℕ × ℕ) (scenario : S
 
   -- requests go on by a row
   asks_row : (quiet rows : Rows) (row : Row Mail OrderLine) → IsPrefixOf journal (quiet ++ (rows ++ row ∷ [])) → RestsSo quiet → AsksSo quiet rows → is_told row.event ≡ false → AsksSo quiet (rows ++ row ∷ [])
-  asks_row quiet rows row front r a untold =
+  asks_row quiet rows row prefix r a untold =
       let shift = append_assoc quiet rows (row ∷ []) in
-      let later = laws.stay_law words scenario first others far sends journal quiet rows row frame.calm frame.groups a.asked front untold in
+      let later = laws.stay_law words scenario first others far sends journal quiet rows row frame.calm frame.groups a.asked prefix untold in
       record {
         asked = later;
         reported = subst AreReported shift (reported_on (quiet ++ rows) row untold a.reported);
@@ -110,7 +110,7 @@ module _ (laws : SegmentLaws) (words : ℕ → ℕ → ℕ × ℕ) (scenario : S
       → FindsCalm (chart_at far sends s (quiet ++ rows)) all (quiet ++ rows) seat event
   asks_find quiet rows last r a seat event seated order =
       let known = r.named in
-      let many = (frame.few quiet r.rests.front).1 in
+      let many = (frame.few quiet r.rests.prefix).1 in
       let near = laws.near_law words scenario first others far sends journal quiet rows frame.calm frame.groups r.rests a.asked.known a.asked.requested last (omega (arith, known, many)) in
       laws.find_law words scenario first others far sends journal quiet rows seat event frame.calm frame.groups a.asked seated order last near
 
@@ -118,13 +118,13 @@ module _ (laws : SegmentLaws) (words : ℕ → ℕ → ℕ × ℕ) (scenario : S
   event_of row = row.event
 
   -- what the row of an order gives
-  module _ (quiet : Rows) (row : Row Mail OrderLine) (front : IsPrefixOf journal (quiet ++ row ∷ [])) (timely : AreInTime s (quiet ++ row ∷ [])) (r : RestsSo quiet) (seat : Seat Player) (line : OrderLine) (is : row ≡ row_of player_table seat quiet (Told line)) (seated : IsSeat all seat) where
+  module _ (quiet : Rows) (row : Row Mail OrderLine) (prefix : IsPrefixOf journal (quiet ++ row ∷ [])) (timely : AreInTime s (quiet ++ row ∷ [])) (r : RestsSo quiet) (seat : Seat Player) (line : OrderLine) (is : row ≡ row_of player_table seat quiet (Told line)) (seated : IsSeat all seat) where
     abbrev told_all : IsOrderedSince words scenario first journal quiet (with_event quiet seat (Told line)) × StageAfter all quiet seat (Told line) Still × ((far_ sent : ℕ) → FindsCalm (chart_at far_ sent s quiet) all quiet seat (Told line))
     told_all =
-        laws.told_law words scenario first journal quiet seat line frame.calm r.rests r.home seated (subst (λ x. IsPrefixOf journal (quiet ++ x ∷ [])) is front) (subst (λ x. AreInTime s (quiet ++ x ∷ [])) is timely)
+        laws.told_law words scenario first journal quiet seat line frame.calm r.rests r.home seated (subst (λ x. IsPrefixOf journal (quiet ++ x ∷ [])) is prefix) (subst (λ x. AreInTime s (quiet ++ x ∷ [])) is timely)
 
-    pub told_row : OrdersSo quiet (row ∷ [])
-    told_row = subst (λ x. OrdersSo quiet (x ∷ [])) (sym is) told_all.0
+    pub row_of_entry : OrdersSo quiet (row ∷ [])
+    row_of_entry = subst (λ x. OrdersSo quiet (x ∷ [])) (sym is) told_all.0
 
     pub told_finds : FindsCalm (chart_at far sends s quiet) all quiet seat (Told line)
     told_finds = told_all.2 far sends
@@ -133,9 +133,9 @@ module _ (laws : SegmentLaws) (words : ℕ → ℕ → ℕ × ℕ) (scenario : S
     told_stage = told_all.1
 
   -- what a delivery does while an order is under way
-  module _ (quiet rows : Rows) (row : Row Mail OrderLine) (front : IsPrefixOf journal (rows ++ row ∷ [])) (timely : AreInTime s (rows ++ row ∷ [])) (o : IsOrderedSince words scenario first journal quiet rows) (seat : Seat Player) (number : ℕ) (is : row ≡ row_of player_table seat rows (Deliver number)) (seated : IsSeat all seat) where
+  module _ (quiet rows : Rows) (row : Row Mail OrderLine) (prefix : IsPrefixOf journal (rows ++ row ∷ [])) (timely : AreInTime s (rows ++ row ∷ [])) (o : IsOrderedSince words scenario first journal quiet rows) (seat : Seat Player) (number : ℕ) (is : row ≡ row_of player_table seat rows (Deliver number)) (seated : IsSeat all seat) where
     goes_by : ContinuesBy words scenario journal rows seat number
-    goes_by = record { front = subst (λ x. IsPrefixOf journal (rows ++ x ∷ [])) is front; seated = seated; timely = subst (λ x. AreInTime s (rows ++ x ∷ [])) is timely }
+    goes_by = record { prefix = subst (λ x. IsPrefixOf journal (rows ++ x ∷ [])) is prefix; seated = seated; timely = subst (λ x. AreInTime s (rows ++ x ∷ [])) is timely }
 
     abbrev delivered_all : IsOrderedSince words scenario first journal quiet (with_event rows seat (Deliver number)) × StageAfter all rows seat (Deliver number) o.under.stage
         × ((far_ sent : ℕ) → quiet_prefix s rows ≡ quiet → DoHintsRise (replicas_after scenario quiet) (chart_at far_ sent s rows).ways → FindsCalm (chart_at far_ sent s rows) all rows seat (Deliver number))
@@ -154,26 +154,26 @@ module _ (laws : SegmentLaws) (words : ℕ → ℕ → ℕ × ℕ) (scenario : S
   parts = record {
     prefixes = prefix_before;
     begins = record { rests = laws.begin_law words scenario first others journal frame.groups frame.calm; reported = λ line given. absurd given.among; home = tt; named = laws.names_law.born words scenario journal frame.calm };
-    goes = λ quiet row front timely r untold. asks_row quiet [] row front r (asks_none quiet (prefix_before quiet row front) r) untold;
-    asks = λ quiet rows row front timely r a untold. asks_row quiet rows row front r a untold;
-    told = λ quiet row front timely r told. (
+    goes = λ quiet row prefix timely r untold. asks_row quiet [] row prefix r (asks_none quiet (prefix_before quiet row prefix) r) untold;
+    asks = λ quiet rows row prefix timely r a untold. asks_row quiet rows row prefix r a untold;
+    told = λ quiet row prefix timely r told. (
         let c = (last_in_time s quiet row timely).0 in
         let t = told_line c.event (ap is_told (sym (ap event_of c.row_is)) ∙ told) in
-        told_row quiet row front timely r c.seat t.0 (c.row_is ∙ ap (row_of player_table c.seat quiet) t.1) c.born);
-    orders = λ quiet rows row number front timely r o is. (
+        row_of_entry quiet row prefix timely r c.seat t.0 (c.row_is ∙ ap (row_of player_table c.seat quiet) t.1) c.born);
+    orders = λ quiet rows row number prefix timely r o is. (
         let shift = append_assoc quiet rows (row ∷ []) in
         let timely_row = subst (AreInTime s) (sym shift) timely in
         let c = (last_in_time s (quiet ++ rows) row timely_row).0 in
         let event : c.event ≡ Deliver number = sym (ap event_of c.row_is) ∙ is in
         subst (λ l. IsOrderedSince words scenario first journal quiet l) shift
-        (delivered_row quiet (quiet ++ rows) row (subst (IsPrefixOf journal) (sym shift) front) timely_row o c.seat number (c.row_is ∙ ap (row_of player_table c.seat (quiet ++ rows)) event) c.born));
-    answered = λ quiet rows front timely r a still. record {
+        (delivered_row quiet (quiet ++ rows) row (subst (IsPrefixOf journal) (sym shift) prefix) timely_row o c.seat number (c.row_is ∙ ap (row_of player_table c.seat (quiet ++ rows)) event) c.born));
+    answered = λ quiet rows prefix timely r a still. record {
       rests = laws.again_law words scenario first others far sends journal quiet rows frame.calm frame.groups a.asked still (laws.actors_law words scenario (mails (quiet ++ rows)) a.home);
       reported = a.reported;
       home = a.home;
       named = (let same = ap length a.named in let low = r.named in let more = orders_more quiet rows in omega (arith, same, low, more));
     };
-    over = λ quiet rows front timely r o still. record {
+    over = λ quiet rows prefix timely r o still. record {
       rests = laws.over_law words scenario first others journal quiet (quiet ++ rows) frame.groups frame.calm o still;
       reported = λ line given. elim (o.only line given) [
         | inl before ↦ subst (λ ms. IsReported ms line.number) (sym (mails-append quiet rows)) (reported_more line.number (mails quiet) (mails rows) (r.reported line before))
@@ -197,4 +197,4 @@ module _ (laws : SegmentLaws) (words : ℕ → ℕ → ℕ × ℕ) (scenario : S
 
   -- each prefix falls into such segments
   pub segment_at : (rows : Rows) → IsPrefixOf journal rows → AreInTime s rows → IsSegment s RestsSo AsksSo OrdersSo rows
-  segment_at rows front timely = segments s RestsSo AsksSo OrdersSo (IsPrefixOf journal) parts rows front timely
+  segment_at rows prefix timely = segments s RestsSo AsksSo OrdersSo (IsPrefixOf journal) parts rows prefix timely

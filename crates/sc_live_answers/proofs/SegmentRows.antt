@@ -99,20 +99,20 @@ module _ (segment : SegmentLaws) (laws : RowLaws) (words : ℕ → ℕ → ℕ �
 
   -- a quiet prefix rests
   pub quiet_rests : (rows : Rows) → IsPrefixOf journal rows → AreInTime s rows → is_quiet s rows ≡ true → Rests rows
-  quiet_rests rows front timely quiet = subst Rests (prefix_whole s rows quiet) (segment_of rows front timely).rests
+  quiet_rests rows prefix timely quiet = subst Rests (prefix_whole s rows quiet) (segment_of rows prefix timely).rests
 
   pub rests_calm : (rows : Rows) → IsPrefixOf journal rows → AreInTime s rows → is_quiet s rows ≡ true → RestsCalm all (chart []) (chart rows) rows
-  rests_calm rows front timely quiet =
-      rests_by_chart laws.all_bounded laws.found_law laws.once_law laws.agree_law laws.last_law laws.rest_law words scenario first others journal rows frame.groups frame.calm timely (quiet_rests rows front timely quiet).rests far sends
+  rests_calm rows prefix timely quiet =
+      rests_by_chart laws.all_bounded laws.found_law laws.once_law laws.agree_law laws.last_law laws.rest_law words scenario first others journal rows frame.groups frame.calm timely (quiet_rests rows prefix timely quiet).rests far sends
 
   none_waits : (rows : Rows) → IsPrefixOf journal rows → AreInTime s rows → is_quiet s rows ≡ true → Each (λ other. WaitsForNone (value player_table other rows)) all
-  none_waits rows front timely quiet =
+  none_waits rows prefix timely quiet =
       Each-weaker (λ other. IsResting (value player_table other rows)) (λ other. WaitsForNone (value player_table other rows)) (λ other is. waits_none (value player_table other rows) is) all
-      (all_rest laws.all_bounded laws.found_law laws.once_law laws.agree_law laws.last_law laws.rest_law words scenario first others journal rows frame.groups frame.calm timely (quiet_rests rows front timely quiet).rests)
+      (all_rest laws.all_bounded laws.found_law laws.once_law laws.agree_law laws.last_law laws.rest_law words scenario first others journal rows frame.groups frame.calm timely (quiet_rests rows prefix timely quiet).rests)
 
   -- all groups of a prefix are well led
   sent_at : (rows : Rows) → IsPrefixOf journal rows → AreInTime s rows → AreSent words scenario journal rows
-  sent_at rows front timely = by (segment_of rows front timely)
+  sent_at rows prefix timely = by (segment_of rows prefix timely)
     where
       by : IsSegment s Rests Asks Orders rows → AreSent words scenario journal rows
       by seg = elim seg.is [
@@ -124,23 +124,23 @@ module _ (segment : SegmentLaws) (laws : RowLaws) (words : ℕ → ℕ → ℕ �
       ]
 
   lone_at : (rows : Rows) → IsPrefixOf journal rows → AreInTime s rows → AllLeadAlone all rows
-  lone_at rows front timely = all_lead laws.all_bounded laws.found_law laws.alone_law laws.once_law laws.agree_law words scenario journal rows frame.calm front (sent_at rows front timely)
+  lone_at rows prefix timely = all_lead laws.all_bounded laws.found_law laws.alone_law laws.once_law laws.agree_law words scenario journal rows frame.calm prefix (sent_at rows prefix timely)
 
   -- by the chart of rows behind a quiet prefix hints rise there
   hints_rise : (quiet later : Rows) → RestsAt words scenario first journal quiet → quiet_prefix s later ≡ quiet → DoHintsRise (replicas_after scenario quiet) (chart later).ways
   hints_rise quiet later rests last =
-      let found = laws.found_law words scenario journal quiet frame.calm rests.front in
-      (laws.rise_law words scenario first others journal quiet later far sends (frames_after scenario quiet) frame.calm.valid frame.groups found.lawful rests found.homes last (frame.few quiet rests.front).0
+      let found = laws.found_law words scenario journal quiet frame.calm rests.prefix in
+      (laws.rise_law words scenario first others journal quiet later far sends (frames_after scenario quiet) frame.calm.valid frame.groups found.lawful rests found.homes last (frame.few quiet rests.prefix).0
       (laws.frames_law words scenario first quiet frame.calm.valid found.lawful rests.is found.homes)).0
 
   -- ---- a row
 
-  module _ (rows : Rows) (row : Row Mail OrderLine) (front : IsPrefixOf journal (rows ++ row ∷ [])) (timely : AreInTime s (rows ++ row ∷ [])) where
+  module _ (rows : Rows) (row : Row Mail OrderLine) (prefix : IsPrefixOf journal (rows ++ row ∷ [])) (timely : AreInTime s (rows ++ row ∷ [])) where
     before : AreInTime s rows
     before = in_time_before s rows row timely
 
     here : IsPrefixOf journal rows
-    here = record { more = row ∷ front.more; is = front.is ∙ append_assoc rows (row ∷ []) front.more }
+    here = record { more = row ∷ prefix.more; is = prefix.is ∙ append_assoc rows (row ∷ []) prefix.more }
 
     seg : IsSegment s Rests Asks Orders rows
     seg = segment_of rows here before
@@ -168,7 +168,7 @@ module _ (segment : SegmentLaws) (laws : RowLaws) (words : ℕ → ℕ → ℕ �
 
     cases : HasAsked ⊎ HasOrdered
     cases = elim seg.is [
-      | inl none ↦ inl (record { behind = []; rows_are = seg.rows_are ∙ ap (λ b. quiet_prefix s rows ++ b) none; asks = parts_of.asks_none segment words scenario first others far sends journal frame (quiet_prefix s rows) seg.rests.rests.front seg.rests })
+      | inl none ↦ inl (record { behind = []; rows_are = seg.rows_are ∙ ap (λ b. quiet_prefix s rows ++ b) none; asks = parts_of.asks_none segment words scenario first others far sends journal frame (quiet_prefix s rows) seg.rests.rests.prefix seg.rests })
       | inr some ↦ elim some [ inl asks ↦ inl (record { behind = seg.behind; rows_are = seg.rows_are; asks = asks }) | inr order ↦ inr (record { behind = seg.behind; rows_are = seg.rows_are; order = order }) ]
     ]
 
@@ -178,7 +178,7 @@ module _ (segment : SegmentLaws) (laws : RowLaws) (words : ℕ → ℕ → ℕ �
     -- an order goes on by deliveries alone
     only_delivers : (h : HasOrdered) → is_told row.event ≡ false → (number : ℕ) × (row.event ≡ Deliver number)
     only_delivers h untold =
-        delivered s Rests Asks Orders (IsPrefixOf journal) (parts_of.parts segment words scenario first others far sends journal frame) rows row front timely (quiet_prefix s rows) h.behind h.rows_are refl h.order untold
+        delivered s Rests Asks Orders (IsPrefixOf journal) (parts_of.parts segment words scenario first others far sends journal frame) rows row prefix timely (quiet_prefix s rows) h.behind h.rows_are refl h.order untold
 
     -- ---- what it finds
 
@@ -192,13 +192,13 @@ module _ (segment : SegmentLaws) (laws : RowLaws) (words : ℕ → ℕ → ℕ �
 
     order_finds : (h : HasOrdered) (seat : Seat Player) (number : ℕ) → IsSeat all seat → row ≡ row_of player_table seat rows (Deliver number) → FindsCalm (chart rows) all rows seat (Deliver number)
     order_finds h seat number seated is =
-        parts_of.delivered_finds segment words scenario first others far sends journal frame (quiet_prefix s rows) rows row front timely (order_at h) seat number is seated refl (hints_rise (quiet_prefix s rows) rows seg.rests.rests refl)
+        parts_of.delivered_finds segment words scenario first others far sends journal frame (quiet_prefix s rows) rows row prefix timely (order_at h) seat number is seated refl (hints_rise (quiet_prefix s rows) rows seg.rests.rests refl)
 
     told_rests : (line : OrderLine) → row.event ≡ Told line → Rests rows
     told_rests line is = quiet_rests rows here before (subst (ComesInTime s rows) is comes.1)
 
     finds : (seat : Seat Player) (event : Event OrderLine) → IsSeat all seat → row ≡ row_of player_table seat rows event → FindsCalm (chart rows) all rows seat event
-    finds seat (Told line) seated is = parts_of.told_finds segment words scenario first others far sends journal frame rows row front timely (told_rests line (ap event_of is)) seat line is seated
+    finds seat (Told line) seated is = parts_of.told_finds segment words scenario first others far sends journal frame rows row prefix timely (told_rests line (ap event_of is)) seat line is seated
     finds seat (Deliver number) seated is = elim cases [
       | inl asked ↦ asked_finds asked seat (Deliver number) seated (calm_event seat (Deliver number) is)
       | inr order ↦ order_finds order seat number seated is
@@ -216,14 +216,14 @@ module _ (segment : SegmentLaws) (laws : RowLaws) (words : ℕ → ℕ → ℕ �
     asked_same h untold mail a tx coord hint body =
         let shift = append_assoc (quiet_prefix s rows) h.behind (row ∷ []) in
         let whole : rows ++ row ∷ [] ≡ quiet_prefix s rows ++ (h.behind ++ row ∷ []) = ap (λ l. l ++ row ∷ []) h.rows_are ∙ shift in
-        let later = (parts_of.parts segment words scenario first others far sends journal frame).asks (quiet_prefix s rows) h.behind row (subst (IsPrefixOf journal) whole front) (subst (AreInTime s) whole timely) seg.rests h.asks untold in
+        let later = (parts_of.parts segment words scenario first others far sends journal frame).asks (quiet_prefix s rows) h.behind row (subst (IsPrefixOf journal) whole prefix) (subst (AreInTime s) whole timely) seg.rests h.asks untold in
         let w = with_other (λ m. is_born s (s.receiver m)) (λ m. eqb (s.receiver m) mail.to) (mails (rows ++ row ∷ [])) (copies (rows ++ row ∷ [])) mail a in
         let left = later.asked.requested.asking.left mail.to w.0 in
         let there = subst (λ l. Among mail (rest s l mail.to)) whole (w.1 (eq-eqb mail.to mail.to refl)) in
         absurd (none_elsewhere _ _ mail (Each-among _ (rest s (quiet_prefix s rows ++ (h.behind ++ row ∷ [])) mail.to) mail left there) tx coord hint body)
 
     waits_after : is_quiet s (rows ++ row ∷ []) ≡ true → Each (λ other. WaitsForNone (value player_table other (rows ++ row ∷ []))) all
-    waits_after still = none_waits (rows ++ row ∷ []) front timely still
+    waits_after still = none_waits (rows ++ row ∷ []) prefix timely still
 
     asked_follows : (h : HasAsked) → is_told row.event ≡ false → MayFollow s (rows ++ row ∷ []) (chart rows) (chart (rows ++ row ∷ []))
     asked_follows h untold =
@@ -233,7 +233,7 @@ module _ (segment : SegmentLaws) (laws : RowLaws) (words : ℕ → ℕ → ℕ �
     staged : (seat : Seat Player) (event : Event OrderLine) (stage : Stage) → row ≡ row_of player_table seat rows event → IsAt stage (scene_at all rows) → StageAfter all rows seat event stage → MayFollow s (rows ++ row ∷ []) (chart rows) (chart (rows ++ row ∷ []))
     staged seat event stage is stands after =
         subst (λ x. MayFollow s (rows ++ x ∷ []) (chart rows) (chart (rows ++ x ∷ []))) (sym is)
-        (laws.order_law words scenario rows far sends seat event stage (subst (λ x. AreInTime s (rows ++ x ∷ [])) is timely) stands after (lone_at rows here before) (subst (λ x. AllLeadAlone all (rows ++ x ∷ [])) is (lone_at (rows ++ row ∷ []) front timely))
+        (laws.order_law words scenario rows far sends seat event stage (subst (λ x. AreInTime s (rows ++ x ∷ [])) is timely) stands after (lone_at rows here before) (subst (λ x. AllLeadAlone all (rows ++ x ∷ [])) is (lone_at (rows ++ row ∷ []) prefix timely))
         (subst (λ x. is_quiet s (rows ++ x ∷ []) ≡ true → Each (λ other. WaitsForNone (value player_table other (rows ++ x ∷ []))) all) is waits_after))
 
     follows_by : (event : Event OrderLine) → row.event ≡ event → MayFollow s (rows ++ row ∷ []) (chart rows) (chart (rows ++ row ∷ []))
@@ -242,14 +242,14 @@ module _ (segment : SegmentLaws) (laws : RowLaws) (words : ℕ → ℕ → ℕ �
           let t = told_line row.event told in
           let is : row ≡ row_of player_table comes.0.seat rows (Told t.0) = comes.0.row_is ∙ ap (row_of player_table comes.0.seat rows) (sym (ap event_of comes.0.row_is) ∙ t.1) in
           let r = told_rests t.0 t.1 in
-          staged comes.0.seat (Told t.0) Still is r.rests.still (parts_of.told_stage segment words scenario first others far sends journal frame rows row front timely r comes.0.seat t.0 is comes.0.born))
+          staged comes.0.seat (Told t.0) Still is r.rests.still (parts_of.told_stage segment words scenario first others far sends journal frame rows row prefix timely r comes.0.seat t.0 is comes.0.born))
       | inr untold ↦ elim cases [
         | inl asked ↦ asked_follows asked untold
         | inr order ↦ (
             let d = only_delivers order untold in
             let is : row ≡ row_of player_table comes.0.seat rows (Deliver d.0) = comes.0.row_is ∙ ap (row_of player_table comes.0.seat rows) (sym (ap event_of comes.0.row_is) ∙ d.1) in
             let o = order_at order in
-            staged comes.0.seat (Deliver d.0) o.under.stage is o.under.untouched.stands (parts_of.delivered_stage segment words scenario first others far sends journal frame (quiet_prefix s rows) rows row front timely o comes.0.seat d.0 is comes.0.born))
+            staged comes.0.seat (Deliver d.0) o.under.stage is o.under.untouched.stands (parts_of.delivered_stage segment words scenario first others far sends journal frame (quiet_prefix s rows) rows row prefix timely o comes.0.seat d.0 is comes.0.born))
       ]
     ]
 

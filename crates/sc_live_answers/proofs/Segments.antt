@@ -20,12 +20,12 @@ each_last P [] x ys each = each.0
 each_last P (z ∷ xs) x ys each = each_last P xs x ys each.1
 
 -- what stands behind a longer prefix stands behind a shorter one
-stands_behind : {X : Type 0} (P : X → Type 0) (before after front : List X) (x : X) (more : List X) → before ++ after ≡ front ++ x ∷ more → length before ≤ length front → Each P after → P x
-stands_behind P [] after front x more e low each = each_last P front x more (subst (Each P) e each)
+stands_behind : {X : Type 0} (P : X → Type 0) (before after prefix : List X) (x : X) (more : List X) → before ++ after ≡ prefix ++ x ∷ more → length before ≤ length prefix → Each P after → P x
+stands_behind P [] after prefix x more e low each = each_last P prefix x more (subst (Each P) e each)
 stands_behind P (b ∷ before) after [] x more e low each = absurd (omega (arith, low))
-stands_behind P (b ∷ before) after (f ∷ front) x more e low each =
-    let tail : before ++ after ≡ front ++ x ∷ more = cc in
-    stands_behind P before after front x more tail (omega (arith, low)) each
+stands_behind P (b ∷ before) after (f ∷ prefix) x more e low each =
+    let tail : before ++ after ≡ prefix ++ x ∷ more = cc in
+    stands_behind P before after prefix x more tail (omega (arith, low)) each
 
 module _ (s : System Player Mail OrderLine) where
   -- a quiet journal is its own prefix
@@ -94,9 +94,9 @@ module _ (s : System Player Mail OrderLine) where
 
         -- a segment that goes on by the row
         goes_on : (quiet behind : Rows) → rows ≡ quiet ++ behind → quiet_prefix s rows ≡ quiet → Rests quiet → Asks quiet (behind ++ row ∷ []) ⊎ IsOrdered quiet (behind ++ row ∷ []) → IsSegment after
-        goes_on quiet behind e front rests holds = elim (cases_Bool (is_quiet s after)) [
+        goes_on quiet behind e prefix rests holds = elim (cases_Bool (is_quiet s after)) [
           | inl still ↦ rest_here after (subst Rests (sym whole) (again still holds)) still
-          | inr loud ↦ (let there : quiet_prefix s after ≡ quiet = prefix_stays s rows row loud ∙ front in
+          | inr loud ↦ (let there : quiet_prefix s after ≡ quiet = prefix_stays s rows row loud ∙ prefix in
               record {
                 behind = behind ++ row ∷ [];
                 rows_are = whole ∙ ap (λ q. q ++ (behind ++ row ∷ [])) (sym there);
@@ -122,41 +122,41 @@ module _ (s : System Player Mail OrderLine) where
 
         -- while an order is under way, nobody goes
         nobody_goes : (quiet behind : Rows) → rows ≡ quiet ++ behind → quiet_prefix s rows ≡ quiet → IsOrdered quiet behind → IsClear s rows → ⊥
-        nobody_goes quiet behind e front order clear =
+        nobody_goes quiet behind e prefix order clear =
             let long = length-append clear.before clear.after in
             let all = ap length clear.rows_are in
             let n_low : length clear.before ≤ length rows = omega (arith, long, all) in
-            let front_is : take (length clear.before) rows ≡ clear.before =
+            let prefix_is : take (length clear.before) rows ≡ clear.before =
             ap (take (length clear.before)) clear.rows_are ∙ (take-append-le (length clear.before) clear.before clear.after (omega arith) ∙ take_all (length clear.before) clear.before (omega arith)) in
-            let least = quiet_longest rows (length clear.before) (length rows) n_low (ap (is_quiet s) front_is ∙ clear.quiet) in
+            let least = quiet_longest rows (length clear.before) (length rows) n_low (ap (is_quiet s) prefix_is ∙ clear.quiet) in
             let size = length-take (quiet_upto s rows (length rows)) rows in
             let most = upto_low s rows row (length rows) in
-            let same = ap length front in
+            let same = ap length prefix in
             let low : length clear.before ≤ length quiet = omega (arith, least, size, most, same) in
             let untold = stands_behind (λ (r : Row Mail OrderLine). is_told r.event ≡ false) clear.before clear.after quiet order.first order.more (sym clear.rows_are ∙ (e ∙ ap (λ b. quiet ++ b) order.behind_are)) low clear.untold in
             both_ways (is_told order.first.event) untold order.tells
 
         -- an order goes on by deliveries alone
         pub delivered : (quiet behind : Rows) → rows ≡ quiet ++ behind → quiet_prefix s rows ≡ quiet → IsOrdered quiet behind → is_told row.event ≡ false → (number : ℕ) × (row.event ≡ Deliver number)
-        delivered quiet behind e front order untold = by calm.0.event (ap (λ (r : Row Mail OrderLine). r.event) calm.0.row_is) calm.0.calm
+        delivered quiet behind e prefix order untold = by calm.0.event (ap (λ (r : Row Mail OrderLine). r.event) calm.0.row_is) calm.0.calm
           where
             by : (event : Event OrderLine) → row.event ≡ event → IsCalmEvent s rows calm.0.seat.who event → (number : ℕ) × (row.event ≡ Deliver number)
             by (Deliver number) same fine = (number, same)
-            by Go same fine = absurd (nobody_goes quiet behind e front order (subst (ComesInTime s rows) same calm.1))
+            by Go same fine = absurd (nobody_goes quiet behind e prefix order (subst (ComesInTime s rows) same calm.1))
             by (Told order_) same fine = absurd (true≢false (sym (ap is_told same) ∙ untold))
             by _ same fine = absurd fine
 
         -- whatever stands behind the last quiet journal
         untold_row : (quiet behind : Rows) → rows ≡ quiet ++ behind → quiet_prefix s rows ≡ quiet → Rests quiet → is_told row.event ≡ false → IsBehind quiet behind → IsSegment after
-        untold_row quiet behind e front rests untold (inl none) =
+        untold_row quiet behind e prefix rests untold (inl none) =
             let there : rows ≡ quiet = e ∙ (ap (λ b. quiet ++ b) none ∙ append-nil quiet) in
             let asks = parts.goes quiet row (subst (λ r. Fits (r ++ row ∷ [])) there fits) (subst (λ r. AreInTime s (r ++ row ∷ [])) there timely) rests untold in
-            goes_on quiet behind e front rests (inl (subst (λ b. Asks quiet (b ++ row ∷ [])) (sym none) asks))
-        untold_row quiet behind e front rests untold (inr (inl asks)) =
-            goes_on quiet behind e front rests (inl (parts.asks quiet behind row (subst Fits (ap (λ r. r ++ row ∷ []) e ∙ append_assoc quiet behind (row ∷ [])) fits) (subst (AreInTime s) (ap (λ r. r ++ row ∷ []) e ∙ append_assoc quiet behind (row ∷ [])) timely) rests asks untold))
-        untold_row quiet behind e front rests untold (inr (inr order)) =
-            let d = delivered quiet behind e front order untold in
-            goes_on quiet behind e front rests (inr (record {
+            goes_on quiet behind e prefix rests (inl (subst (λ b. Asks quiet (b ++ row ∷ [])) (sym none) asks))
+        untold_row quiet behind e prefix rests untold (inr (inl asks)) =
+            goes_on quiet behind e prefix rests (inl (parts.asks quiet behind row (subst Fits (ap (λ r. r ++ row ∷ []) e ∙ append_assoc quiet behind (row ∷ [])) fits) (subst (AreInTime s) (ap (λ r. r ++ row ∷ []) e ∙ append_assoc quiet behind (row ∷ [])) timely) rests asks untold))
+        untold_row quiet behind e prefix rests untold (inr (inr order)) =
+            let d = delivered quiet behind e prefix order untold in
+            goes_on quiet behind e prefix rests (inr (record {
               first = order.first;
               more = order.more ++ row ∷ [];
               behind_are = ap (λ b. b ++ row ∷ []) order.behind_are;

@@ -15,7 +15,7 @@ use Rattle.sc_live_orderly.proofs.Lemmas.{in_time_before, in_time_tidy, last_in_
 use Rattle.sc_paxos_words.proofs.Lemmas.{Each-among, Each-append, Each-from}
 use Rattle.sc_law_entries.proofs.NamesProofs.Lemmas.{Each-drop}
 use Rattle.sc_scenario.specs.declared.scenarios.Scenario.{Scenario}
-use Rattle.sc_node_table.specs.Definitions.{NodeState, replica_of, with_replica, with_children, group_of_mail, may_come, unknown, taken_by, routed, on_mail, group_of_order, ordered_of, ReplicaState, Executed, name_of, told_desk, ordered_row, mailed}
+use Rattle.sc_node_table.specs.Definitions.{NodeState, replica_of, with_replica, with_children, group_of_mail, may_come, unknown, taken_by, routed, on_mail, group_of_order, ordered_of, ReplicaState, Executed, name_of, result_sent, ordered_row, mailed}
 use Rattle.sc_law_walks.proofs.Lemmas.{either_way}
 use Rattle.sc_sound.specs.Definitions.{Player, player_table, births, as_nodes}
 use Rattle.sc_live_steps.specs.calm.Definitions.{players, Rows}
@@ -143,8 +143,8 @@ module _ (words : ℕ → ℕ → ℕ × ℕ) (scenario : Scenario) (journal qui
   abbrev system : System Player Mail OrderLine
   system = players words (births as_nodes scenario)
 
-  abbrev told_row : Row Mail OrderLine
-  told_row = row_of player_table seat quiet (Told line)
+  abbrev row_of_entry : Row Mail OrderLine
+  row_of_entry = row_of player_table seat quiet (Told line)
 
   abbrev told : Draw
   told = group_of_order line.order
@@ -152,11 +152,11 @@ module _ (words : ℕ → ℕ → ℕ × ℕ) (scenario : Scenario) (journal qui
   -- what is sent to a group that was nowhere is errands
   module _ (name : Draw) (nowhere : IsNowhere births_ quiet name) where
     abbrev Quiet : Type 0
-    Quiet = Each (IsErrandFor name) told_row.sent
+    Quiet = Each (IsErrandFor name) row_of_entry.sent
 
     node_tells : (node : NodeState) → value player_table seat quiet ≡ Node node → (o : Option ReplicaState) → replica_of told node.replicas ≡ o → Quiet
     node_tells node is None here =
-        let step : NodeState × List Mail = (node, told_desk node.me line.number (Refused (NotLeader None)) []) in
+        let step : NodeState × List Mail = (node, result_sent node.me line.number (Refused (NotLeader None)) []) in
         subst (Each (IsErrandFor name)) (sym (all_sent births_ quiet seat (Told line) node born is step (Some (ToldInput line)) refl (ap (λ (x : NodeState × List Mail). (Node x.0, x.1)) (ap (λ o. ordered_of o line node) here)))) ((λ n. (let bad : None ≡ Some name = n in cc)), tt)
     node_tells node is (Some r) here =
         let own = found_name told node.replicas r here in
@@ -169,20 +169,20 @@ module _ (words : ℕ → ℕ → ℕ × ℕ) (scenario : Scenario) (journal qui
     player_tells (Client client) is = (client_leaves words births_ quiet seat (Told line) born timely client is name (ToldInput line) refl refl).silent
     player_tells (Node node) is = node_tells node is (replica_of told node.replicas) refl
 
-  told_known : (mail : Mail) → Among mail told_row.sent → IsOfJournal scenario journal mail
+  told_known : (mail : Mail) → Among mail row_of_entry.sent → IsOfJournal scenario journal mail
   told_known mail a name is = elim (there_or births_ quiet name) [
     | inl there ↦ named name there
-    | inr nowhere ↦ absurd (Each-among (IsNoneFor name) told_row.sent mail (sends_none words births_ quiet quiet seat (Told line) stage born timely name nowhere u (player_tells name nowhere (value player_table seat quiet) refl)) a is)
+    | inr nowhere ↦ absurd (Each-among (IsNoneFor name) row_of_entry.sent mail (sends_none words births_ quiet quiet seat (Told line) stage born timely name nowhere u (player_tells name nowhere (value player_table seat quiet) refl)) a is)
   ]
 
   pub known_told : (who : ℕ) → is_born system who ≡ true → Each (IsOfJournal scenario journal) (rest system (with_event quiet seat (Told line)) who)
   known_told who is =
-      let before = in_time_before system quiet told_row timely in
+      let before = in_time_before system quiet row_of_entry timely in
       let tidy = in_time_tidy system quiet before in
-      subst (Each (IsOfJournal scenario journal)) (sym (rest-calm system quiet told_row who tidy (last_in_time system quiet told_row timely).0))
-      (Each-append (IsOfJournal scenario journal) (drop (taken who told_row) (rest system quiet who)) (mail_for system who told_row.sent)
-      (subst (λ l. Each (IsOfJournal scenario journal) (drop (taken who told_row) l)) (sym (quiet-empty system quiet who tidy is calm)) (nothing (taken who told_row)))
-      (each_filter (IsOfJournal scenario journal) (λ (m : Mail). eqb (system.receiver m) who) told_row.sent (Each-from (IsOfJournal scenario journal) told_row.sent told_known)))
+      subst (Each (IsOfJournal scenario journal)) (sym (rest-calm system quiet row_of_entry who tidy (last_in_time system quiet row_of_entry timely).0))
+      (Each-append (IsOfJournal scenario journal) (drop (taken who row_of_entry) (rest system quiet who)) (mail_for system who row_of_entry.sent)
+      (subst (λ l. Each (IsOfJournal scenario journal) (drop (taken who row_of_entry) l)) (sym (quiet-empty system quiet who tidy is calm)) (nothing (taken who row_of_entry)))
+      (each_filter (IsOfJournal scenario journal) (λ (m : Mail). eqb (system.receiver m) who) row_of_entry.sent (Each-from (IsOfJournal scenario journal) row_of_entry.sent told_known)))
     where
       nothing : (n : ℕ) → Each (IsOfJournal scenario journal) (drop n [])
       nothing zero = tt

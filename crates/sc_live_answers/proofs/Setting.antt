@@ -18,7 +18,7 @@ use Rattle.sc_paxos_law.proofs.Lemmas.{place_among}
 
 -- the first rows of a lawful journal are one
 pub prefix_lawful : (words : ℕ → ℕ → ℕ × ℕ) (scenario : Scenario) (journal rows : Rows) → Lawful as_nodes words scenario journal → IsPrefixOf journal rows → Lawful as_nodes words scenario rows
-prefix_lawful words scenario journal rows lawful front = lawful-prefix (system_of as_nodes words scenario) (schedule scenario) rows front.more (subst (Lawful as_nodes words scenario) front.is lawful)
+prefix_lawful words scenario journal rows lawful prefix = lawful-prefix (system_of as_nodes words scenario) (schedule scenario) rows prefix.more (subst (Lawful as_nodes words scenario) prefix.is lawful)
 
 -- a quiet prefix is its own last quiet prefix
 pub own_prefix : (words : ℕ → ℕ → ℕ × ℕ) (scenario : Scenario) (quiet : Rows) → is_quiet (players words (births as_nodes scenario)) quiet ≡ true → quiet_prefix (players words (births as_nodes scenario)) quiet ≡ quiet
@@ -33,10 +33,10 @@ module _ (all_bounded : ValidScenariosAreBounded) (frames_law : QuietJournalsHav
   set = setting_of words scenario far sent quiet
 
   pub lawful : Lawful as_nodes words scenario quiet
-  lawful = prefix_lawful words scenario journal quiet calm.lawful rests.front
+  lawful = prefix_lawful words scenario journal quiet calm.lawful rests.prefix
 
   pub homes : AreAtNodes scenario quiet
-  homes = known.homes quiet rests.front
+  homes = known.homes quiet rests.prefix
 
   pub frames : AreFramesOf at (frames_after scenario quiet)
   frames = frames_law words scenario first quiet calm.valid lawful rests.is homes

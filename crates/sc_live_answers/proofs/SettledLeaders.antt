@@ -50,7 +50,7 @@ record IsCoord (scenario : Scenario) (quiet xs : Rows) (x : Draw × ℕ) : Type 
   runs : now.running ≡ true
   same : members now ≡ members first
 
-module _ (tells : ReplicasAreRecorded) (words : ℕ → ℕ → ℕ × ℕ) (scenario : Scenario) (first : Base) (journal quiet xs more : Rows) (front : journal ≡ xs ++ more) (calm : IsCalmJournal words scenario journal) (rests : RestsAt words scenario first journal quiet) (seen : AreSeen scenario quiet) where
+module _ (tells : ReplicasAreRecorded) (words : ℕ → ℕ → ℕ × ℕ) (scenario : Scenario) (first : Base) (journal quiet xs more : Rows) (prefix : journal ≡ xs ++ more) (calm : IsCalmJournal words scenario journal) (rests : RestsAt words scenario first journal quiet) (seen : AreSeen scenario quiet) where
   abbrev all : List (Seat Player)
   all = births as_nodes scenario
 
@@ -66,7 +66,7 @@ module _ (tells : ReplicasAreRecorded) (words : ℕ → ℕ → ℕ × ℕ) (sce
     now = d.now;
     is = d.is;
     runs = runs_at deal.coord deal.chief d.now lead d.is;
-    same = same_members d.first.group deal.tx deal.asked deal.turn d.now.group (coords tells words scenario first journal quiet xs more front calm rests seen deal lead bond d);
+    same = same_members d.first.group deal.tx deal.asked deal.turn d.now.group (coords tells words scenario first journal quiet xs more prefix calm rests seen deal lead bond d);
   }
 
   coord_at : (stage : Stage) → IsAt stage (scene_at (births as_nodes scenario) xs) → Each (HasDone (births as_nodes scenario) quiet xs) (doers_of stage) → Each (IsCoord scenario quiet xs) (coords_of stage)
@@ -130,7 +130,7 @@ both_each P Q R (x ∷ xs) f p q = (f x p.0 q.0, both_each P Q R xs f p.1 q.1)
 -- ---- a row
 
 module _ (tells : ReplicasAreRecorded) (words : ℕ → ℕ → ℕ × ℕ) (scenario : Scenario) (first : Base) (journal quiet rows : Rows) (seat : Seat Player) (event : Event OrderLine) (calm : IsCalmJournal words scenario journal) (rests : RestsAt words scenario first journal quiet) (seen : AreSeen scenario quiet)
-    (front : IsPrefixOf journal (with_event rows seat event)) (seated : IsSeat (births as_nodes scenario) seat) (timely : AreInTime (players words (births as_nodes scenario)) (with_event rows seat event)) (comes : IsCalmEvent (players words (births as_nodes scenario)) rows seat.who event)
+    (prefix : IsPrefixOf journal (with_event rows seat event)) (seated : IsSeat (births as_nodes scenario) seat) (timely : AreInTime (players words (births as_nodes scenario)) (with_event rows seat event)) (comes : IsCalmEvent (players words (births as_nodes scenario)) rows seat.who event)
     (sent : AreSent words scenario journal rows) (sent_then : AreSent words scenario journal (with_event rows seat event)) where
   abbrev births_ : List (Seat Player)
   births_ = births as_nodes scenario
@@ -141,7 +141,7 @@ module _ (tells : ReplicasAreRecorded) (words : ℕ → ℕ → ℕ × ℕ) (sce
   row_stays : (x : Draw × ℕ) → IsCoord scenario quiet rows x → IsCoord scenario quiet (with_event rows seat event) x → ((r : ReplicaState) → view_at (births as_nodes scenario) rows x.0 x.1 ≡ Some r → r.running ≡ true → IsOrdersAlone r)
       → HasNoRounds words (births as_nodes scenario) rows x.0 → HasNoRounds words (births as_nodes scenario) (with_event rows seat event) x.0
   row_stays x c d alone none =
-      let base = base_of tells words scenario first journal quiet (with_event rows seat event) front.more front.is calm rests seen x.0 (x.1, c.first, c.was) in
+      let base = base_of tells words scenario first journal quiet (with_event rows seat event) prefix.more prefix.is calm rests seen x.0 (x.1, c.first, c.was) in
       let name : base.0.core.id ≡ x.0 = base.2 in
       let at = logged_sets as_nodes base.0 journal in
       let over = over_at as_nodes base.0 journal in
@@ -164,13 +164,13 @@ pub settled_go_on : ReplicasAreRecorded → SettledOrdersGoOn
 settled_go_on tells words scenario first journal quiet rows seat number stage later g sent sent_then alone at_later goes true_later settled_ =
     let event = Deliver number in
     let calm_row = (last_in_time (players words (births as_nodes scenario)) rows (row_of player_table seat rows event) g.goes.timely).0 in
-    let more : Rows = row_of player_table seat rows event ∷ g.goes.front.more in
-    let front : journal ≡ rows ++ more = g.goes.front.is ∙ append_assoc rows (row_of player_table seat rows event ∷ []) g.goes.front.more in
-    let was = coord_at tells words scenario first journal quiet rows more front g.calm g.rests g.seen stage g.untouched.stands g.true_since.done in
-    let now = coord_at tells words scenario first journal quiet (with_event rows seat event) g.goes.front.more g.goes.front.is g.calm g.rests g.seen later at_later true_later.done in
+    let more : Rows = row_of player_table seat rows event ∷ g.goes.prefix.more in
+    let prefix : journal ≡ rows ++ more = g.goes.prefix.is ∙ append_assoc rows (row_of player_table seat rows event ∷ []) g.goes.prefix.more in
+    let was = coord_at tells words scenario first journal quiet rows more prefix g.calm g.rests g.seen stage g.untouched.stands g.true_since.done in
+    let now = coord_at tells words scenario first journal quiet (with_event rows seat event) g.goes.prefix.more g.goes.prefix.is g.calm g.rests g.seen later at_later true_later.done in
     let kept : Each (λ x. IsCoord scenario quiet (with_event rows seat event) x → HasNoRounds words (births as_nodes scenario) (with_event rows seat event) x.0) (coords_of stage) =
     both_each (IsCoord scenario quiet rows) (λ x. HasNoRounds words (births as_nodes scenario) rows x.0) _ (coords_of stage)
-    (λ x c none d. row_stays tells words scenario first journal quiet rows seat event g.calm g.rests g.seen g.goes.front g.goes.seated g.goes.timely (calm_is words (births as_nodes scenario) rows seat event calm_row) sent sent_then x c d (alone x.0 x.1) none) was settled_ in
+    (λ x c none d. row_stays tells words scenario first journal quiet rows seat event g.calm g.rests g.seen g.goes.prefix g.goes.seated g.goes.timely (calm_is words (births as_nodes scenario) rows seat event calm_row) sent sent_then x c d (alone x.0 x.1) none) was settled_ in
     let later_kept = moved (λ x. IsCoord scenario quiet (with_event rows seat event) x → HasNoRounds words (births as_nodes scenario) (with_event rows seat event) x.0) kept goes in
     both_each (λ x. IsCoord scenario quiet (with_event rows seat event) x → HasNoRounds words (births as_nodes scenario) (with_event rows seat event) x.0) (IsCoord scenario quiet (with_event rows seat event)) _ (coords_of later) (λ x f d. f d) later_kept now
   where
@@ -179,11 +179,11 @@ settled_go_on tells words scenario first journal quiet rows seat number stage la
     moved P k (inr s) = step_coords P s.group stage later s.step s.begins k
 
 pub settled_begin : ReplicasAreRecorded → SettledOrdersBegin
-settled_begin tells words scenario first journal quiet seat line stage calm rests seen t front sent_then strangers at_stage true_stage =
+settled_begin tells words scenario first journal quiet seat line stage calm rests seen t prefix sent_then strangers at_stage true_stage =
     let event = Told line in
-    let now = coord_at tells words scenario first journal quiet (with_event quiet seat event) front.more front.is calm rests seen stage at_stage true_stage.done in
+    let now = coord_at tells words scenario first journal quiet (with_event quiet seat event) prefix.more prefix.is calm rests seen stage at_stage true_stage.done in
     each_map (IsCoord scenario quiet (with_event quiet seat event)) (λ x. HasNoRounds words (births as_nodes scenario) (with_event quiet seat event) x.0) (coords_of stage)
-    (λ x d. row_stays tells words scenario first journal quiet quiet seat event calm rests seen front t.seated t.timely tt rests.sent sent_then x
+    (λ x d. row_stays tells words scenario first journal quiet quiet seat event calm rests seen prefix t.seated t.timely tt rests.sent sent_then x
     (record { first = d.first; was = d.was; led = d.led; now = d.first; is = d.was; runs = d.led; same = refl }) d (λ r has runs. rests_alone x r has) (quiet_none x.0)) now
   where
     each_map : {X : Type 0} (P R : X → Type 0) (xs : List X) → ((x : X) → P x → R x) → Each P xs → Each R xs
@@ -207,7 +207,7 @@ settled_begin tells words scenario first journal quiet seat line stage calm rest
 -- ---- a leader that has its promises
 
 module _ (tells : ReplicasAreRecorded) (words : ℕ → ℕ → ℕ × ℕ) (scenario : Scenario) (first : Base) (journal quiet rows : Rows) (seat : Seat Player) (number : ℕ) (mail : Mail) (group : Draw) (node : NodeState) (r : ReplicaState)
-    (stage : Stage) (tx coord : Draw) (hint : Option ℕ) (t : TakesSince words scenario first journal quiet rows seat number mail group node r stage) (front : IsPrefixOf journal rows) (sent : AreSent words scenario journal rows) (quiet_rounds : AreSettled words scenario rows stage)
+    (stage : Stage) (tx coord : Draw) (hint : Option ℕ) (t : TakesSince words scenario first journal quiet rows seat number mail group node r stage) (prefix : IsPrefixOf journal rows) (sent : AreSent words scenario journal rows) (quiet_rounds : AreSettled words scenario rows stage)
     (body : mail.body ≡ TxElsewhere tx coord hint) (runs : r.running ≡ true) where
   abbrev seats : List (Seat Player)
   seats = births as_nodes scenario
@@ -233,7 +233,7 @@ module _ (tells : ReplicasAreRecorded) (words : ℕ → ℕ → ℕ × ℕ) (sce
       subst (IsThere seats quiet) waits.group_is (waits.deal.chief, d.first, d.was)
 
   base : (base : Base) × IsGroupOf as_nodes words scenario journal base × (base.core.id ≡ group)
-  base = base_of tells words scenario first journal quiet rows front.more front.is t.calm t.rests t.seen group there
+  base = base_of tells words scenario first journal quiet rows prefix.more prefix.is t.calm t.rests t.seen group there
 
   through : IsSentThrough (logged_sets as_nodes base.0 journal) (over_at as_nodes base.0 journal) (slot_leaders_at as_nodes scenario base.0 journal) words (births as_nodes scenario) rows base.0
   through = sent base.0 base.1.stands
@@ -276,5 +276,5 @@ module _ (tells : ReplicasAreRecorded) (words : ℕ → ℕ → ℕ × ℕ) (sce
       ]))
 
 pub coordinators_settle : ReplicasAreRecorded → CoordinatorsAreSettled
-coordinators_settle tells words scenario first journal quiet rows seat number mail group node r stage tx coord hint t front sent rounds body runs =
-    is_settled tells words scenario first journal quiet rows seat number mail group node r stage tx coord hint t front sent rounds body runs
+coordinators_settle tells words scenario first journal quiet rows seat number mail group node r stage tx coord hint t prefix sent rounds body runs =
+    is_settled tells words scenario first journal quiet rows seat number mail group node r stage tx coord hint t prefix sent rounds body runs

@@ -5,7 +5,7 @@ use Rattle.std.proofs.lemmas.List.Sums.{sum_by-append, sum_by-cons}
 use Rattle.sc_base.specs.Definitions.{Among, client_actor, same_draw, is_member}
 use Rattle.sc_node_table.specs.Values.{Draw, Op, Command, Call, Base, OrderLine, AnswerBody, Mail, MailBody, Request, Answer, Prepare, Accept, Accepted, Learn, Node, Client, Flight, Seat, Row}
 use Rattle.sc_paxos_words.proofs.Lemmas.{find_found}
-use Rattle.sc_actor.specs.Definitions.{mails, copies, numbered, value, System, has_gone, waiting, kth}
+use Rattle.sc_actor.specs.Definitions.{mails, copies, numbered, value, System, has_started, waiting, kth}
 use Rattle.sc_client_table.specs.Definitions.{Client as ClientState}
 use Rattle.sc_node_table.specs.Definitions.{replica_of, is_node, ReplicaState, name_of, numbers_from, slots_ahead}
 use Rattle.sc_scenario.specs.declared.scenarios.Asks.{Asks}
@@ -56,7 +56,7 @@ call_one c seq op = cond-true (eqb c c) 1 0 (eq-eqb c c refl)
 
 held_one : (c seq : ℕ) (r : ReplicaState) → IsHeld r c seq → 1 ≤ replica_tokens c r
 held_one c seq r h = elim (h.where_) [
-  | inl a ↦ (let le = one_of_sum (command_token c) r.calls (Call c h.number h.op) a in let one = call_one c h.number h.op in omega (arith, le, one))
+  | inl a ↦ (let le = one_of_sum (command_token c) r.backlog (Call c h.number h.op) a in let one = call_one c h.number h.op in omega (arith, le, one))
   | inr (inl f) ↦ (let le = one_of_sum (λ (x : Flight Command). command_token c x.value) r.leader.flights f.0 f.1 in let one = ap (command_token c) f.2 ∙ call_one c h.number h.op in omega (arith, le, one))
   | inr (inr e) ↦ (let le = one_of_sum (λ (x : ℕ × Command). command_token c x.1) r.ready (e.0, Call c h.number h.op) e.1 in let one = call_one c h.number h.op in omega (arith, le, one))
 ]
@@ -77,7 +77,7 @@ module _ (words : ℕ → ℕ → ℕ × ℕ) (scenario : Scenario) (begins : Is
   asked_node rows j asks client a e w =
       let c = j.clients asks a in
       let same : c.client ≡ client = client_is (sym c.is ∙ e) in
-      seated.homes w.group w.target (waiting_home set asks (has_gone rows (client_actor asks.client)) client (subst (λ (x : ClientState). IsCalmClient set asks (has_gone rows (client_actor asks.client)) x) same c.calm) w)
+      seated.homes w.group w.target (waiting_home set asks (has_started rows (client_actor asks.client)) client (subst (λ (x : ClientState). IsCalmClient set asks (has_started rows (client_actor asks.client)) x) same c.calm) w)
 
   abbrev Keeps : ℕ → Journal → Type 0
   Keeps who rows = AreSought words scenario begins set is linked rows × (owed (system_of as_nodes words scenario) (token_owing who) rows ≤ 1)

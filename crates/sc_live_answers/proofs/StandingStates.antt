@@ -82,8 +82,8 @@ tells_new at course (suc more) from who slot a = elim (among-either (Installs sl
 
 -- ---- the journal
 
-module _ (go_on : LedRowsGoOn) (words : ℕ → ℕ → ℕ × ℕ) (scenario : Scenario) (journal front rest : Rows) (base : Base) (group : IsGroupOf as_nodes words scenario journal base) (timely : AreInTime (players words (births as_nodes scenario)) journal)
-    (few : AreFew as_nodes scenario journal base) (split : journal ≡ front ++ rest) (so : IsSentSo (births as_nodes scenario) front base) where
+module _ (go_on : LedRowsGoOn) (words : ℕ → ℕ → ℕ × ℕ) (scenario : Scenario) (journal prefix rest : Rows) (base : Base) (group : IsGroupOf as_nodes words scenario journal base) (timely : AreInTime (players words (births as_nodes scenario)) journal)
+    (few : AreFew as_nodes scenario journal base) (split : journal ≡ prefix ++ rest) (so : IsSentSo (births as_nodes scenario) prefix base) where
   abbrev name : Draw
   name = base.core.id
 
@@ -142,30 +142,30 @@ module _ (go_on : LedRowsGoOn) (words : ℕ → ℕ → ℕ × ℕ) (scenario : 
         ]
 
   abbrev Standing : Rows → Type 0
-  Standing rows = (more : Rows) → front ≡ rows ++ more → Each IsStanding (mails rows)
+  Standing rows = (more : Rows) → prefix ≡ rows ++ more → Each IsStanding (mails rows)
 
   after_row : (rows : Rows) (row : Row Mail OrderLine) → AreInTime (players words (births as_nodes scenario)) (rows ++ row ∷ []) → Standing rows → Standing (rows ++ row ∷ [])
   after_row rows row in_time was more is =
       let calm = (last_in_time (players words all) rows row in_time).0 in
-      let in_prefix : IsRowOf front rows calm.seat calm.event = record { more = more; is = is ∙ ap (λ (r : Row Mail OrderLine). (rows ++ r ∷ []) ++ more) calm.row_is } in
-      let led = go_on words scenario journal front rest base group timely few split so rows calm.seat calm.event in_prefix calm.born calm.calm in
+      let in_prefix : IsRowOf prefix rows calm.seat calm.event = record { more = more; is = is ∙ ap (λ (r : Row Mail OrderLine). (rows ++ r ∷ []) ++ more) calm.row_is } in
+      let led = go_on words scenario journal prefix rest base group timely few split so rows calm.seat calm.event in_prefix calm.born calm.calm in
       subst (Each IsStanding) (sym (mails-snoc rows row))
       (Each-append IsStanding (mails rows) row.sent (was (row ∷ more) (is ∙ append_assoc rows (row ∷ []) more))
       (each_among IsStanding row.sent (λ mail a slot state sets body.
       stands_row rows calm.seat calm.event led.0 mail (subst (λ (r : Row Mail OrderLine). Among mail r.sent) calm.row_is a) slot state sets body led.2.later led.2.row)))
 
-  prefix_in_time : AreInTime (players words (births as_nodes scenario)) front
+  prefix_in_time : AreInTime (players words (births as_nodes scenario)) prefix
   prefix_in_time before row after e = timely before row (after ++ rest) (split ∙ (ap (λ l. l ++ rest) e ∙ append_assoc before (row ∷ after) rest))
 
-  standing : (rows more : Rows) → front ≡ rows ++ more → Each IsStanding (mails rows)
+  standing : (rows more : Rows) → prefix ≡ rows ++ more → Each IsStanding (mails rows)
   standing rows more is =
       by_time (players words all) Standing (λ more e. tt) after_row rows (λ before row after e. prefix_in_time before row (after ++ more) (is ∙ (ap (λ l. l ++ more) e ∙ append_assoc before (row ∷ after) more))) more is
 
-  stands_sent : (rows : Rows) (seat : Seat Player) (number : ℕ) (mail : Mail) → Delivers front rows seat number mail → IsStanding mail
+  stands_sent : (rows : Rows) (seat : Seat Player) (number : ℕ) (mail : Mail) → Delivers prefix rows seat number mail → IsStanding mail
   stands_sent rows seat number mail d =
       let this : Row Mail OrderLine = row_of player_table seat rows (Deliver number) in
       Each-among IsStanding (mails rows) mail (standing rows (this ∷ d.row.more) (d.row.is ∙ append_assoc rows (this ∷ []) d.row.more)) (number_among (mails rows) number mail d.sent)
 
 pub states_stand : LedRowsGoOn → StatesStand
-states_stand go_on words scenario journal front rest base group timely few split so rows seat number mail slot state sets d body =
-    stands_sent go_on words scenario journal front rest base group timely few split so rows seat number mail d slot state sets body
+states_stand go_on words scenario journal prefix rest base group timely few split so rows seat number mail slot state sets d body =
+    stands_sent go_on words scenario journal prefix rest base group timely few split so rows seat number mail d slot state sets body

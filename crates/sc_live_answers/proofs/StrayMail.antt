@@ -1,6 +1,6 @@
 -- Mail that is delivered to a node is for it, and what came of an order is for the desk, which is no node.
 use Rattle.std.proofs.Common.{◌≡◌, ℕ, eqb, List, [], find, Some, None, refl, sym, ◌∙◌, ap, subst}
-use Rattle.sc_node_table.specs.Values.{Draw, OrderLine, ToldResult, Mail, MailBody, Request, Answer, Prepare, Promise, Accept, Accepted, Nack, Learn, Ask, Install, TxPrepare, TxVote, TxOutcome, TxElsewhere, TxWatch, TxWatched, Told as ToldMail, Node, Client, Seat, Event, Deliver, Row}
+use Rattle.sc_node_table.specs.Values.{Draw, OrderLine, OrderResult, Mail, MailBody, Request, Answer, Prepare, Promise, Accept, Accepted, Nack, Learn, Ask, Install, TxPrepare, TxVote, TxOutcome, TxElsewhere, TxWatch, TxWatched, Told as ToldMail, Node, Client, Seat, Event, Deliver, Row}
 use Rattle.sc_actor.specs.Definitions.{mails, numbered, value, row_of}
 use Rattle.sc_live_orderly.specs.Definitions.{IsCalmEvent, AreInTime}
 use Rattle.sc_live_orderly.proofs.Lemmas.{in_time_before, in_time_tidy, last_in_time, takes_first, is_born-from}
@@ -19,7 +19,7 @@ use Rattle.sc_live_answers.specs.Definitions.{StrayMailFinds, MailIsForItsNode}
 use Rattle.sc_live_answers.proofs.WellPlayers.{plays_of}
 
 -- what came of an order goes to the desk
-pub told_zero : (who : ℕ) (player : Player) (mail : Mail) (order : ℕ) (result : ToldResult) → mail.body ≡ ToldMail order result → IsPlayers who player mail → mail.to ≡ 0
+pub told_zero : (who : ℕ) (player : Player) (mail : Mail) (order : ℕ) (result : OrderResult) → mail.body ≡ ToldMail order result → IsPlayers who player mail → mail.to ≡ 0
 told_zero who (Node node) mail order result e k = subst (IsNodesBody who mail.to) e k
 told_zero who (Client client) mail order result e k = absurd (subst (IsClientsBody client.me) e k.1)
 
@@ -48,7 +48,7 @@ module _ (words : ℕ → ℕ → ℕ × ℕ) (scenario : Scenario) (rows : Rows
       let same : mail ≡ f.mail = same_some (numbered (mails rows) number) mail f.mail sent f.sent in
       ap (λ (m : Mail). m.to) same ∙ f.receiver
 
-  told_none : (order : ℕ) (result : ToldResult) → mail.body ≡ ToldMail order result → ⊥
+  told_none : (order : ℕ) (result : OrderResult) → mail.body ≡ ToldMail order result → ⊥
   told_none order result e =
       let posted = Each-among (IsPosted all) (mails rows) mail (mail_posted words scenario rows before) (number_among (mails rows) number mail sent) in
       let zero_ : seat.who ≡ 0 = sym to_seat ∙ told_zero posted.seat.who posted.seat.actor mail order result e posted.is in

@@ -9,7 +9,7 @@ use Rattle.sc_paxos_words.specs.declared.answers.AcceptAnswer.TheVariants as Ask
 use Rattle.sc_paxos_words.specs.declared.answers.PrepareAnswer.TheVariants as Prepared
 use Rattle.sc_paxos_words.specs.Definitions.{accepted as accepted_by, AcceptorState, may_promise, after_promise, after_accept, reports_from, below, IsAtLeast, LeaderState, flight_at, promise_counted, without_flight_at, prepared, counted, kept_voters, voters_after, with_voters, vote_at}
 use Rattle.sc_paxos_words.proofs.Lemmas.{at_least_from_below, at_least_trans}
-use Rattle.sc_node_table.specs.Definitions.{act_queued, with_act, elected, ended, stopped, saw, all_ready, executed, executed_one, has_room, is_among, looked, looked_for, install_to, named, jumped, sent, ordered_command, untaken, taken_or_told, ordered_row, pumped, call_of, with_call, without_call, ReplicaState, Place, Executed, childless, first_set, forgotten, installed_replica, last_slot, may_offer, members, name_of, next, set_at, settled, refused_at, queued, requested, request_row, learn_row, ask_row, looked_up, took_over, install_row, made_by, mailed, with_slot, asked_next, awaits_vote, awaits_watch, elsewhere_row, is_bound, noted_outcome, offer_row, offered_by, outcome_row, sent_elsewhere, standing_vote, vote_met, vote_queued, vote_row, watch_met, watch_queued, watch_row, watched_by, watched_row, hinted, promise_to, prepare_row, accepted_to, took, accept_row, leads, promise_row, readied, vote_tallied, voted, accepted_row, nack_row}
+use Rattle.sc_node_table.specs.Definitions.{act_queued, with_act, elected, ended, stopped, saw, all_ready, executed, executed_one, has_room, is_among, looked, looked_for, install_to, named, jumped, sent, ordered_command, untaken, queued_or_refused, ordered_row, pumped, queued_number, with_order_queued, without_request, ReplicaState, Place, Executed, childless, first_set, forgotten, installed_replica, last_slot, may_offer, members, name_of, next, set_at, settled, refused_at, queued, requested, request_row, learn_row, ask_row, looked_up, took_over, install_row, made_by, mailed, with_slot, asked_next, awaits_vote, awaits_watch, elsewhere_row, is_bound, noted_outcome, offer_row, offered_by, outcome_row, sent_elsewhere, standing_vote, vote_met, vote_queued, vote_row, watch_met, watch_queued, watch_row, watched_by, watched_row, hinted, promise_to, prepare_row, accepted_to, took, accept_row, leads, promise_row, readied, vote_tallied, voted, accepted_row, nack_row}
 use Rattle.sc_law_walks.proofs.Lemmas.{promised_place, asked_place, either_way}
 use Rattle.sc_live_steps.specs.pump.Waiting.{HasNoneWaiting, PumpsLeaveNone}
 use Rattle.sc_live_answers.proofs.CallEffects.{pump_kept}
@@ -88,15 +88,15 @@ module _ (pump_law : PumpsLeaveNone) where
 
   queued_ends : (o : Option ℕ) (client seq : ℕ) (op : Op) (place : Place) → NoneAt place → Ends (queued o client seq op place)
   unfolding queued
-  queued_ends None client seq op (r, mails) k = pumped_ends (record r { calls = r.calls ++ Call client seq op ∷ [] }, mails)
+  queued_ends None client seq op (r, mails) k = pumped_ends (record r { backlog = r.backlog ++ Call client seq op ∷ [] }, mails)
   queued_ends (Some other) client seq op (r, mails) k =
-      either_way Ends (nat_le seq other) (r, mails) (pumped (record r { calls = without_call r.calls client ++ Call client seq op ∷ [] }, mails)) (λ some. k)
-      (pumped_ends (record r { calls = without_call r.calls client ++ Call client seq op ∷ [] }, mails))
+      either_way Ends (nat_le seq other) (r, mails) (pumped (record r { backlog = without_request r.backlog client ++ Call client seq op ∷ [] }, mails)) (λ some. k)
+      (pumped_ends (record r { backlog = without_request r.backlog client ++ Call client seq op ∷ [] }, mails))
 
   requested_ends : (o : Option AnswerBody) (client seq : ℕ) (op : Op) (place : Place) → NoneAt place → Ends (requested o client seq op place)
   unfolding requested
   requested_ends (Some answer) client seq op (r, mails) k = λ some. k
-  requested_ends None client seq op (r, mails) k = queued_ends (call_of r.calls client) client seq op (r, mails) k
+  requested_ends None client seq op (r, mails) k = queued_ends (queued_number r.backlog client) client seq op (r, mails) k
 
   request_ends : (client seq : ℕ) (op : Op) (place : Place) → NoneAt place → Ends (request_row client seq op place)
   unfolding request_row
@@ -297,9 +297,9 @@ module _ (pump_law : PumpsLeaveNone) where
 
   -- ---- orders
 
-  taken_ends : (o : Option OrderRefusal) (number : ℕ) (command : Command) (place : Place) → NoneAt place → Ends (taken_or_told o number command place)
+  taken_ends : (o : Option OrderRefusal) (number : ℕ) (command : Command) (place : Place) → NoneAt place → Ends (queued_or_refused o number command place)
   taken_ends (Some why) number command (r, mails) k = λ some. k
-  taken_ends None number command (r, mails) k = pumped_ends (with_call command r, mails)
+  taken_ends None number command (r, mails) k = pumped_ends (with_order_queued command r, mails)
 
   pub order_ends : (drawer : Drawer) (line : OrderLine) (r : ReplicaState) → HasNoneWaiting r → Ends (ordered_row drawer line (r, []))
   unfolding ordered_row

@@ -125,10 +125,10 @@ module _ (tells : ReplicasAreRecorded) (sound : ValidJournalsAreSound) (logs : V
   all = births as_nodes scenario
 
   pub quiet_lawful : Lawful as_nodes words scenario quiet
-  quiet_lawful = lawful-prefix (system_of as_nodes words scenario) (schedule scenario) quiet l.rests.front.more (subst (Lawful as_nodes words scenario) l.rests.front.is l.calm.lawful)
+  quiet_lawful = lawful-prefix (system_of as_nodes words scenario) (schedule scenario) quiet l.rests.prefix.more (subst (Lawful as_nodes words scenario) l.rests.prefix.is l.calm.lawful)
 
   pub the_map : IsOneMap (world_at as_nodes scenario.groups quiet)
-  the_map = (sound as_nodes refl words scenario l.calm.valid journal l.calm.lawful quiet l.rests.front.more l.rests.front.is).whole
+  the_map = (sound as_nodes refl words scenario l.calm.valid journal l.calm.lawful quiet l.rests.prefix.more l.rests.prefix.is).whole
 
   pub the_logs : AreItsLogs as_nodes scenario.groups quiet
   the_logs = logs as_nodes refl words scenario l.calm.valid quiet quiet_lawful
@@ -173,10 +173,10 @@ module _ (tells : ReplicasAreRecorded) (sound : ValidJournalsAreSound) (logs : V
     unvoted_there = ap (λ (g : Group). has_voted g.core deal.tx) group_is ∙ has_not_voted (IsUsed as_nodes scenario quiet) deal.tx since.new.0 d.first.group.core (used deal.asked host d.first d.was)
 
     free_there : r.group.core.lock ≡ Free
-    free_there = ap (λ (g : Group). g.core.lock) group_is ∙ free_first tells words scenario first journal quiet rows l.front.more l.front.is l.calm l.rests l.seen (doer deal.asked host []) d
+    free_there = ap (λ (g : Group). g.core.lock) group_is ∙ free_first tells words scenario first journal quiet rows l.prefix.more l.prefix.is l.calm l.rests l.seen (doer deal.asked host []) d
 
     its_stand : (s : StandsQuiet (replicas_after scenario quiet) deal.asked) × (d.first ≡ s.lead)
-    its_stand = led_first tells words scenario first journal quiet rows l.front.more l.front.is l.calm l.rests l.seen (doer deal.asked host []) d
+    its_stand = led_first tells words scenario first journal quiet rows l.prefix.more l.prefix.is l.calm l.rests l.seen (doer deal.asked host []) d
 
     -- its predecessor is whom the one before it names
     pred_of : (who : Draw) (q : StandsQuiet (replicas_after scenario quiet) who) → deal.asked ≡ q.lead.group.core.succ.group → r.group.core.pred.group ≡ who
@@ -187,14 +187,14 @@ module _ (tells : ReplicasAreRecorded) (sound : ValidJournalsAreSound) (logs : V
 
     coord_locks : LockIsRecorded scenario journal deal.coord c.now.group
     coord_locks =
-        locks_at tells words scenario first journal quiet rows l.front.more l.front.is l.calm l.rests l.seen deal.coord deal.chief c.now
-        (there_of tells words scenario first journal quiet rows l.front.more l.front.is l.calm l.rests l.seen (doer deal.coord deal.chief (opened deal.tx deal.turn)) c) c.is
+        locks_at tells words scenario first journal quiet rows l.prefix.more l.prefix.is l.calm l.rests l.seen deal.coord deal.chief c.now
+        (there_of tells words scenario first journal quiet rows l.prefix.more l.prefix.is l.calm l.rests l.seen (doer deal.coord deal.chief (opened deal.tx deal.turn)) c) c.is
 
     coord_stand : (s : StandsQuiet (replicas_after scenario quiet) deal.coord) × (c.first ≡ s.lead)
-    coord_stand = led_first tells words scenario first journal quiet rows l.front.more l.front.is l.calm l.rests l.seen (doer deal.coord deal.chief (opened deal.tx deal.turn)) c
+    coord_stand = led_first tells words scenario first journal quiet rows l.prefix.more l.prefix.is l.calm l.rests l.seen (doer deal.coord deal.chief (opened deal.tx deal.turn)) c
 
     made : Coordinates c.first.group deal.tx deal.asked deal.turn c.now.group
-    made = coords tells words scenario first journal quiet rows l.front.more l.front.is l.calm l.rests l.seen deal stands.leads.0 coord_bond c
+    made = coords tells words scenario first journal quiet rows l.prefix.more l.prefix.is l.calm l.rests l.seen deal stands.leads.0 coord_bond c
 
     abbrev Pred : Watch → Type 0
     Pred watch = r.group.core.pred.group ≡ watch.old
@@ -217,10 +217,10 @@ module _ (tells : ReplicasAreRecorded) (sound : ValidJournalsAreSound) (logs : V
         let p : HasDone all quiet rows (doer part at (Promising deal.tx ∷ [])) = (subst (λ t. Each (HasDone all quiet rows) (heard_doer deal.tx t)) e since.done.1.1).0 in
         let lead = (subst (λ t. Each (λ (x : Draw × ℕ). (scene_at all rows).lead x.0 ≡ Some x.1) (heard_lead t)) e stands.leads.1.1).0 in
         let bond = ap (λ (h : Here). h.bond) (subst (λ t. Each (λ (x : Draw × Here). (scene_at all rows).at x.0 ≡ x.1) (heard deal.tx t)) e stands.parties.0.1.1).0 in
-        let b = both tells words scenario first journal quiet rows l.front.more l.front.is l.calm l.rests l.seen deal stands.leads.0 coord_bond c part at e lead bond p in
-        let tx = tx_is tells words scenario first journal quiet rows l.front.more l.front.is l.calm l.rests l.seen deal stands.leads.0 coord_bond c part at e lead bond p in
-        let next = next_is tells words scenario first journal quiet rows l.front.more l.front.is l.calm l.rests l.seen deal stands.leads.0 coord_bond c part at e lead bond p in
-        let stood = led_first tells words scenario first journal quiet rows l.front.more l.front.is l.calm l.rests l.seen (doer part at (Promising deal.tx ∷ [])) p in
+        let b = both tells words scenario first journal quiet rows l.prefix.more l.prefix.is l.calm l.rests l.seen deal stands.leads.0 coord_bond c part at e lead bond p in
+        let tx = tx_is tells words scenario first journal quiet rows l.prefix.more l.prefix.is l.calm l.rests l.seen deal stands.leads.0 coord_bond c part at e lead bond p in
+        let next = next_is tells words scenario first journal quiet rows l.prefix.more l.prefix.is l.calm l.rests l.seen deal stands.leads.0 coord_bond c part at e lead bond p in
+        let stood = led_first tells words scenario first journal quiet rows l.prefix.more l.prefix.is l.calm l.rests l.seen (doer part at (Promising deal.tx ∷ [])) p in
         let core = c.now.group.core in
         let lock : core.lock ≡ Coordinating deal.tx At.Merge b.heard.order (Some b.heard.heard) = ap (λ (g : Group). g.core.lock) b.heard.is ∙ ap (λ t. Coordinating t At.Merge b.heard.order (Some b.heard.heard)) tx in
         let asks = watch_with core b.heard.heard.frozen.succ.group core.succ.group (merged_link core b.heard.heard.frozen) in
@@ -238,7 +238,7 @@ module _ (tells : ReplicasAreRecorded) (sound : ValidJournalsAreSound) (logs : V
     allowed_there : IsThere (births as_nodes scenario) quiet name → IsAllowedBy scenario journal name flight.value
     allowed_there there =
         Each-among (λ (f : Flight Command). IsAllowedBy scenario journal name f.value) r.leader.flights flight
-        (flights_at tells words scenario first journal quiet rows l.front.more l.front.is l.calm l.rests l.seen name node r there l.leads.is_there) among
+        (flights_at tells words scenario first journal quiet rows l.prefix.more l.prefix.is l.calm l.rests l.seen name node r there l.leads.is_there) among
 
     module _ (work : Work) (is : work_by flight.value ≡ Some work) where
       there : IsThere (births as_nodes scenario) quiet name

@@ -88,7 +88,7 @@ module _ (a : Affair) (unborn : (name : Draw) (group : Group) (command : Command
     Does = a.Does;
     Is = λ name core. a.Is name core × Grown core;
     Creates = λ name base. a.Creates name base × IsUnborn born base;
-    calls = a.calls;
+    backlog = a.backlog;
     entered = λ name group command s d. (a.entered name group command s.0 d, grown_entered group command s.1);
     creation = λ name group command kid s d e. (a.creation name group command kid s.0 d e, not_before group.core kid s.1 (unborn name group command kid s.0 e));
     adds = λ name group command s d. a.adds name group command s.0 d;

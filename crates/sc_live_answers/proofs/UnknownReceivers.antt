@@ -14,7 +14,7 @@ use Rattle.sc_live_orderly.proofs.Lemmas.{by_time, in_time_before, in_time_tidy,
 use Rattle.sc_paxos_words.proofs.Lemmas.{find_found}
 use Rattle.sc_scenario.specs.Definitions.{base_at}
 use Rattle.sc_scenario.specs.declared.scenarios.Scenario.{Scenario}
-use Rattle.sc_node_table.specs.Definitions.{NodeState, replica_of, with_made, unknown, may_come, group_of_mail, taken_by, routed, on_mail, group_of_order, ordered_of, told_desk, ReplicaState, Place, name_of, last_slot, made_by, slots_ahead}
+use Rattle.sc_node_table.specs.Definitions.{NodeState, replica_of, with_made, unknown, may_come, group_of_mail, taken_by, routed, on_mail, group_of_order, ordered_of, result_sent, ReplicaState, Place, name_of, last_slot, made_by, slots_ahead}
 use Rattle.sc_sound.specs.Definitions.{groups_at, Player, player_table, node_seat, client_seats, births, as_nodes}
 use Rattle.sc_live_steps.specs.calm.Definitions.{players}
 use Rattle.sc_law_entries.specs.logs.Definitions.{Rows}
@@ -54,11 +54,11 @@ module _ (finds : PrefixesAreFound) (home : MembersAreHome) (words : ℕ → ℕ
   first_born : (base : Base) → Among base (groups_at as_nodes scenario.groups journal) → (who : ℕ) → is_member base.core.members who ≡ true → is_born (players words (births as_nodes scenario)) who ≡ true
   first_born base a who m = node_born who (home.first as_nodes words scenario journal base (group_of_it base a) who m)
 
-  module _ (front : Rows) (is : IsPrefixOf journal front) where
+  module _ (prefix : Rows) (is : IsPrefixOf journal prefix) where
     -- ---- a group of the journal
 
-    of_group : AreSent words scenario journal front → (base : Base) → Among base (groups_at as_nodes scenario.groups journal) → (who : ℕ) → is_born (players words (births as_nodes scenario)) who ≡ false
-        → marks_at (players words (births as_nodes scenario)) front base.core.id who ≡ []
+    of_group : AreSent words scenario journal prefix → (base : Base) → Among base (groups_at as_nodes scenario.groups journal) → (who : ℕ) → is_born (players words (births as_nodes scenario)) who ≡ false
+        → marks_at (players words (births as_nodes scenario)) prefix base.core.id who ≡ []
     of_group sent base a who unborn = ((sent base a).sent.homes.strangers who never).1
       where
         never : (slot : ℕ) → is_member (logged_sets as_nodes base journal slot) who ≡ false
@@ -73,7 +73,7 @@ module _ (finds : PrefixesAreFound) (home : MembersAreHome) (words : ℕ → ℕ
       abbrev name : Draw
       name = dummy.core.id
 
-      module _ (rows more : Rows) (begins : front ≡ rows ++ more) (seat : Seat Player) (event : Event OrderLine) (born : IsSeat (births as_nodes scenario) seat) (fine : IsCalmEvent (players words (births as_nodes scenario)) rows seat.who event)
+      module _ (rows more : Rows) (begins : prefix ≡ rows ++ more) (seat : Seat Player) (event : Event OrderLine) (born : IsSeat (births as_nodes scenario) seat) (fine : IsCalmEvent (players words (births as_nodes scenario)) rows seat.who event)
           (timely : AreInTime (players words (births as_nodes scenario)) (with_event rows seat event)) (none : (who : ℕ) → marks_at (players words (births as_nodes scenario)) rows dummy.core.id who ≡ []) where
         moved : IsRow (progress_at (births as_nodes scenario) rows dummy (begun_course dummy)) (progress_at (births as_nodes scenario) (with_event rows seat event) dummy (begun_course dummy)) seat.who (taken_mark dummy.core.id (mails rows) event)
             (λ who. marks_for dummy.core.id who (row_of player_table seat rows event).sent) (marks_at (players words (births as_nodes scenario)) rows dummy.core.id) (marks_at (players words (births as_nodes scenario)) (with_event rows seat event) dummy.core.id)
@@ -85,8 +85,8 @@ module _ (finds : PrefixesAreFound) (home : MembersAreHome) (words : ℕ → ℕ
         -- a node has no replica of it
         no_replica : (node : NodeState) → value player_table seat rows ≡ Node node → (r : ReplicaState) → replica_of dummy.core.id node.replicas ≡ Some r → ⊥
         no_replica node at r e =
-            let front_is : IsPrefixOf journal rows = record { more = more ++ is.more; is = is.is ∙ (ap (λ rs. rs ++ is.more) begins ∙ append_assoc rows more is.more) } in
-            let f = finds words scenario journal rows calm front_is in
+            let prefix_is : IsPrefixOf journal rows = record { more = more ++ is.more; is = is.is ∙ (ap (λ rs. rs ++ is.more) begins ∙ append_assoc rows more is.more) } in
+            let f = finds words scenario journal rows calm prefix_is in
             let seen = view_was all rows seat Go name born (Node node) at ∙ e in
             let of = f.replicas name seat.who r (f.views name seat.who ∙ seen) in
             nobody of.base (f.later of.base of.among) of.named
@@ -130,14 +130,14 @@ module _ (finds : PrefixesAreFound) (home : MembersAreHome) (words : ℕ → ℕ
               either_way (λ (step : NodeState × List Mail). marks_for name who step.1 ≡ []) (may_come from body) (routed (group_of_mail body) from body node) (node, []) (routed_silent (group_of_mail body) from body unmarked) refl
 
           order_silent : (line : OrderLine) (o : Option ReplicaState) → replica_of (group_of_order line.order) node.replicas ≡ o → marks_for dummy.core.id who (ordered_of o line node).1 ≡ []
-          order_silent line None e = none_marked name who (told_desk node.me line.number (Refused (NotLeader None)) []) (refl, tt)
+          order_silent line None e = none_marked name who (result_sent node.me line.number (Refused (NotLeader None)) []) (refl, tt)
           order_silent line (Some r) e = others_hear_nothing.ordered name who node.draws line r (other_name (group_of_order line.order) r e)
 
         client_silent : (client : _) (who : ℕ) (o : Option (Input Mail OrderLine)) → marks_for dummy.core.id who (acted player_table (Client client) o).1 ≡ []
         client_silent client who None = refl
         client_silent client who (Some input) = others_hear_nothing.client name who client input
 
-      silent : (rows more : Rows) → front ≡ rows ++ more → (seat : Seat Player) (event : Event OrderLine) → IsSeat (births as_nodes scenario) seat → IsCalmEvent (players words (births as_nodes scenario)) rows seat.who event
+      silent : (rows more : Rows) → prefix ≡ rows ++ more → (seat : Seat Player) (event : Event OrderLine) → IsSeat (births as_nodes scenario) seat → IsCalmEvent (players words (births as_nodes scenario)) rows seat.who event
           → AreInTime (players words (births as_nodes scenario)) (with_event rows seat event) → ((who : ℕ) → marks_at (players words (births as_nodes scenario)) rows dummy.core.id who ≡ [])
           → (player : Player) → value player_table seat rows ≡ player → (who : ℕ) → marks_for dummy.core.id who (row_of player_table seat rows event).sent ≡ []
       silent rows more begins seat event born fine timely none (Client client) at who =
@@ -156,7 +156,7 @@ module _ (finds : PrefixesAreFound) (home : MembersAreHome) (words : ℕ → ℕ
       silent rows more begins seat _ born fine timely none (Node node) at who = absurd fine
 
       abbrev Begin : Rows → Type 0
-      Begin rows = (more : Rows) → front ≡ rows ++ more → (who : ℕ) → marks_at (players words (births as_nodes scenario)) rows dummy.core.id who ≡ []
+      Begin rows = (more : Rows) → prefix ≡ rows ++ more → (who : ℕ) → marks_at (players words (births as_nodes scenario)) rows dummy.core.id who ≡ []
 
       after_row : (rows : Rows) (row : Row Mail OrderLine) → AreInTime (players words (births as_nodes scenario)) (rows ++ row ∷ []) → Begin rows → Begin (rows ++ row ∷ [])
       after_row rows row timely was more e =
@@ -166,7 +166,7 @@ module _ (finds : PrefixesAreFound) (home : MembersAreHome) (words : ℕ → ℕ
           let timely_too = subst (λ (r : Row Mail OrderLine). AreInTime (players words all) (rows ++ r ∷ [])) c.row_is timely in
           subst (λ (r : Row Mail OrderLine). (who : ℕ) → marks_at (players words all) (rows ++ r ∷ []) name who ≡ []) (sym c.row_is) (after_event rows (row ∷ more) begins c.seat c.event c.born c.calm timely_too before)
         where
-          after_event : (rows_ more_ : Rows) → front ≡ rows_ ++ more_ → (seat : Seat Player) (event : Event OrderLine) → IsSeat all seat → IsCalmEvent (players words all) rows_ seat.who event → AreInTime (players words all) (with_event rows_ seat event)
+          after_event : (rows_ more_ : Rows) → prefix ≡ rows_ ++ more_ → (seat : Seat Player) (event : Event OrderLine) → IsSeat all seat → IsCalmEvent (players words all) rows_ seat.who event → AreInTime (players words all) (with_event rows_ seat event)
               → ((who : ℕ) → marks_at (players words all) rows_ name who ≡ []) → (who : ℕ) → marks_at (players words all) (with_event rows_ seat event) name who ≡ []
           after_event rows_ more_ b seat event born fine t none who =
               let m = moved rows_ more_ b seat event born fine t none in
@@ -179,28 +179,28 @@ module _ (finds : PrefixesAreFound) (home : MembersAreHome) (words : ℕ → ℕ
                 | inr no_ ↦ m.others who (λ e2. true≢false (sym (eq-eqb who seat.who e2) ∙ no_)) ∙ (ap (λ l. l ++ marks_for name who (row_of player_table seat rows_ event).sent) (none who) ∙ quiet)
               ]
 
-      no_group : AreInTime (players words (births as_nodes scenario)) front → (who : ℕ) → marks_at (players words (births as_nodes scenario)) front dummy.core.id who ≡ []
-      no_group timely who = by_time (players words all) Begin (λ more e w. refl) after_row front timely [] (sym (append-nil front)) who
+      no_group : AreInTime (players words (births as_nodes scenario)) prefix → (who : ℕ) → marks_at (players words (births as_nodes scenario)) prefix dummy.core.id who ≡ []
+      no_group timely who = by_time (players words all) Begin (λ more e w. refl) after_row prefix timely [] (sym (append-nil prefix)) who
 
     -- ---- any name
 
-    prefix_timely : AreInTime (players words (births as_nodes scenario)) front
+    prefix_timely : AreInTime (players words (births as_nodes scenario)) prefix
     prefix_timely = λ before row after e. calm.timely before row (after ++ is.more) (is.is ∙ (ap (λ rows. rows ++ is.more) e ∙ append_assoc before (row ∷ after) is.more))
 
-    no_mail : Base → AreSent words scenario journal front → (name : Draw) (who : ℕ) → is_born (players words (births as_nodes scenario)) who ≡ false → marks_at (players words (births as_nodes scenario)) front name who ≡ []
+    no_mail : Base → AreSent words scenario journal prefix → (name : Draw) (who : ℕ) → is_born (players words (births as_nodes scenario)) who ≡ false → marks_at (players words (births as_nodes scenario)) prefix name who ≡ []
     no_mail any sent name who unborn = by (find (λ (b : Base). same_draw b.core.id name) (groups_at as_nodes scenario.groups journal)) refl
       where
-        by : (o : Option Base) → find (λ (b : Base). same_draw b.core.id name) (groups_at as_nodes scenario.groups journal) ≡ o → marks_at (players words all) front name who ≡ []
+        by : (o : Option Base) → find (λ (b : Base). same_draw b.core.id name) (groups_at as_nodes scenario.groups journal) ≡ o → marks_at (players words all) prefix name who ≡ []
         by (Some base) e =
             let f = find_found (λ (b : Base). same_draw b.core.id name) (groups_at as_nodes scenario.groups journal) base e in
-            subst (λ n. marks_at (players words all) front n who ≡ []) (draw_is base.core.id name f.1) (of_group sent base f.0 who unborn)
+            subst (λ n. marks_at (players words all) prefix n who ≡ []) (draw_is base.core.id name f.1) (of_group sent base f.0 who unborn)
         by None e =
             no_group (record any { core = record any.core { id = name } })
             (λ base a same. true≢false (sym (same_name base.core.id name same) ∙ find_nothing (λ (b : Base). same_draw b.core.id name) (groups_at as_nodes scenario.groups journal) base e a)) prefix_timely who
 
 pub no_mail_for_strangers : ((scenario : Scenario) → Base) → PrefixesAreFound → MembersAreHome → NoMailForStrangers
 no_mail_for_strangers any finds home = record {
-  strangers = λ words scenario journal front calm is sent name who unborn. no_mail finds home words scenario journal calm front is (any scenario) sent name who unborn;
+  strangers = λ words scenario journal prefix calm is sent name who unborn. no_mail finds home words scenario journal calm prefix is (any scenario) sent name who unborn;
   born = λ words scenario journal calm base a who m. first_born finds home words scenario journal calm base a who m;
 }
 

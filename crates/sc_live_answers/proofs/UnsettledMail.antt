@@ -29,7 +29,7 @@ module _ (bounded : ValidScenariosAreBounded) (drawn : NamesAreDrawn) (words : �
   all = births as_nodes scenario
 
   lawful : Lawful as_nodes words scenario quiet
-  lawful = lawful-prefix (system_of as_nodes words scenario) (schedule scenario) quiet t.rests.front.more (subst (Lawful as_nodes words scenario) t.rests.front.is t.calm.lawful)
+  lawful = lawful-prefix (system_of as_nodes words scenario) (schedule scenario) quiet t.rests.prefix.more (subst (Lawful as_nodes words scenario) t.rests.prefix.is t.calm.lawful)
 
   used : (name : Draw) (who : ℕ) (x : ReplicaState) → view_at (births as_nodes scenario) quiet name who ≡ Some x → CoreNames (IsUsed as_nodes scenario quiet) x.group.core
   used name who x has = used_in drawn words scenario quiet (bounded scenario t.calm.valid) lawful name who x has

@@ -35,7 +35,7 @@ none_at r none = elim (cases_Bool r.running) [ inl runs ↦ none runs | inr off 
 
 module _ (pump_law : PumpsLeaveNone) (idle_law : JournalsKeepIdle) (wb : ScenariosAreWellBorn) (found_law : PrefixesAreFound)
     (words : ℕ → ℕ → ℕ × ℕ) (scenario : Scenario) (journal rows : Rows) (seat : Seat Player) (event : Event OrderLine) (calm : IsCalmJournal words scenario journal) (seated : IsSeat (births as_nodes scenario) seat)
-    (front : IsPrefixOf journal (with_event rows seat event)) (sent : AreSent words scenario journal (with_event rows seat event)) (had : HaveNoneWaiting scenario rows) where
+    (prefix : IsPrefixOf journal (with_event rows seat event)) (sent : AreSent words scenario journal (with_event rows seat event)) (had : HaveNoneWaiting scenario rows) where
   abbrev all : List (Seat Player)
   all = births as_nodes scenario
 
@@ -49,7 +49,7 @@ module _ (pump_law : PumpsLeaveNone) (idle_law : JournalsKeepIdle) (wb : Scenari
   then = with_event rows seat event
 
   timely : AreInTime s then
-  timely = prefix_timely words scenario journal then calm front
+  timely = prefix_timely words scenario journal then calm prefix
 
   -- what each replica had before, also one that did not run
   had_at : (name : Draw) (node : ℕ) (r : ReplicaState) → view_at all rows name node ≡ Some r → HasNoneWaiting r
@@ -83,7 +83,7 @@ module _ (pump_law : PumpsLeaveNone) (idle_law : JournalsKeepIdle) (wb : Scenari
   none_then : HaveNoneWaiting scenario then
   none_then name node r e runs = elim (cases_Bool (eqb node seat.who)) [
     | inl t ↦ (
-        let g : IsNamedGroup scenario journal name = named_there found_law words scenario journal then calm front name (node, r, e) in
+        let g : IsNamedGroup scenario journal name = named_there found_law words scenario journal then calm prefix name (node, r, e) in
         let here : view_at all then g.0.core.id seat.who ≡ Some r = ap (λ n. view_at all then n seat.who) g.2 ∙ (ap (view_at all then name) (sym (eqb-true node seat.who t)) ∙ e) in
         own_none g.0 g.1 r here)
     | inr f ↦ had_at name node r (sym (view_others all rows row name node (λ i. true≢false (sym (eq-eqb node seat.who i) ∙ f))) ∙ e)
@@ -92,28 +92,28 @@ module _ (pump_law : PumpsLeaveNone) (idle_law : JournalsKeepIdle) (wb : Scenari
 -- ---- a quiet prefix
 
 module _ (few_law : SlotsAreLeft) (born_law : ScenariosAreKeptBorn) (rosters_law : SlotsHaveRosters) (found_law : PrefixesAreFound) (no_law : NoMailForStrangers) (words : ℕ → ℕ → ℕ × ℕ) (scenario : Scenario) (journal rows : Rows) (calm : IsCalmJournal words scenario journal)
-    (front : IsPrefixOf journal rows) (sent : AreSent words scenario journal rows) (still : is_quiet (players words (births as_nodes scenario)) rows ≡ true) (had : HaveNoneWaiting scenario rows) where
+    (prefix : IsPrefixOf journal rows) (sent : AreSent words scenario journal rows) (still : is_quiet (players words (births as_nodes scenario)) rows ≡ true) (had : HaveNoneWaiting scenario rows) where
   over_none : (name : Draw) (node : ℕ) (r : ReplicaState) → view_at (births as_nodes scenario) rows name node ≡ Some r → r.running ≡ true → r.leader.flights ≡ [] → r.acts ≡ []
   over_none name node r e runs none =
-      let timely = prefix_timely words scenario journal rows calm front in
-      let g : IsNamedGroup scenario journal name = named_there found_law words scenario journal rows calm front name (node, r, e) in
+      let timely = prefix_timely words scenario journal rows calm prefix in
+      let g : IsNamedGroup scenario journal name = named_there found_law words scenario journal rows calm prefix name (node, r, e) in
       let group : IsGroupOf as_nodes words scenario journal g.0 = record { open_slots = refl; valid = calm.valid; lawful = calm.lawful; stands = g.1 } in
       let t : IsSentThrough (logged_sets as_nodes g.0 journal) (over_at as_nodes g.0 journal) (slot_leaders_at as_nodes scenario g.0 journal) words (births as_nodes scenario) rows g.0 = sent g.0 g.1 in
       let here : view_at (births as_nodes scenario) rows g.0.core.id node ≡ Some r = ap (λ n. view_at (births as_nodes scenario) rows n node) g.2 ∙ e in
-      let low = (few_law words scenario rows name node r timely (prefix_short words scenario journal rows calm front) e).0 in
+      let low = (few_law words scenario rows name node r timely (prefix_short words scenario journal rows calm prefix) e).0 in
       let leads = gives (logged_sets as_nodes g.0 journal) (over_at as_nodes g.0 journal) (slot_leaders_at as_nodes scenario g.0 journal) words (births as_nodes scenario) rows g.0 t.course t.led node r here runs in
       let rest = kept_leaders_rest (logged_sets as_nodes g.0 journal) (over_at as_nodes g.0 journal) (slot_leaders_at as_nodes scenario g.0 journal) words (births as_nodes scenario) rows g.0 t.course r (born_law scenario) (rosters_law.rosters as_nodes words scenario journal g.0 group) timely still
-      (no_law.strangers words scenario journal rows calm front sent g.0.core.id) t.led leads.0.stands (ap (view_at (births as_nodes scenario) rows g.0.core.id) (sym leads.1) ∙ here) (omega (arith, low)) in
+      (no_law.strangers words scenario journal rows calm prefix sent g.0.core.id) t.led leads.0.stands (ap (view_at (births as_nodes scenario) rows g.0.core.id) (sym leads.1) ∙ here) (omega (arith, low)) in
       had name node r e runs rest.leads.settled_is (le-leb (next r) last_slot (omega (arith, low))) none rest.ready
 
 -- ---- all
 
 pub none_waits : PumpsLeaveNone → JournalsKeepIdle → ScenariosAreWellBorn → PrefixesAreFound → SlotsAreLeft → ScenariosAreKeptBorn → SlotsHaveRosters → NoMailForStrangers → NoneWaits
 none_waits pump_law idle_law wb found_law few_law born_law rosters_law no_law = record {
-  begins = λ words scenario first journal quiet seat line calm rests seated front sent.
-      (let found = found_law words scenario journal quiet calm rests.front in
-      none_then pump_law idle_law wb found_law words scenario journal quiet seat (Told line) calm seated front sent
+  begins = λ words scenario first journal quiet seat line calm rests seated prefix sent.
+      (let found = found_law words scenario journal quiet calm rests.prefix in
+      none_then pump_law idle_law wb found_law words scenario journal quiet seat (Told line) calm seated prefix sent
       (λ name node r e runs. (let rest : IsAtRest r = rests.is.quiet.at_rest name node r (found.views name node ∙ e) in idle_none r rest.acts)));
-  goes_on = λ words scenario journal rows seat number calm on sent had. none_then pump_law idle_law wb found_law words scenario journal rows seat (Deliver number) calm on.seated on.front sent had;
-  over = λ words scenario journal rows calm front sent still had. over_none few_law born_law rosters_law found_law no_law words scenario journal rows calm front sent still had;
+  goes_on = λ words scenario journal rows seat number calm on sent had. none_then pump_law idle_law wb found_law words scenario journal rows seat (Deliver number) calm on.seated on.prefix sent had;
+  over = λ words scenario journal rows calm prefix sent still had. over_none few_law born_law rosters_law found_law no_law words scenario journal rows calm prefix sent still had;
 }

@@ -12,7 +12,7 @@ use Rattle.sc_live_orderly.specs.Definitions.{AreInTime}
 use Rattle.sc_live_orderly.proofs.Lemmas.{in_time_before, in_time_tidy, quiet-empty}
 use Rattle.sc_scenario.specs.Definitions.{IsBounded, ValidScenariosAreBounded}
 use Rattle.sc_scenario.specs.declared.scenarios.Scenario.{Scenario}
-use Rattle.sc_node_table.specs.Definitions.{told_desk, NodeState, replica_of, group_of_order, ordered_of, takes_name, untaken, taken_or_told, ordered_command, ordered_row, ReplicaState, Place, name_of, next, last_slot}
+use Rattle.sc_node_table.specs.Definitions.{result_sent, NodeState, replica_of, group_of_order, ordered_of, takes_name, untaken, queued_or_refused, ordered_command, ordered_row, ReplicaState, Place, name_of, next, last_slot}
 use Rattle.sc_sound.specs.Definitions.{Player, player_table, births, as_nodes, Lawful}
 use Rattle.sc_live_steps.specs.calm.Definitions.{players, IsAtRest, Rows}
 use Rattle.sc_live_steps.proofs.CalmProofs.Lemmas.{put_others}
@@ -52,7 +52,7 @@ replay_client who (row ∷ rows) player sent k =
 -- at one that rests nothing stands
 rest_so : (a : Affair) (begins : BeginsFree a) (name : Draw) (r : ReplicaState) → IsAtRest r → HeldSo a name r
 rest_so a begins name r rest = (
-  rest.calls,
+  rest.backlog,
   subst (Each (a.Does name)) (sym rest.acts) tt,
   subst (Each (λ flight. a.Does name flight.value)) (sym rest.flights) tt,
   subst (Each (λ (entry : ℕ × Command). a.Does name entry.1)) (sym rest.ready) tt,
@@ -121,9 +121,9 @@ module _ (well : ScenariosAreWellBorn) (words : ℕ → ℕ → ℕ × ℕ) (sce
     none_begins here =
         nothing (record {
           views = λ name r v. rest_so (affair_of line.number false group group) (begins_free line.number false group group) name r
-              (rests name seat.who r (view_of name (Some r) (sym (now_is all quiet seat (Told line) node seated is (node, told_desk node.me line.number (Refused (NotLeader None)) []) (Some (ToldInput line)) refl
+              (rests name seat.who r (view_of name (Some r) (sym (now_is all quiet seat (Told line) node seated is (node, result_sent node.me line.number (Refused (NotLeader None)) []) (Some (ToldInput line)) refl
               (ap (λ (x : NodeState × List Mail). (Node x.0, x.1)) (ap (λ o. ordered_of o line node) here)) name) ∙ v))).0;
-          good = subst (AreGood (affair_of line.number false group group)) (sym (all_sent all quiet seat (Told line) node seated is (node, told_desk node.me line.number (Refused (NotLeader None)) []) (Some (ToldInput line)) refl
+          good = subst (AreGood (affair_of line.number false group group)) (sym (all_sent all quiet seat (Told line) node seated is (node, result_sent node.me line.number (Refused (NotLeader None)) []) (Some (ToldInput line)) refl
               (ap (λ (x : NodeState × List Mail). (Node x.0, x.1)) (ap (λ o. ordered_of o line node) here)))) (tt, tt);
         })
 
@@ -155,13 +155,13 @@ module _ (well : ScenariosAreWellBorn) (words : ℕ → ℕ → ℕ × ℕ) (sce
         good = subst (AreGood a) (sym row.sends_all) m;
       }
 
-      refused : (why : OrderRefusal) → untaken node.draws line r ≡ Some why → ordered_row node.draws line (r, []) ≡ (r, told_desk r.me line.number (Refused why) [])
+      refused : (why : OrderRefusal) → untaken node.draws line r ≡ Some why → ordered_row node.draws line (r, []) ≡ (r, result_sent r.me line.number (Refused why) [])
       unfolding ordered_row
-      refused why e = ap (λ (x : Option OrderRefusal). taken_or_told x line.number (ordered_command (next_name node.draws) line.number line.order) (r, [])) e
+      refused why e = ap (λ (x : Option OrderRefusal). queued_or_refused x line.number (ordered_command (next_name node.draws) line.number line.order) (r, [])) e
 
       by_taken : (o : Option OrderRefusal) → untaken node.draws line r ≡ o → Done
       by_taken (Some why) e =
-          let is_ : after ≡ (r, told_desk r.me line.number (Refused why) []) = refused why e in
+          let is_ : after ≡ (r, result_sent r.me line.number (Refused why) []) = refused why e in
           nothing (begins (affair_of line.number false group group) (begins_free line.number false group group) (subst (λ (p : Place). HeldSo (affair_of line.number false group group) group p.0) (sym is_) (rest_so (affair_of line.number false group group) (begins_free line.number false group group) group r rest.0))
           (subst (λ (p : Place). AreGood (affair_of line.number false group group) p.1) (sym is_) (tt, tt)))
       by_taken None e =

@@ -130,12 +130,12 @@ says_back n false told child (ToldMail order result) q = q
 says_back n true told child _ q = q
 
 held_so : (n : ℕ) (b : Bool) (told child name : Draw) (r : ReplicaState) → IsAtWork (record { number = n; group = told; name = child; splits = b }) name r → HeldSo (affair_of n b told child) name r
-held_so n true told child name r k = (k.calls, k.acts, k.flights, k.ready, k.state)
-held_so n false told child name r k = (k.calls, k.acts, k.flights, k.ready, k.state)
+held_so n true told child name r k = (k.backlog, k.acts, k.flights, k.ready, k.state)
+held_so n false told child name r k = (k.backlog, k.acts, k.flights, k.ready, k.state)
 
 held_back : (n : ℕ) (b : Bool) (told child name : Draw) (r : ReplicaState) → HeldSo (affair_of n b told child) name r → IsAtWork (record { number = n; group = told; name = child; splits = b }) name r
-held_back n true told child name r k = record { calls = k.0; acts = k.1; flights = k.2; ready = k.3; state = k.4 }
-held_back n false told child name r k = record { calls = k.0; acts = k.1; flights = k.2; ready = k.3; state = k.4 }
+held_back n true told child name r k = record { backlog = k.0; acts = k.1; flights = k.2; ready = k.3; state = k.4 }
+held_back n false told child name r k = record { backlog = k.0; acts = k.1; flights = k.2; ready = k.3; state = k.4 }
 
 -- a child that its group did not know
 module _ (well : ScenariosAreWellBorn) (words : ℕ → ℕ → ℕ × ℕ) (scenario : Scenario) (rows : Rows) (seat : Seat Player) (number : ℕ) (g : IsGuidedRow words scenario rows seat number) where
@@ -189,5 +189,5 @@ stands_alone = record {
     flights = Each-weaker (λ flight. Does task name flight.value) (λ flight. IsWork flight.value) (λ flight d. does_work task.splits task.group task.name name flight.value d.0) r.leader.flights k.flights;
     ready = Each-weaker (λ (entry : ℕ × Command). Does task name entry.1) (λ (entry : ℕ × Command). IsWork entry.1) (λ entry d. does_work task.splits task.group task.name name entry.1 d.0) r.ready k.ready;
   };
-  rests = λ r rest none. (ap works_in rest.acts, ap works_in rest.calls);
+  rests = λ r rest none. (ap works_in rest.acts, ap works_in rest.backlog);
 }

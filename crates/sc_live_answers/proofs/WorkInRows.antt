@@ -33,7 +33,7 @@ use Rattle.sc_live_answers.proofs.WellPlayers.{plays_of}
 
 -- what holds of a replica at a prefix, but its name and what its leader counted
 abbrev pub HeldSo : Affair → Draw → ReplicaState → Type 0
-HeldSo a name r = (r.calls ≡ []) × AllDo a name r.acts × Fly a name r.leader.flights × Wait a name r.ready × a.Is name r.group.core
+HeldSo a name r = (r.backlog ≡ []) × AllDo a name r.acts × Fly a name r.leader.flights × Wait a name r.ready × a.Is name r.group.core
 
 held_so : (a : Affair) (name : Draw) (r : ReplicaState) → Held a name r → HeldSo a name r
 held_so a name r k = (k.1, k.2, k.3, k.4, k.5)
@@ -76,8 +76,8 @@ module _ (well : ScenariosAreWellBorn) (a : Affair) (begins : BeginsFree a) (wor
     view_of group o here = view_was all rows seat Go group born (Node node) is ∙ here
 
     -- a node's step, by the replica of each group after it
-    does : (step : NodeState × List Mail) → on_mail mail.from mail.body node ≡ step → ((name : Draw) (r : ReplicaState) → replica_of name step.0.replicas ≡ Some r → HeldSo a name r) → AreGood a step.1 → Done
-    does step e views sends = record {
+    response : (step : NodeState × List Mail) → on_mail mail.from mail.body node ≡ step → ((name : Draw) (r : ReplicaState) → replica_of name step.0.replicas ≡ Some r → HeldSo a name r) → AreGood a step.1 → Done
+    response step e views sends = record {
       views = λ name r v.
           views name r (sym (now_is all rows seat (Deliver number) node born is step (Some (Got mail)) (ap (option_map Got) at) (ap (λ (x : NodeState × List Mail). (Node x.0, x.1)) e) name) ∙ v);
       good = subst (AreGood a) (sym (all_sent all rows seat (Deliver number) node born is step (Some (Got mail)) (ap (option_map Got) at) (ap (λ (x : NodeState × List Mail). (Node x.0, x.1)) e))) sends;
@@ -223,7 +223,7 @@ module _ (well : ScenariosAreWellBorn) (a : Affair) (begins : BeginsFree a) (wor
 
       missed : (b : MailBody) → mail.body ≡ b → replica_of group node.replicas ≡ None → Says a b → unknown mail.from b node ≡ (node, absent node.me mail.from b) → Done
       missed b e here q step =
-          does (node, absent node.me mail.from b) (takes_by None here ∙ (ap (λ x. unknown mail.from x node) e ∙ step)) had (absent_good a node.me mail.from b q)
+          response (node, absent node.me mail.from b) (takes_by None here ∙ (ap (λ x. unknown mail.from x node) e ∙ step)) had (absent_good a node.me mail.from b q)
 
       installs : (n : Draw) (slot : ℕ) (state : Base) (sets : List (List ℕ)) → mail.body ≡ Install n slot state sets → replica_of group node.replicas ≡ None → a.Is n state.core → Done
       installs n slot state sets e here s =
@@ -270,9 +270,9 @@ module _ (well : ScenariosAreWellBorn) (a : Affair) (begins : BeginsFree a) (wor
     taking group comes e = record { seated = born; timely = timely; is_node = is; me_is = plays.0; sent = at; comes = comes; named = e }
 
     mail_so : (b : Bool) → may_come mail.from mail.body ≡ b → (o : Option Draw) → group_of_mail mail.body ≡ o → Done
-    mail_so false bar o e = does (node, []) (cond-false (may_come mail.from mail.body) (routed (group_of_mail mail.body) mail.from mail.body node) (node, []) bar) had tt
+    mail_so false bar o e = response (node, []) (cond-false (may_come mail.from mail.body) (routed (group_of_mail mail.body) mail.from mail.body node) (node, []) bar) had tt
     mail_so true may None e =
-        does (node, []) (either_way (λ (step : NodeState × List Mail). step ≡ (node, [])) (may_come mail.from mail.body) (routed (group_of_mail mail.body) mail.from mail.body node) (node, []) (ap (λ g. routed g mail.from mail.body node) e) refl) had tt
+        response (node, []) (either_way (λ (step : NodeState × List Mail). step ≡ (node, [])) (may_come mail.from mail.body) (routed (group_of_mail mail.body) mail.from mail.body node) (node, []) (ap (λ g. routed g mail.from mail.body node) e) refl) had tt
     mail_so true may (Some group) e = taken_so group (taking group may e) (replica_of group node.replicas) refl
 
   no_answer : (group : Draw) (seq : ℕ) (answer : AnswerBody) → mail.body ≡ Answer group seq answer → ⊥

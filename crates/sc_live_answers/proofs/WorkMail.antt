@@ -1,7 +1,7 @@
 -- What is sent while an order is under way, whatever it is put behind.
 use Rattle.std.proofs.Common.{◌≡◌, ◌⊎◌, ℕ, eqb, Bool, cond, List, [], ◌∷◌, Option, Some, None, inl, inr, refl, sym, subst}
 use Rattle.sc_base.specs.Definitions.{Each, same_draw, least_of}
-use Rattle.sc_node_table.specs.Values.{Draw, Body, Offer, Watch, Command, Call, Split, Begin, Prepared, RecordVote, GiveUp, Watched, RecordWatch, Core, Lock, Free, Coordinating, Promised, Watching, Effect, Link, ToldResult, Heard, Outcome, Past, Vote, AnswerBody, Mail, MailBody, TxPrepare, TxVote, TxOutcome, TxWatched, Told}
+use Rattle.sc_node_table.specs.Values.{Draw, Body, Offer, Watch, Command, Call, Split, Begin, Prepared, RecordVote, GiveUp, Watched, RecordWatch, Core, Lock, Free, Coordinating, Promised, Watching, Effect, Link, OrderResult, Heard, Outcome, Past, Vote, AnswerBody, Mail, MailBody, TxPrepare, TxVote, TxOutcome, TxWatched, Told}
 use Rattle.sc_cmd.specs.declared.bodies.Body.TheVariants as At
 use Rattle.sc_cmd.specs.declared.votes.Outcome.TheVariants as Is
 use Rattle.sc_cmd.specs.declared.votes.Past.TheVariants as Cast
@@ -9,9 +9,9 @@ use Rattle.sc_cmd.specs.declared.votes.Vote.TheVariants as Votes
 use Rattle.sc_cmd.specs.Definitions.{decided_in, cast_in, is_changed}
 use Rattle.sc_machine_table.specs.Definitions.{Group, frozen_of}
 use Rattle.sc_paxos_words.proofs.Lemmas.{Each-append}
-use Rattle.sc_policy.specs.Definitions.{is_told}
+use Rattle.sc_policy.specs.Definitions.{is_reported}
 use Rattle.sc_node_table.specs.declared.Before.{Before}
-use Rattle.sc_node_table.specs.Definitions.{sent, sent_all, sent_others, answered, answered_all, told_desk, told_order, dismissed_all, offer_of, heard_question, question, asked_first, asked_link, voted_to, watched_to, told_outcome, next_asked, asked_next, begun_result, spoken_number, told_result, told_begun, asked_on, begun_asks, vote_sent, watch_sent, aborted_to, aborted_watcher, given_up_by, vote_answered, released_to, watch_answered_by, went_on, spoken_mails}
+use Rattle.sc_node_table.specs.Definitions.{sent, sent_all, sent_others, answered, answered_all, result_sent, order_reported, dismissed_all, offer_of, heard_question, question, asked_first, asked_link, voted_to, watched_to, outcome_sent, next_asked, asked_next, begun_result, spoken_number, result_reported, begun_reported, asked_on, begun_asks, vote_sent, watch_sent, aborted_to, aborted_watcher, given_up_by, vote_answered, released_to, watch_answered_by, went_on, spoken_mails}
 use Rattle.sc_law_walks.proofs.Lemmas.{either_way}
 use Rattle.sc_live_answers.proofs.Affairs.{Affair, Says, IsGood, AreGood}
 
@@ -32,13 +32,13 @@ module _ (a : Affair) (me : ℕ) where
 
   -- ---- the desk, and clients of whom no call stands
 
-  pub desk_reported : (number : ℕ) (result : ToldResult) (mails : List Mail) → AreGood a mails → AreGood a (told_order me number result mails)
-  unfolding told_order
-  desk_reported number result mails m = either_way (AreGood a) (is_told number) (told_desk me number result mails) mails (one_sent 0 (Told number result) mails tt m) m
+  pub desk_reported : (number : ℕ) (result : OrderResult) (mails : List Mail) → AreGood a mails → AreGood a (order_reported me number result mails)
+  unfolding order_reported
+  desk_reported number result mails m = either_way (AreGood a) (is_reported number) (result_sent me number result mails) mails (one_sent 0 (Told number result) mails tt m) m
 
   one_answered : (name group : Draw) (answer : AnswerBody) (command : Command) (mails : List Mail) → a.Does name command → AreGood a mails → AreGood a (answered me group answer command mails)
   unfolding answered
-  one_answered name group answer (Call client seq op) mails d m = absurd (a.calls name client seq op d)
+  one_answered name group answer (Call client seq op) mails d m = absurd (a.backlog name client seq op d)
   one_answered name group answer _ mails d m = m
 
   pub all_answered : (name group : Draw) (answer : AnswerBody) (commands : List Command) (mails : List Mail) → Each (a.Does name) commands → AreGood a mails → AreGood a (answered_all me group answer commands mails)
@@ -46,9 +46,9 @@ module _ (a : Affair) (me : ℕ) where
   all_answered name group answer [] mails d m = m
   all_answered name group answer (command ∷ commands) mails d m = all_answered name group answer commands (answered me group answer command mails) d.1 (one_answered name group answer command mails d.0 m)
 
-  pub none_dismissed : (group : Draw) (hint : Option ℕ) (answer : AnswerBody) (calls : List Command) (mails : List Mail) → calls ≡ [] → AreGood a mails → AreGood a (dismissed_all me group hint answer calls mails)
+  pub none_dismissed : (group : Draw) (hint : Option ℕ) (answer : AnswerBody) (backlog : List Command) (mails : List Mail) → backlog ≡ [] → AreGood a mails → AreGood a (dismissed_all me group hint answer backlog mails)
   unfolding dismissed_all
-  none_dismissed group hint answer calls mails none m = subst (λ (cs : List Command). AreGood a (dismissed_all me group hint answer cs mails)) (sym none) m
+  none_dismissed group hint answer backlog mails none m = subst (λ (cs : List Command). AreGood a (dismissed_all me group hint answer cs mails)) (sym none) m
 
   -- ---- the parties of a transaction
 
@@ -118,7 +118,7 @@ module _ (a : Affair) (me : ℕ) where
   given_up_said None before tx mails m = m
   given_up_said (Some outcome) before tx mails m = watcher_said tx before.heard (aborted_to me tx before.succ mails) (aborted_said tx before.succ mails m)
 
-  pub outcome_said : (node : ℕ) (tx part : Draw) (outcome : Outcome) (mails : List Mail) → AreGood a mails → AreGood a (told_outcome me node tx part outcome mails)
+  pub outcome_said : (node : ℕ) (tx part : Draw) (outcome : Outcome) (mails : List Mail) → AreGood a mails → AreGood a (outcome_sent me node tx part outcome mails)
   outcome_said node tx part outcome mails m = one_sent node (TxOutcome tx part outcome) mails tt m
 
   vote_replied : (o : Option Outcome) (vote : Vote) (before : Before) (tx : Draw) (by : ℕ) (mails : List Mail) → AreGood a mails → AreGood a (vote_answered o vote me before tx by mails)
@@ -128,7 +128,7 @@ module _ (a : Affair) (me : ℕ) where
 
   released_said : (o : Option (ℕ × Link)) (succ : Link) (tx : Draw) (by : ℕ) (outcome : Outcome) (mails : List Mail) → AreGood a mails → AreGood a (released_to o me succ tx by outcome mails)
   released_said None succ tx by outcome mails m = outcome_said by tx succ.group outcome mails m
-  released_said (Some heard) succ tx by outcome mails m = outcome_said by tx heard.1.group outcome (told_outcome me heard.0 tx succ.group outcome mails) (outcome_said heard.0 tx succ.group outcome mails m)
+  released_said (Some heard) succ tx by outcome mails m = outcome_said by tx heard.1.group outcome (outcome_sent me heard.0 tx succ.group outcome mails) (outcome_said heard.0 tx succ.group outcome mails m)
 
   watch_replied : (o : Option Outcome) (vote : Past) (before : Before) (tx : Draw) (by : ℕ) (mails : List Mail) → AreGood a mails → AreGood a (watch_answered_by o vote me before tx by mails)
   watch_replied None vote before tx by mails m = m
@@ -147,11 +147,11 @@ module _ (a : Affair) (me : ℕ) where
   went_said name group before effect (RecordWatch tx vote by) mails s d m = watch_replied (decided_in effect) vote before tx by mails m
   went_said name group before effect _ mails s d m = m
 
-  begun_said : (before : Before) (effect : Effect) (command : Command) (mails : List Mail) → AreGood a mails → AreGood a (told_begun me before effect command mails)
-  unfolding told_begun
+  begun_said : (before : Before) (effect : Effect) (command : Command) (mails : List Mail) → AreGood a mails → AreGood a (begun_reported me before effect command mails)
+  unfolding begun_reported
   begun_said before effect command mails m = by (begun_result before.alone effect command)
     where
-      by : (o : Option ToldResult) → AreGood a (told_result me o (spoken_number before.order command) mails)
+      by : (o : Option OrderResult) → AreGood a (result_reported me o (spoken_number before.order command) mails)
       by None = m
       by (Some result) = desk_reported (spoken_number before.order command) result mails m
 
@@ -159,5 +159,5 @@ module _ (a : Affair) (me : ℕ) where
   pub spoken_said : (counted : Bool) (name : Draw) (group : Group) (before : Before) (effect : Effect) (command : Command) (mails : List Mail) → a.Is name group.core → a.Does name command → AreGood a mails → AreGood a (spoken_mails counted me group before effect command mails)
   unfolding spoken_mails
   spoken_said counted name group before effect command mails s d m =
-      either_way (AreGood a) counted (went_on me group before effect command (told_begun me before effect command mails)) (told_begun me before effect command mails)
-      (went_said name group before effect command (told_begun me before effect command mails) s d (begun_said before effect command mails m)) (begun_said before effect command mails m)
+      either_way (AreGood a) counted (went_on me group before effect command (begun_reported me before effect command mails)) (begun_reported me before effect command mails)
+      (went_said name group before effect command (begun_reported me before effect command mails) s d (begun_said before effect command mails m)) (begun_said before effect command mails m)

@@ -16,7 +16,7 @@ use Rattle.sc_live_orderly.proofs.Lemmas.{in_time_before, in_time_tidy, last_in_
 use Rattle.sc_paxos_words.proofs.Lemmas.{Each-among, Each-append, Each-weaker}
 use Rattle.sc_law_entries.proofs.NamesProofs.Lemmas.{Each-drop}
 use Rattle.sc_scenario.specs.declared.scenarios.Scenario.{Scenario}
-use Rattle.sc_node_table.specs.Definitions.{told_desk, NodeState, replica_of, with_replica, with_children, group_of_mail, may_come, unknown, taken_by, routed, on_mail, group_of_order, ordered_of, ordered_row, ReplicaState, Executed, name_of, born_replica, mailed, slots_ahead}
+use Rattle.sc_node_table.specs.Definitions.{result_sent, NodeState, replica_of, with_replica, with_children, group_of_mail, may_come, unknown, taken_by, routed, on_mail, group_of_order, ordered_of, ordered_row, ReplicaState, Executed, name_of, born_replica, mailed, slots_ahead}
 use Rattle.sc_law_walks.proofs.Lemmas.{either_way}
 use Rattle.sc_sound.specs.Definitions.{Player, player_table, births, as_nodes}
 use Rattle.sc_live_steps.specs.calm.Definitions.{players, Rows}
@@ -157,10 +157,10 @@ module _ (words : ℕ → ℕ → ℕ × ℕ) (births : List (Seat Player)) (qui
   -- a node, by what it makes of its replica and sends
   node_passes : (base : Base) (node : NodeState) → value player_table seat rows ≡ Node node → (step : NodeState × List Mail) (o : Option (Input Mail OrderLine)) → input_of (mails rows) event ≡ o → acted player_table (Node node) o ≡ (Node step.0, step.1)
       → IsBornOr base seat.who (replica_of base.core.id step.0.replicas) (replica_of base.core.id node.replicas) → Each (IsErrandFor base.core.id) step.1 → Passes base
-  node_passes base node is step o input does view silent = record {
-    view = subst (λ v. IsBornOr base seat.who v (view_at births rows base.core.id seat.who)) (sym (now_is births rows seat event node born is step o input does base.core.id))
-        (subst (IsBornOr base seat.who (replica_of base.core.id step.0.replicas)) (sym (was_is births rows seat event node born is step o input does base.core.id)) view);
-    silent = subst (Each (IsErrandFor base.core.id)) (sym (all_sent births rows seat event node born is step o input does)) silent;
+  node_passes base node is step o input response view silent = record {
+    view = subst (λ v. IsBornOr base seat.who v (view_at births rows base.core.id seat.who)) (sym (now_is births rows seat event node born is step o input response base.core.id))
+        (subst (IsBornOr base seat.who (replica_of base.core.id step.0.replicas)) (sym (was_is births rows seat event node born is step o input response base.core.id)) view);
+    silent = subst (Each (IsErrandFor base.core.id)) (sym (all_sent births rows seat event node born is step o input response)) silent;
   }
 
 -- ---- a delivery
@@ -263,7 +263,7 @@ module _ (words : ℕ → ℕ → ℕ × ℕ) (births : List (Seat Player)) (qui
 
   node_begins : (node : NodeState) → value player_table seat quiet ≡ Node node → (o : Option ReplicaState) → replica_of told node.replicas ≡ o → Begins
   node_begins node is None here =
-      node_passes words births quiet quiet seat (Told line) stage born timely base node is (node, told_desk node.me line.number (Refused (NotLeader None)) []) (Some (ToldInput line)) refl
+      node_passes words births quiet quiet seat (Told line) stage born timely base node is (node, result_sent node.me line.number (Refused (NotLeader None)) []) (Some (ToldInput line)) refl
       (ap (λ (x : NodeState × List Mail). (Node x.0, x.1)) (ap (λ o. ordered_of o line node) here)) (inl refl) ((λ n. absurd (none_some n)), tt)
   node_begins node is (Some r) here =
       let own = found_name told node.replicas r here in
@@ -297,7 +297,7 @@ groups_stay well begun = record {
       (let group : IsGroupOf as_nodes words scenario journal base = record { open_slots = refl; valid = calm.valid; lawful = calm.lawful; stands = stands } in
       passes_young words (births as_nodes scenario) quiet rows seat (Deliver number) later goes.seated goes.timely base nowhere u
       (delivery_passes words (births as_nodes scenario) quiet rows seat number later goes.seated goes.timely unanswered (λ node is. node_number well scenario rows seat node goes.seated is) base
-      (λ node mail g is sent named. begun as_nodes words scenario journal base group rows (row_of player_table seat rows (Deliver number) ∷ goes.front.more) (prefixes rows (row_of player_table seat rows (Deliver number)) goes.front.more journal goes.front.is) seat node goes.seated is number mail g sent named) y) y);
+      (λ node mail g is sent named. begun as_nodes words scenario journal base group rows (row_of player_table seat rows (Deliver number) ∷ goes.prefix.more) (prefixes rows (row_of player_table seat rows (Deliver number)) goes.prefix.more journal goes.prefix.is) seat node goes.seated is number mail g sent named) y) y);
 }
   where
     prefixes : (xs : Rows) (x : Row Mail OrderLine) (ys journal : Rows) → journal ≡ (xs ++ x ∷ []) ++ ys → journal ≡ xs ++ x ∷ ys

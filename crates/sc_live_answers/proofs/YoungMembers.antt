@@ -52,7 +52,7 @@ module _ (laws : OfJournals) (more_laws : OfMembers) (words : ℕ → ℕ → �
   all = births as_nodes scenario
 
   timely : AreInTime (players words (births as_nodes scenario)) rows
-  timely = prefix_in_time words (births as_nodes scenario) journal rows under.front.more under.front.is calm.timely
+  timely = prefix_in_time words (births as_nodes scenario) journal rows under.prefix.more under.prefix.is calm.timely
 
   -- what was there is there
   lasts : (name : Draw) (who : ℕ) → HasReplica (view_at (births as_nodes scenario) quiet) name who → HasReplica (view_at (births as_nodes scenario) rows) name who
@@ -61,17 +61,17 @@ module _ (laws : OfJournals) (more_laws : OfMembers) (words : ℕ → ℕ → �
       (later.0, ap (λ r. view_at (births as_nodes scenario) r name who) at ∙ later.1)
 
   few : (base : Base) → AreFew as_nodes scenario journal base
-  few base front behind who r e v =
-      let in_time = prefix_in_time words (births as_nodes scenario) journal front behind e calm.timely in
-      let parts = ap length e ∙ length-append front behind in
+  few base prefix behind who r e v =
+      let in_time = prefix_in_time words (births as_nodes scenario) journal prefix behind e calm.timely in
+      let parts = ap length e ∙ length-append prefix behind in
       let short = calm.short in
-      let left = more_laws.left words scenario front base.core.id who r in_time (omega (arith, parts, short)) v in
+      let left = more_laws.left words scenario prefix base.core.id who r in_time (omega (arith, parts, short)) v in
       let slots = left.0 in
       (omega (arith, slots), left.1)
 
   module _ (p : Base) (stands : Among p (groups_at as_nodes scenario.groups journal)) where
     taught : IsTaughtOn (logged_sets as_nodes p journal) (over_at as_nodes p journal) (slot_leaders_at as_nodes scenario p journal) words (births as_nodes scenario) rows p
-    taught = (more_laws.taught words scenario journal rows under.front.more p (group_is laws words scenario journal calm p stands) calm.timely (few p) under.front.is (under.sent p stands).so).0
+    taught = (more_laws.taught words scenario journal rows under.prefix.more p (group_is laws words scenario journal calm p stands) calm.timely (few p) under.prefix.is (under.sent p stands).so).0
 
     no_marks : (who : ℕ) → marks_at (players words (births as_nodes scenario)) rows p.core.id who ≡ []
     no_marks who = elim (cases_Bool (is_born (players words (births as_nodes scenario)) who)) [
@@ -114,13 +114,13 @@ module _ (laws : OfJournals) (more_laws : OfMembers) (words : ℕ → ℕ → �
       State k = state_after (group_of p.0) (take k (decided_log as_nodes p.0 journal))
 
       state : (k : ℕ) × (next created_of.0 ≡ suc k) × (created_of.0.group ≡ state_after (group_of p.0) (take k (decided_log as_nodes p.0 journal)))
-      state = state_of laws words scenario journal calm p.0 p.1 rows under.front there.0 created_of.0 (ap (λ n. view_at (births as_nodes scenario) rows n there.0) p.2 ∙ created_of.1)
+      state = state_of laws words scenario journal calm p.0 p.1 rows under.prefix there.0 created_of.0 (ap (λ n. view_at (births as_nodes scenario) rows n there.0) p.2 ∙ created_of.1)
 
       -- the parent did not begin with it
       not_first : HasCreated task.name (state_after (group_of p.0) (take zero (decided_log as_nodes p.0 journal))).core.born → ⊥
       not_first has =
           let old = of.there on in
-          let was = state_of laws words scenario journal calm p.0 p.1 quiet under.rests.front old.0 old.1 (ap (λ n. view_at (births as_nodes scenario) quiet n old.0) p.2 ∙ old.2) in
+          let was = state_of laws words scenario journal calm p.0 p.1 quiet under.rests.prefix old.0 old.1 (ap (λ n. view_at (births as_nodes scenario) quiet n old.0) p.2 ∙ old.2) in
           true≢false (sym (subst (λ (g : Group). HasCreated task.name g.core.born) (sym was.2) (log_stays task.name (group_of p.0) (take was.0 (decided_log as_nodes p.0 journal)) has)) ∙ of.unknown on task.group old.0 old.1 old.2)
 
       -- the entry that creates it
@@ -144,7 +144,7 @@ module _ (laws : OfJournals) (more_laws : OfMembers) (words : ℕ → ℕ → �
       some = (let far = learnt in next_some p.0 p.1 who (view_at (births as_nodes scenario) rows p.0.core.id who) (omega (arith, far)))
 
       now : (k : ℕ) × (next some.0 ≡ suc k) × (some.0.group ≡ State k)
-      now = state_of laws words scenario journal calm p.0 p.1 rows under.front who some.0 some.1
+      now = state_of laws words scenario journal calm p.0 p.1 rows under.prefix who some.0 some.1
 
       knows : Knows task.name some.0
       knows =

@@ -35,7 +35,7 @@ AreSent words scenario journal rows =
 
 -- the rows and one more delivery, which comes in time, are a prefix of the journal
 pub record ContinuesBy (words : ℕ → ℕ → ℕ × ℕ) (scenario : Scenario) (journal rows : Rows) (seat : Seat Player) (number : ℕ) : Type 0 where
-  pub front : IsPrefixOf journal (with_event rows seat (Deliver number))
+  pub prefix : IsPrefixOf journal (with_event rows seat (Deliver number))
   pub seated : IsSeat (births as_nodes scenario) seat
   pub timely : AreInTime (players words (births as_nodes scenario)) (with_event rows seat (Deliver number))
 

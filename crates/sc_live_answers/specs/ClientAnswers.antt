@@ -5,7 +5,7 @@ use Rattle.sc_node_table.specs.Values.{Draw, Op, Base, OrderLine, AnswerBody, Ma
 use Rattle.sc_lookup.specs.Definitions.{target_in}
 use Rattle.sc_lookup.specs.declared.ways.Way.{Way}
 use Rattle.sc_actor.specs.declared.rows.Input.TheVariants.{Go}
-use Rattle.sc_actor.specs.Definitions.{mails, numbered, value, waiting, kth, has_gone}
+use Rattle.sc_actor.specs.Definitions.{mails, numbered, value, waiting, kth, has_started}
 use Rattle.sc_client_table.specs.Definitions.{Client as ClientState, table}
 use Rattle.sc_scenario.specs.declared.scenarios.Asks.{Asks}
 use Rattle.sc_scenario.specs.declared.scenarios.Scenario.{Scenario}
@@ -75,7 +75,7 @@ AllAskLeaders scenario set first rows = (asks : Asks) (client : ClientState) →
 -- after these rows each client that has not started knows one group alone
 abbrev pub KnowOne : Scenario → Base → List (Row Mail OrderLine) → Type 0
 KnowOne scenario first rows =
-    (asks : Asks) (client : ClientState) → Among asks scenario.clients → has_gone rows (client_actor asks.client) ≡ false → value player_table (client_seat (route_of first) asks) rows ≡ Client client → (entry : Draw × Way) × (client.known ≡ entry ∷ [])
+    (asks : Asks) (client : ClientState) → Among asks scenario.clients → has_started rows (client_actor asks.client) ≡ false → value player_table (client_seat (route_of first) asks) rows ≡ Client client → (entry : Draw × Way) × (client.known ≡ entry ∷ [])
 
 -- throughout a line of requests from a journal in which no request waits, a client that has not started knows one group alone, and each client's request is under way once at most, clients ask leaders
 abbrev pub LinesAskLeaders : Type 0

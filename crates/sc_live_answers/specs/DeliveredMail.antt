@@ -11,15 +11,15 @@ use Rattle.sc_live_journals.specs.rows.Definitions.{IsSeat, with_event}
 use Rattle.sc_live_journals.specs.groups.Definitions.{IsLedStep, Ends, IsWellLed, Delivers, HasOneLog, IsSentSo}
 
 -- in a prefix of a journal a mail is delivered in time to a node; before the row its group is well led in a course from which the row goes on, it has one log, its mail is as `IsSentSo` says, and a state that the mail brings is of a group that stands
-pub record MeetsMail (at : Sets) (over : Ends) (by : Tellers) (words : ℕ → ℕ → ℕ × ℕ) (births : List (Seat Player)) (front rows : Rows) (seat : Seat Player) (number : ℕ) (mail : Mail) (node : NodeState) (base : Base) (course : Course) : Type 0 where
+pub record MeetsMail (at : Sets) (over : Ends) (by : Tellers) (words : ℕ → ℕ → ℕ × ℕ) (births : List (Seat Player)) (prefix rows : Rows) (seat : Seat Player) (number : ℕ) (mail : Mail) (node : NodeState) (base : Base) (course : Course) : Type 0 where
   pub seated : IsSeat births seat
   pub is : value player_table seat rows ≡ Node node
-  pub delivers : Delivers front rows seat number mail
+  pub delivers : Delivers prefix rows seat number mail
   pub timely : AreInTime (players words births) (with_event rows seat (Deliver number))
   pub led : IsWellLed at over by words births rows base course
   pub step : IsLedStep at over by words births rows seat (Deliver number) base course
-  pub one : HasOneLog at over by births front base
-  pub sent : IsSentSo births front base
+  pub one : HasOneLog at over by births prefix base
+  pub sent : IsSentSo births prefix base
   pub standing : (slot : ℕ) (state : Base) (sets : List (List ℕ)) → mail.body ≡ Install base.core.id slot state sets → over (slot + 1) ≡ false
 
 -- a replica that does not run keeps no reports of promises

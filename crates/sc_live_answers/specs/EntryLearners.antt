@@ -20,7 +20,7 @@ GroupsBeginTaught = (words : ℕ → ℕ → ℕ × ℕ) (by : Tellers) (scenari
 -- the members of each group of a lawful journal of a valid scenario learn all entries after a prefix of the journal, where its rows come in time and the group's mail is as `IsSentSo` says; and the group has one log there
 abbrev pub GroupsAreTaught : Type 0
 GroupsAreTaught =
-    (words : ℕ → ℕ → ℕ × ℕ) (scenario : Scenario) (journal front more : Rows) (base : Base) → IsGroupOf as_nodes words scenario journal base → AreInTime (players words (births as_nodes scenario)) journal → AreFew as_nodes scenario journal base → journal ≡ front ++ more
-    → IsSentSo (births as_nodes scenario) front base
-    → IsTaughtOn (logged_sets as_nodes base journal) (over_at as_nodes base journal) (slot_leaders_at as_nodes scenario base journal) words (births as_nodes scenario) front base
-    × HasOneLog (logged_sets as_nodes base journal) (over_at as_nodes base journal) (slot_leaders_at as_nodes scenario base journal) (births as_nodes scenario) front base
+    (words : ℕ → ℕ → ℕ × ℕ) (scenario : Scenario) (journal prefix more : Rows) (base : Base) → IsGroupOf as_nodes words scenario journal base → AreInTime (players words (births as_nodes scenario)) journal → AreFew as_nodes scenario journal base → journal ≡ prefix ++ more
+    → IsSentSo (births as_nodes scenario) prefix base
+    → IsTaughtOn (logged_sets as_nodes base journal) (over_at as_nodes base journal) (slot_leaders_at as_nodes scenario base journal) words (births as_nodes scenario) prefix base
+    × HasOneLog (logged_sets as_nodes base journal) (over_at as_nodes base journal) (slot_leaders_at as_nodes scenario base journal) (births as_nodes scenario) prefix base

@@ -10,7 +10,7 @@ use Rattle.sc_live_answers.specs.CalmJournals.{IsCalmJournal, IsPrefixOf}
 
 -- in each prefix of a calm journal each first member of a group of the scenario has a replica of it, and so has the node that clients ask first
 pub record FirstGroupsAreReached : Type 0 where
-  pub members : (words : ℕ → ℕ → ℕ × ℕ) (scenario : Scenario) (journal front : Rows) (base : Base) → IsCalmJournal words scenario journal → IsPrefixOf journal front → Among base scenario.groups
-      → (node : ℕ) → is_member base.core.members node ≡ true → HasReplica (replicas_after scenario front) base.core.id node
-  pub first : (words : ℕ → ℕ → ℕ × ℕ) (scenario : Scenario) (journal front : Rows) (first : Base) (others : List Base) → IsCalmJournal words scenario journal → IsPrefixOf journal front → scenario.groups ≡ first ∷ others
-      → HasReplica (replicas_after scenario front) (route_of first).group (least_of (route_of first).members)
+  pub members : (words : ℕ → ℕ → ℕ × ℕ) (scenario : Scenario) (journal prefix : Rows) (base : Base) → IsCalmJournal words scenario journal → IsPrefixOf journal prefix → Among base scenario.groups
+      → (node : ℕ) → is_member base.core.members node ≡ true → HasReplica (replicas_after scenario prefix) base.core.id node
+  pub first : (words : ℕ → ℕ → ℕ × ℕ) (scenario : Scenario) (journal prefix : Rows) (first : Base) (others : List Base) → IsCalmJournal words scenario journal → IsPrefixOf journal prefix → scenario.groups ≡ first ∷ others
+      → HasReplica (replicas_after scenario prefix) (route_of first).group (least_of (route_of first).members)

@@ -27,11 +27,11 @@ TurnsGoOn =
     (names later_names : List Draw) (replicas later : List ReplicaState) (group : Draw) (turn : Draw → ℕ) → GoInTurn names replicas turn → EndsOnce names later_names replicas later group → (after : Draw → ℕ) × GoInTurn later_names later after
 
 -- between two prefixes at most this one group went, and if it did, into a group that stands
-pub record OnlyOneEnds (scenario : Scenario) (quiet front : Rows) (group : Draw) : Type 0 where
-  pub others : (name : Draw) (node : ℕ) (r : ReplicaState) (into : Route) → (name ≡ group → ⊥) → replicas_after scenario front name node ≡ Some r → r.group.core.gone ≡ Some into
+pub record OnlyOneEnds (scenario : Scenario) (quiet prefix : Rows) (group : Draw) : Type 0 where
+  pub others : (name : Draw) (node : ℕ) (r : ReplicaState) (into : Route) → (name ≡ group → ⊥) → replicas_after scenario prefix name node ≡ Some r → r.group.core.gone ≡ Some into
       → (who : ℕ) × (s : ReplicaState) × (old : Route) × (replicas_after scenario quiet name who ≡ Some s) × (s.group.core.gone ≡ Some old)
   pub stands : (node : ℕ) (r : ReplicaState) (into : Route) → ((who : ℕ) (s : ReplicaState) → replicas_after scenario quiet group who ≡ Some s → s.group.core.gone ≡ None)
-      → replicas_after scenario front group node ≡ Some r → r.group.core.gone ≡ Some into → (who : ℕ) (s : ReplicaState) → replicas_after scenario front into.group who ≡ Some s → s.group.core.gone ≡ None
+      → replicas_after scenario prefix group node ≡ Some r → r.group.core.gone ≡ Some into → (who : ℕ) (s : ReplicaState) → replicas_after scenario prefix into.group who ≡ Some s → s.group.core.gone ≡ None
 
 -- groups go one after another in a quiet prefix, where they did in an earlier quiet prefix in which none was locked, and at most one went between the two
 abbrev pub PrefixesGoInTurn : Type 0
@@ -41,7 +41,7 @@ PrefixesGoInTurn =
 
 -- each group that is gone in the later prefix was gone in the earlier one
 abbrev pub NoGroupEnds : Scenario → Rows → Rows → Type 0
-NoGroupEnds scenario quiet front = (name : Draw) (node : ℕ) (r : ReplicaState) (into : Route) → replicas_after scenario front name node ≡ Some r → r.group.core.gone ≡ Some into
+NoGroupEnds scenario quiet prefix = (name : Draw) (node : ℕ) (r : ReplicaState) (into : Route) → replicas_after scenario prefix name node ≡ Some r → r.group.core.gone ≡ Some into
     → (who : ℕ) × (s : ReplicaState) × (old : Route) × (replicas_after scenario quiet name who ≡ Some s) × (s.group.core.gone ≡ Some old)
 
 -- groups go one after another in a quiet prefix, where they did in an earlier quiet prefix in which none was locked, and none went between the two

@@ -31,15 +31,15 @@ pub record IsBornOn (by : Tellers) (words : ℕ → ℕ → ℕ × ℕ) (scenari
 -- `IsBornOn` holds after a prefix of a journal that comes in time, where the group has one log and its mail is as `IsSentSo` says
 abbrev pub ChildrenAreMade : Type 0
 ChildrenAreMade =
-    (words : ℕ → ℕ → ℕ × ℕ) (by : Tellers) (scenario : Scenario) (journal front more : Rows) (base : Base) → IsGroupOf as_nodes words scenario journal base → journal ≡ front ++ more → AreInTime (players words (births as_nodes scenario)) front
-    → HasOneLog (logged_sets as_nodes base journal) (over_at as_nodes base journal) by (births as_nodes scenario) front base → IsSentSo (births as_nodes scenario) front base → IsBornOn by words scenario journal front base
+    (words : ℕ → ℕ → ℕ × ℕ) (by : Tellers) (scenario : Scenario) (journal prefix more : Rows) (base : Base) → IsGroupOf as_nodes words scenario journal base → journal ≡ prefix ++ more → AreInTime (players words (births as_nodes scenario)) prefix
+    → HasOneLog (logged_sets as_nodes base journal) (over_at as_nodes base journal) by (births as_nodes scenario) prefix base → IsSentSo (births as_nodes scenario) prefix base → IsBornOn by words scenario journal prefix base
 
 -- each group of a quiet prefix has a replica
 abbrev pub PrefixGroupsHaveReplicas : Type 0
-PrefixGroupsHaveReplicas = (words : ℕ → ℕ → ℕ × ℕ) (scenario : Scenario) (journal front : Rows) → IsQuietPrefix words scenario journal front → AreAllThere scenario front
+PrefixGroupsHaveReplicas = (words : ℕ → ℕ → ℕ × ℕ) (scenario : Scenario) (journal prefix : Rows) → IsQuietPrefix words scenario journal prefix → AreAllThere scenario prefix
 
 -- each first member of a group that has a replica in a quiet prefix has one
 abbrev pub PrefixMembersHaveReplicas : Type 0
 PrefixMembersHaveReplicas =
-    (words : ℕ → ℕ → ℕ × ℕ) (scenario : Scenario) (journal front : Rows) (base : Base) → IsQuietPrefix words scenario journal front → Among base (groups_at as_nodes scenario.groups journal) → IsThere (births as_nodes scenario) front base.core.id
-    → (node : ℕ) → is_member base.core.members node ≡ true → HasReplica (view_at (births as_nodes scenario) front) base.core.id node
+    (words : ℕ → ℕ → ℕ × ℕ) (scenario : Scenario) (journal prefix : Rows) (base : Base) → IsQuietPrefix words scenario journal prefix → Among base (groups_at as_nodes scenario.groups journal) → IsThere (births as_nodes scenario) prefix base.core.id
+    → (node : ℕ) → is_member base.core.members node ≡ true → HasReplica (view_at (births as_nodes scenario) prefix) base.core.id node

@@ -61,7 +61,7 @@ pub record WellLedLeadAlone : Type 0 where
 
 -- a replica has an act or an order waiting only while it has a command in flight
 abbrev pub WaitsForFlights : ReplicaState → Type 0
-WaitsForFlights r = r.leader.flights ≡ [] → (works_in r.acts ≡ []) × (works_in r.calls ≡ [])
+WaitsForFlights r = r.leader.flights ≡ [] → (works_in r.acts ≡ []) × (works_in r.backlog ≡ [])
 
 -- in a quiet journal each replica of a well led group that runs has nothing waiting, in flight or ready, where slots are left, no mail of the group is for a number that is no player, and acts wait only for flights
 abbrev pub QuietLeadersHaveNothing : Type 0

@@ -54,21 +54,21 @@ ChildrenAreBegun = (ahead : Ahead) (words : ℕ → ℕ → ℕ × ℕ) (scenari
     → AreAsBegun base seat.who (made_children (replica_of group node.replicas) mail.from mail.body)
 
 -- what has to be shown of a prefix of a journal, so that a group has one log: the node that leads at each slot is a member there; no replica has used up its rounds; slots that mail brings are at most the last one; and a member that executes an entry as leader leads at the entry's slot, and it alone sends the state
-pub record HasLeaders (ahead : Ahead) (by : Tellers) (scenario : Scenario) (journal front : Rows) (base : Base) : Type 0 where
+pub record HasLeaders (ahead : Ahead) (by : Tellers) (scenario : Scenario) (journal prefix : Rows) (base : Base) : Type 0 where
   pub leads : (slot : ℕ) → is_member (members_at (logged_sets ahead base journal) slot) (by slot) ≡ true
   -- after each prefix of these rows each replica has a later round left
-  pub rounds : (rows more : Rows) (node : ℕ) (r : ReplicaState) → front ≡ rows ++ more → view_at (births ahead scenario) rows base.core.id node ≡ Some r → HasRounds r
+  pub rounds : (rows more : Rows) (node : ℕ) (r : ReplicaState) → prefix ≡ rows ++ more → view_at (births ahead scenario) rows base.core.id node ≡ Some r → HasRounds r
   -- an entry that a Learn brings a replica at its next slot is at most the last slot
-  pub told : (rows : Rows) (seat : Seat Player) (number : ℕ) (mail : Mail) (slot : ℕ) (command : Command) (r : ReplicaState) → Delivers front rows seat number mail → mail.body ≡ Learn base.core.id slot command
+  pub told : (rows : Rows) (seat : Seat Player) (number : ℕ) (mail : Mail) (slot : ℕ) (command : Command) (r : ReplicaState) → Delivers prefix rows seat number mail → mail.body ≡ Learn base.core.id slot command
       → view_at (births ahead scenario) rows base.core.id seat.who ≡ Some r → slot ≡ next r → slot ≤ last_slot
   -- a state is sent by the node that leads at its slot
-  pub sent : (rows : Rows) (seat : Seat Player) (number : ℕ) (mail : Mail) (slot : ℕ) (state : Base) (sets : List (List ℕ)) → Delivers front rows seat number mail → mail.body ≡ Install base.core.id slot state sets
+  pub sent : (rows : Rows) (seat : Seat Player) (number : ℕ) (mail : Mail) (slot : ℕ) (state : Base) (sets : List (List ℕ)) → Delivers prefix rows seat number mail → mail.body ≡ Install base.core.id slot state sets
       → (mail.from ≡ by slot) × (slot ≤ last_slot)
   -- the entries that a leader executes are at slots at which it leads
-  pub counted : (rows : Rows) (seat : Seat Player) (event : Event OrderLine) (r after : ReplicaState) → IsRowOf front rows seat event → view_at (births ahead scenario) rows base.core.id seat.who ≡ Some r → r.running ≡ true
+  pub counted : (rows : Rows) (seat : Seat Player) (event : Event OrderLine) (r after : ReplicaState) → IsRowOf prefix rows seat event → view_at (births ahead scenario) rows base.core.id seat.who ≡ Some r → r.running ≡ true
       → view_at (births ahead scenario) (with_event rows seat event) base.core.id seat.who ≡ Some after → CountsAsMember (logged_sets ahead base journal) by r after seat.who
 
 -- a group has one log in a prefix of a journal in which it has leaders: the members of its slots, and the slot from which on it is gone, are those of the whole journal
 abbrev pub LedLogsAreOne : Type 0
-LedLogsAreOne = (ahead : Ahead) (words : ℕ → ℕ → ℕ × ℕ) (by : Tellers) (scenario : Scenario) (journal front more : Rows) (base : Base) → IsGroupOf ahead words scenario journal base → journal ≡ front ++ more → HasLeaders ahead by scenario journal front base
-    → HasOneLog (logged_sets ahead base journal) (over_at ahead base journal) by (births ahead scenario) front base
+LedLogsAreOne = (ahead : Ahead) (words : ℕ → ℕ → ℕ × ℕ) (by : Tellers) (scenario : Scenario) (journal prefix more : Rows) (base : Base) → IsGroupOf ahead words scenario journal base → journal ≡ prefix ++ more → HasLeaders ahead by scenario journal prefix base
+    → HasOneLog (logged_sets ahead base journal) (over_at ahead base journal) by (births ahead scenario) prefix base

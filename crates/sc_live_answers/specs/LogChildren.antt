@@ -12,11 +12,11 @@ use Rattle.sc_live_journals.specs.logs.Definitions.{IsGroupOf, HasReplica}
 
 -- the entry at this slot of a group's log makes this child, in the state after the entries before it
 pub record IsBirth (all : List Command) (base : Base) (slot : ℕ) (child : Base) : Type 0 where
-  pub front : List Command
+  pub prefix : List Command
   pub command : Command
-  pub before : take (slot - 1) all ≡ front
-  pub upto : take slot all ≡ front ++ command ∷ []
-  pub child_is : child_by (state_after (group_of base) front) command ≡ Some child
+  pub before : take (slot - 1) all ≡ prefix
+  pub upto : take slot all ≡ prefix ++ command ∷ []
+  pub child_is : child_by (state_after (group_of base) prefix) command ≡ Some child
 
 -- a replica makes the child of each entry that it executes, where its node is a member of the child
 pub record EntriesCreateChildren : Type 0 where

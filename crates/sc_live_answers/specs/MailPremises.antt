@@ -20,31 +20,31 @@ abbrev pub FindsBy : Chart → List (Seat Player) → Rows → ℕ → Mail → 
 FindsBy chart births rows who mail node = IsCalmMailAt chart.ways chart.groups (led_elsewhere births rows who) mail.from mail.body node
 
 -- a mail of a group of a lawful journal of a valid scenario comes to a node (`MeetsMail`), and the group stands once in the chart
-pub record MeetsIn (chart : Chart) (words : ℕ → ℕ → ℕ × ℕ) (by : Tellers) (scenario : Scenario) (journal front rows : Rows) (seat : Seat Player) (number : ℕ) (mail : Mail) (node : NodeState) (base : Base) (course : Course) : Type 0 where
+pub record MeetsIn (chart : Chart) (words : ℕ → ℕ → ℕ × ℕ) (by : Tellers) (scenario : Scenario) (journal prefix rows : Rows) (seat : Seat Player) (number : ℕ) (mail : Mail) (node : NodeState) (base : Base) (course : Course) : Type 0 where
   pub group : IsGroupOf as_nodes words scenario journal base
-  pub meets : MeetsMail (logged_sets as_nodes base journal) (over_at as_nodes base journal) by words (births as_nodes scenario) front rows seat number mail node base course
+  pub meets : MeetsMail (logged_sets as_nodes base journal) (over_at as_nodes base journal) by words (births as_nodes scenario) prefix rows seat number mail node base course
   pub named : group_of_mail mail.body ≡ Some base.core.id
   pub once : StandsOnce base.core.id chart.groups
 
 -- a mail as `MeetsIn` says finds what the potential needs, where it has what its kind needs besides (`NeedsAt`)
 abbrev pub GroupMailFinds : Type 0
 GroupMailFinds =
-    (chart : Chart) (words : ℕ → ℕ → ℕ × ℕ) (by : Tellers) (scenario : Scenario) (journal front rows : Rows) (seat : Seat Player) (number : ℕ) (mail : Mail) (node : NodeState) (base : Base) (course : Course)
-    → MeetsIn chart words by scenario journal front rows seat number mail node base course → NeedsAt chart.ways (replica_of base.core.id node.replicas) mail.body → FindsBy chart (births as_nodes scenario) rows seat.who mail node
+    (chart : Chart) (words : ℕ → ℕ → ℕ × ℕ) (by : Tellers) (scenario : Scenario) (journal prefix rows : Rows) (seat : Seat Player) (number : ℕ) (mail : Mail) (node : NodeState) (base : Base) (course : Course)
+    → MeetsIn chart words by scenario journal prefix rows seat number mail node base course → NeedsAt chart.ways (replica_of base.core.id node.replicas) mail.body → FindsBy chart (births as_nodes scenario) rows seat.who mail node
 
 -- in a prefix of a journal whose rows come in time, where the group's mail is as `IsSentSo` says, each state that is delivered is one in which the group stands
 abbrev pub StatesStand : Type 0
 StatesStand =
-    (words : ℕ → ℕ → ℕ × ℕ) (scenario : Scenario) (journal front more : Rows) (base : Base) → IsGroupOf as_nodes words scenario journal base → AreInTime (players words (births as_nodes scenario)) journal → AreFew as_nodes scenario journal base → journal ≡ front ++ more
-    → IsSentSo (births as_nodes scenario) front base
-    → (rows : Rows) (seat : Seat Player) (number : ℕ) (mail : Mail) (slot : ℕ) (state : Base) (sets : List (List ℕ)) → Delivers front rows seat number mail → mail.body ≡ Install base.core.id slot state sets → over_at as_nodes base journal (slot + 1) ≡ false
+    (words : ℕ → ℕ → ℕ × ℕ) (scenario : Scenario) (journal prefix more : Rows) (base : Base) → IsGroupOf as_nodes words scenario journal base → AreInTime (players words (births as_nodes scenario)) journal → AreFew as_nodes scenario journal base → journal ≡ prefix ++ more
+    → IsSentSo (births as_nodes scenario) prefix base
+    → (rows : Rows) (seat : Seat Player) (number : ℕ) (mail : Mail) (slot : ℕ) (state : Base) (sets : List (List ℕ)) → Delivers prefix rows seat number mail → mail.body ≡ Install base.core.id slot state sets → over_at as_nodes base journal (slot + 1) ≡ false
 
 -- in a prefix of a journal whose rows come in time, where a group's mail is as `IsSentSo` says, all mail of the group that is delivered to a node finds what the potential needs, where it has what its kind needs besides (`NeedsAt`)
 abbrev pub JournalMailFinds : Type 0
 JournalMailFinds =
-    (chart : Chart) (words : ℕ → ℕ → ℕ × ℕ) (scenario : Scenario) (journal front more : Rows) (base : Base) → IsGroupOf as_nodes words scenario journal base → AreInTime (players words (births as_nodes scenario)) journal → AreFew as_nodes scenario journal base → journal ≡ front ++ more
-    → IsSentSo (births as_nodes scenario) front base
-    → (rows : Rows) (seat : Seat Player) (number : ℕ) (mail : Mail) (node : NodeState) → Delivers front rows seat number mail → IsSeat (births as_nodes scenario) seat → value player_table seat rows ≡ Node node
+    (chart : Chart) (words : ℕ → ℕ → ℕ × ℕ) (scenario : Scenario) (journal prefix more : Rows) (base : Base) → IsGroupOf as_nodes words scenario journal base → AreInTime (players words (births as_nodes scenario)) journal → AreFew as_nodes scenario journal base → journal ≡ prefix ++ more
+    → IsSentSo (births as_nodes scenario) prefix base
+    → (rows : Rows) (seat : Seat Player) (number : ℕ) (mail : Mail) (node : NodeState) → Delivers prefix rows seat number mail → IsSeat (births as_nodes scenario) seat → value player_table seat rows ≡ Node node
     → group_of_mail mail.body ≡ Some base.core.id → StandsOnce base.core.id chart.groups → NeedsAt chart.ways (replica_of base.core.id node.replicas) mail.body → FindsBy chart (births as_nodes scenario) rows seat.who mail node
 
 -- mail of no group, such as an answer, finds what the potential needs: it changes nothing at a node

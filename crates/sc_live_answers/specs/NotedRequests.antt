@@ -22,5 +22,5 @@ IssuedAreBegun =
 -- in a quiet prefix where no group is locked, the group of each leader that stands has noted only begun requests, and holds only values that such requests wrote
 abbrev pub PrefixNotesAreBegun : Type 0
 PrefixNotesAreBegun =
-    (words : ℕ → ℕ → ℕ × ℕ) (scenario : Scenario) (journal front : Rows) → IsQuietPrefix words scenario journal front → AreAllFree scenario front
-    → (group : Draw) (stands : StandsQuiet (replicas_after scenario front) group) → IsPlainGroup (IsBegun scenario front) (frame_at_rest stands.lead) stands.lead.group
+    (words : ℕ → ℕ → ℕ × ℕ) (scenario : Scenario) (journal prefix : Rows) → IsQuietPrefix words scenario journal prefix → AreAllFree scenario prefix
+    → (group : Draw) (stands : StandsQuiet (replicas_after scenario prefix) group) → IsPlainGroup (IsBegun scenario prefix) (frame_at_rest stands.lead) stands.lead.group

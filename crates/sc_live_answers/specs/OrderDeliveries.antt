@@ -24,7 +24,7 @@ use Rattle.sc_live_answers.specs.ChartQuestions.{AllLeadAlone}
 -- at a leader only work of the order is in flight or ready; each command in flight is an entry of an order that leaves at most nine members; and no request waits while one is in flight
 pub record CountsEntries (r : ReplicaState) : Type 0 where
   pub alone : IsOrdersAlone r
-  pub calls : (r.leader.flights ≡ [] → ⊥) → r.calls ≡ []
+  pub backlog : (r.leader.flights ≡ [] → ⊥) → r.backlog ≡ []
   pub entries : Each (λ flight. IsEntry flight.value r × (length (applied r.group flight.value).0.core.members ≤ 9)) r.leader.flights
 
 -- what else is known of a mail that comes to a node while an order is under way: its group is one of the journal, a replica that does not run keeps no reports, the mail is as `IsUnsettled` says, it is no request, and a leader there is as `CountsEntries` says
@@ -41,7 +41,7 @@ pub record IsKnownMail (scenario : Scenario) (journal : Rows) (mail : Mail) (nod
 pub record IsKnownDelivery (words : ℕ → ℕ → ℕ × ℕ) (scenario : Scenario) (journal quiet rows : Rows) (far sent : ℕ) (seat : Seat Player) (number : ℕ) : Type 0 where
   pub alone : AllLeadAlone (births as_nodes scenario) rows
   pub homes : AreAtNodes scenario quiet
-  pub front : quiet_prefix (players words (births as_nodes scenario)) rows ≡ quiet
+  pub prefix : quiet_prefix (players words (births as_nodes scenario)) rows ≡ quiet
   pub rise : DoHintsRise (replicas_after scenario quiet) (chart_at far sent (players words (births as_nodes scenario)) rows).ways
   pub nodes : (client : ClientState) → value player_table seat rows ≡ Client client → ⊥
   pub mail : (mail : Mail) (node : NodeState) (name : Draw) → numbered (mails rows) number ≡ Some mail → value player_table seat rows ≡ Node node → group_of_mail mail.body ≡ Some name → IsKnownMail scenario journal mail node name

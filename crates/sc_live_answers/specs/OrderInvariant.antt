@@ -3,7 +3,7 @@ use Rattle.std.specs.Prelude.{◌≡◌, ◌⊎◌, ℕ, ◌+◌, true, ◌++◌
 use Rattle.sc_base.specs.Definitions.{Among, Each}
 use Rattle.sc_node_table.specs.Values.{Draw, Base, OrderLine, Mail, Client, Seat, Deliver}
 use Rattle.sc_actor.specs.declared.rows.Event.TheVariants.{Told}
-use Rattle.sc_actor.specs.Definitions.{mails, value, has_gone}
+use Rattle.sc_actor.specs.Definitions.{mails, value, has_started}
 use Rattle.sc_client_table.specs.Definitions.{Client as ClientState}
 use Rattle.sc_live_orderly.specs.Definitions.{is_born, orders, rest, AreInTime}
 use Rattle.sc_scenario.specs.declared.scenarios.Scenario.{Scenario}
@@ -30,7 +30,7 @@ use Rattle.sc_live_answers.specs.EndingGroups.{IsGoingSince}
 use Rattle.sc_live_answers.specs.RedirectBounds.{HasNamesSince}
 use Rattle.sc_live_answers.specs.WaitingActs.{HaveNoneWaiting}
 use Rattle.sc_live_answers.specs.CreatedGroups.{AreCreatedByOrder}
-use Rattle.sc_policy.specs.Definitions.{is_told}
+use Rattle.sc_policy.specs.Definitions.{is_reported}
 use Rattle.sc_live_answers.specs.OrderTasks.{Task}
 use Rattle.sc_live_answers.specs.ReportedOrders.{IsGiven, IsReported, IsOrderHeld}
 use Rattle.sc_live_answers.specs.WaitingWork.{AreAtWork, IsTaskOf}
@@ -53,13 +53,13 @@ pub record IsOrderedSince (words : ℕ → ℕ → ℕ × ℕ) (scenario : Scena
   pub hinted : IsHinted scenario quiet rows under.stage
   pub line : OrderLine
   pub only : (other : OrderLine) → IsGiven rows other → IsGiven quiet other ⊎ (other ≡ line)
-  pub told : is_told line.number ≡ true
+  pub told : is_reported line.number ≡ true
   pub result : IsReported (mails rows) line.number ⊎ IsOrderHeld (scene_at (births as_nodes scenario) rows)
   pub task : Task
   pub is_task : IsTaskOf (births as_nodes scenario) quiet line task
   pub work : AreAtWork task words (births as_nodes scenario) rows
   pub created : AreCreatedByOrder scenario journal quiet rows task
-  pub clients : (other : Seat Player) (client : ClientState) → IsSeat (births as_nodes scenario) other → value player_table other quiet ≡ Client client → (value player_table other rows ≡ Client client) × (has_gone rows other.who ≡ has_gone quiet other.who)
+  pub clients : (other : Seat Player) (client : ClientState) → IsSeat (births as_nodes scenario) other → value player_table other quiet ≡ Client client → (value player_table other rows ≡ Client client) × (has_started rows other.who ≡ has_started quiet other.who)
   pub known : (who : ℕ) → is_born (players words (births as_nodes scenario)) who ≡ true → Each (IsOfJournal scenario journal) (rest (players words (births as_nodes scenario)) rows who)
   pub home : Each (GoesToNode scenario) (mails rows)
   pub waits : HaveNoneWaiting scenario rows

@@ -149,7 +149,7 @@ Creates task name base = CreatesBy task.splits task.group task.name name base
 
 -- a replica of the group `name` while an order with this task is under way: no request and no order waits, what waits, is in flight or ready is as `Does` says, and its state is as `Is` says
 pub record IsAtWork (task : Task) (name : Draw) (r : ReplicaState) : Type 0 where
-  pub calls : r.calls ≡ []
+  pub backlog : r.backlog ≡ []
   pub acts : Each (Does task name) r.acts
   pub flights : Each (λ flight. Does task name flight.value) r.leader.flights
   pub ready : Each (λ entry. Does task name entry.1) r.ready

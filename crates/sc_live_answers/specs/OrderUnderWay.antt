@@ -22,7 +22,7 @@ pub record IsYoungAt (words : ℕ → ℕ → ℕ × ℕ) (births : List (Seat P
 -- since a quiet prefix that rests an order is at a stage, and groups that have no part in it are as they were; all groups are well led, each that has a replica has one with its newest state; and groups that had no replica in the quiet prefix are young
 pub record IsUnder (words : ℕ → ℕ → ℕ × ℕ) (scenario : Scenario) (first : Base) (journal quiet rows : Rows) : Type 0 where
   pub rests : RestsAt words scenario first journal quiet
-  pub front : IsPrefixOf journal rows
+  pub prefix : IsPrefixOf journal rows
   pub sent : AreSent words scenario journal rows
   pub reached : (base : Base) (is : Among base (groups_at as_nodes scenario.groups journal)) → IsReachedSo (births as_nodes scenario) rows base (sent base is).course
   pub stage : Stage

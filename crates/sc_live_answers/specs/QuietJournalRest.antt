@@ -21,17 +21,17 @@ use Rattle.sc_live_answers.specs.RestingPrefixes.{RestsAt}
 use Rattle.sc_live_answers.specs.RequestInvariant.{IsKnownPrefix, IsRequested}
 
 -- mail of transactions went to players, no replica saw a later round than one more than the number of orders given, hints rise, and groups went one after another
-pub record RestsBesides (words : ℕ → ℕ → ℕ × ℕ) (scenario : Scenario) (journal front : Rows) (sent : AreSent words scenario journal front) : Type 0 where
-  pub errands : Each (GoesToActor words (births as_nodes scenario)) (mails front)
-  pub rounds : (name : Draw) (node : ℕ) (r : ReplicaState) → view_at (births as_nodes scenario) front name node ≡ Some r → r.top.round ≤ orders front + 1
-  pub rising : (base : Base) (among : Among base (groups_at as_nodes scenario.groups journal)) → IsRisingOn (logged_sets as_nodes base journal) (slot_leaders_at as_nodes scenario base journal) words (births as_nodes scenario) front base (sent base among).course
+pub record RestsBesides (words : ℕ → ℕ → ℕ × ℕ) (scenario : Scenario) (journal prefix : Rows) (sent : AreSent words scenario journal prefix) : Type 0 where
+  pub errands : Each (GoesToActor words (births as_nodes scenario)) (mails prefix)
+  pub rounds : (name : Draw) (node : ℕ) (r : ReplicaState) → view_at (births as_nodes scenario) prefix name node ≡ Some r → r.top.round ≤ orders prefix + 1
+  pub rising : (base : Base) (among : Among base (groups_at as_nodes scenario.groups journal)) → IsRisingOn (logged_sets as_nodes base journal) (slot_leaders_at as_nodes scenario base journal) words (births as_nodes scenario) prefix base (sent base among).course
   pub turn : Draw → ℕ
-  pub turns : GoInTurn (names_at (births as_nodes scenario) front) (all_replicas (births as_nodes scenario) front) turn
+  pub turns : GoInTurn (names_at (births as_nodes scenario) prefix) (all_replicas (births as_nodes scenario) prefix) turn
 
 -- a quiet prefix rests, where it is a quiet journal and is as `RestsBesides` says
 abbrev pub QuietJournalsRest : Type 0
 QuietJournalsRest =
-    (words : ℕ → ℕ → ℕ × ℕ) (scenario : Scenario) (first : Base) (journal front : Rows) → (q : IsQuietPrefix words scenario journal front) → IsQuietJournal words scenario first front → RestsBesides words scenario journal front q.sent → RestsAt words scenario first journal front
+    (words : ℕ → ℕ → ℕ × ℕ) (scenario : Scenario) (first : Base) (journal prefix : Rows) → (q : IsQuietPrefix words scenario journal prefix) → IsQuietJournal words scenario first prefix → RestsBesides words scenario journal prefix q.sent → RestsAt words scenario first journal prefix
 
 -- a quiet prefix behind one that rests, with requests alone between the two, rests where it is as `RestsBesides` says
 abbrev pub RequestsLeaveResting : Type 0

@@ -24,35 +24,35 @@ AreAllThere scenario rows = (base : Base) → Among base (groups_at as_nodes sce
 
 -- in a quiet prefix all replicas of one group that are gone know the same route
 abbrev pub RoutesInPrefixesAgree : Type 0
-RoutesInPrefixesAgree = (words : ℕ → ℕ → ℕ × ℕ) (scenario : Scenario) (journal front : Rows) → IsQuietPrefix words scenario journal front → GoneAgree (replicas_after scenario front)
+RoutesInPrefixesAgree = (words : ℕ → ℕ → ℕ × ℕ) (scenario : Scenario) (journal prefix : Rows) → IsQuietPrefix words scenario journal prefix → GoneAgree (replicas_after scenario prefix)
 
 -- in each course of a group of a quiet prefix, the newest state is the one after the group's whole decided log
 abbrev pub QuietCoursesEnd : Type 0
 QuietCoursesEnd =
-    (words : ℕ → ℕ → ℕ × ℕ) (scenario : Scenario) (journal front : Rows) (by : Tellers) (base : Base) (course : Course) → IsQuietPrefix words scenario journal front → Among base (groups_at as_nodes scenario.groups front)
-    → IsQuietGroup by words scenario journal front base course → length (decided_log as_nodes base front) + 1 ≡ course.newest
+    (words : ℕ → ℕ → ℕ × ℕ) (scenario : Scenario) (journal prefix : Rows) (by : Tellers) (base : Base) (course : Course) → IsQuietPrefix words scenario journal prefix → Among base (groups_at as_nodes scenario.groups prefix)
+    → IsQuietGroup by words scenario journal prefix base course → length (decided_log as_nodes base prefix) + 1 ≡ course.newest
 
 -- where no part of an order is left in a quiet prefix, no group is locked by its log
 abbrev pub StillPrefixesAreFree : Type 0
 StillPrefixesAreFree =
-    (words : ℕ → ℕ → ℕ × ℕ) (scenario : Scenario) (journal front : Rows) → IsQuietPrefix words scenario journal front → IsAt Still (scene_at (births as_nodes scenario) front) → AreAllFree scenario front
+    (words : ℕ → ℕ → ℕ × ℕ) (scenario : Scenario) (journal prefix : Rows) → IsQuietPrefix words scenario journal prefix → IsAt Still (scene_at (births as_nodes scenario) prefix) → AreAllFree scenario prefix
 
 -- where no group of a quiet prefix is locked by its log, the groups are known (`AreKnown`)
 abbrev pub PrefixesAreKnown : Type 0
-PrefixesAreKnown = (words : ℕ → ℕ → ℕ × ℕ) (scenario : Scenario) (journal front : Rows) → IsQuietPrefix words scenario journal front → AreAllFree scenario front → AreKnown scenario front
+PrefixesAreKnown = (words : ℕ → ℕ → ℕ × ℕ) (scenario : Scenario) (journal prefix : Rows) → IsQuietPrefix words scenario journal prefix → AreAllFree scenario prefix → AreKnown scenario prefix
 
 -- where no group of a quiet prefix is locked by its log, links and routes name nodes that have a replica of the group named
 abbrev pub PrefixesAreReachable : Type 0
-PrefixesAreReachable = (words : ℕ → ℕ → ℕ × ℕ) (scenario : Scenario) (journal front : Rows) → IsQuietPrefix words scenario journal front → AreAllFree scenario front → AreReachable (replicas_after scenario front)
+PrefixesAreReachable = (words : ℕ → ℕ → ℕ × ℕ) (scenario : Scenario) (journal prefix : Rows) → IsQuietPrefix words scenario journal prefix → AreAllFree scenario prefix → AreReachable (replicas_after scenario prefix)
 
 -- where no group of a quiet prefix is locked by its log, the route by which a group went names a group of which each node of the route has a replica
 abbrev pub PrefixesAreTakenIn : Type 0
 PrefixesAreTakenIn =
-    (words : ℕ → ℕ → ℕ × ℕ) (scenario : Scenario) (journal front : Rows) (by : Tellers) (base : Base) (course : Course) (into : Route) → IsQuietPrefix words scenario journal front → AreAllFree scenario front
-    → Among base (groups_at as_nodes scenario.groups front) → IsQuietGroup by words scenario journal front base course → (state_at as_nodes base journal course.newest).core.gone ≡ Some into → IsTakenIn (replicas_at scenario front) into
+    (words : ℕ → ℕ → ℕ × ℕ) (scenario : Scenario) (journal prefix : Rows) (by : Tellers) (base : Base) (course : Course) (into : Route) → IsQuietPrefix words scenario journal prefix → AreAllFree scenario prefix
+    → Among base (groups_at as_nodes scenario.groups prefix) → IsQuietGroup by words scenario journal prefix base course → (state_at as_nodes base journal course.newest).core.gone ≡ Some into → IsTakenIn (replicas_at scenario prefix) into
 
 -- where no group of a quiet prefix is locked by its log, the link of a leader whose group stands is as a quiet journal needs it (`IsLinked`)
 abbrev pub PrefixesAreLinked : Type 0
 PrefixesAreLinked =
-    (words : ℕ → ℕ → ℕ × ℕ) (scenario : Scenario) (journal front : Rows) (by : Tellers) (base : Base) (course : Course) (lead : ReplicaState) → IsQuietPrefix words scenario journal front → AreAllFree scenario front
-    → Among base (groups_at as_nodes scenario.groups front) → IsQuietGroup by words scenario journal front base course → course.gone ≡ false → replicas_at scenario front base.core.id course.ballot.node ≡ Some lead → IsLinked (replicas_at scenario front) lead
+    (words : ℕ → ℕ → ℕ × ℕ) (scenario : Scenario) (journal prefix : Rows) (by : Tellers) (base : Base) (course : Course) (lead : ReplicaState) → IsQuietPrefix words scenario journal prefix → AreAllFree scenario prefix
+    → Among base (groups_at as_nodes scenario.groups prefix) → IsQuietGroup by words scenario journal prefix base course → course.gone ≡ false → replicas_at scenario prefix base.core.id course.ballot.node ≡ Some lead → IsLinked (replicas_at scenario prefix) lead

@@ -1,7 +1,7 @@
 -- What becomes of orders: in a calm scenario in which no line was cut off, the result of each is reported.
 use Rattle.std.specs.Prelude.{◌≡◌, ℕ, ◌^◌, ◌≤◌, true, false, List, [], ◌∷◌, length}
 use Rattle.sc_base.specs.Definitions.{Among}
-use Rattle.sc_node_table.specs.Values.{Draw, OrderLine, ToldResult, Mail, Told, Row}
+use Rattle.sc_node_table.specs.Values.{Draw, OrderLine, OrderResult, Mail, Told, Row}
 use Rattle.sc_actor.specs.declared.rows.Event.TheVariants.{Told as GivesOrder}
 use Rattle.sc_actor.specs.Definitions.{mails, is_quiet, unsettled}
 use Rattle.sc_scenario.specs.Definitions.{IsValid}
@@ -15,7 +15,7 @@ use Rattle.sc_live_plain.specs.Definitions.{IsCalm}
 -- one of these mails reports the result of the order with this number: done, committed, aborted, or refused with its cause
 pub record IsReported (sent : List Mail) (number : ℕ) : Type 0 where
   pub mail : Mail
-  pub result : ToldResult
+  pub result : OrderResult
   pub among : Among mail sent
   pub body : mail.body ≡ Told number result
 

@@ -33,7 +33,7 @@ SentNodesMayPump = (words : ℕ → ℕ → ℕ × ℕ) (scenario : Scenario) (j
 pub record IsAskedSince (words : ℕ → ℕ → ℕ × ℕ) (scenario : Scenario) (first : Base) (far sends : ℕ) (journal quiet after : Rows) : Type 0 where
   pub rests : RestsAt words scenario first journal quiet
   pub known : IsKnownPrefix words scenario journal quiet far
-  pub front : IsPrefixOf journal (quiet ++ after)
+  pub prefix : IsPrefixOf journal (quiet ++ after)
   pub requested : IsRequested words scenario first far sends quiet after
   pub sent : AreSent words scenario journal (quiet ++ after)
   pub rising : (base : Base) (among : Among base (groups_at as_nodes scenario.groups journal)) → IsRisingOn (logged_sets as_nodes base journal) (slot_leaders_at as_nodes scenario base journal) words (births as_nodes scenario) (quiet ++ after) base (sent base among).course

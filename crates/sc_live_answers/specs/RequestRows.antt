@@ -2,7 +2,7 @@
 use Rattle.std.specs.Prelude.{◌≡◌, ℕ, ◌≤◌, ◌==◌, ◌++◌, false, List, ◌∷◌, find, Some}
 use Rattle.sc_base.specs.Definitions.{Among, Each, client_actor}
 use Rattle.sc_node_table.specs.Values.{Base, OrderLine, Mail, Node, Client, Seat, Event, Row}
-use Rattle.sc_actor.specs.Definitions.{value, has_gone}
+use Rattle.sc_actor.specs.Definitions.{value, has_started}
 use Rattle.sc_client_table.specs.Definitions.{Client as ClientState}
 use Rattle.sc_node_table.specs.Definitions.{NodeState}
 use Rattle.sc_scenario.specs.declared.scenarios.Asks.{Asks}
@@ -24,7 +24,7 @@ NodesMayPump scenario rows =
 -- each client that has not started is sent on no more often than the chart allows
 abbrev pub AreNear : Scenario → Chart → Base → List (Row Mail OrderLine) → Type 0
 AreNear scenario chart first rows =
-    (asks : Asks) (client : ClientState) → Among asks scenario.clients → value player_table (client_seat (route_of first) asks) rows ≡ Client client → has_gone rows (client_actor asks.client) ≡ false → sent_on chart.reach client.known ≤ chart.reach.most
+    (asks : Asks) (client : ClientState) → Among asks scenario.clients → value player_table (client_seat (route_of first) asks) rows ≡ Client client → has_started rows (client_actor asks.client) ≡ false → sent_on chart.reach client.known ≤ chart.reach.most
 
 -- what holds where a line of requests begins: no request waits, a client that has not started knows one group alone, and each client's request is under way once at most
 pub record MayBegin (words : ℕ → ℕ → ℕ × ℕ) (scenario : Scenario) (set : Setting) (first : Base) (before : List (Row Mail OrderLine)) : Type 0 where

@@ -23,7 +23,7 @@ use Rattle.sc_live_answers.specs.CalmJournals.{IsPrefixOf, AreSent}
 
 -- a prefix of a calm journal rests: no mail is pending after it, and it is a quiet journal; all groups are well led, the first members of each that has a replica have one, and no part of an order is left; links and routes name nodes that have replicas; all replicas may pump; rounds are at least 1 and at most one more than the number of orders given; hints rise; and groups went one after another
 pub record RestsAt (words : ℕ → ℕ → ℕ × ℕ) (scenario : Scenario) (first : Base) (journal quiet : Rows) : Type 0 where
-  pub front : IsPrefixOf journal quiet
+  pub prefix : IsPrefixOf journal quiet
   pub calm : is_quiet (players words (births as_nodes scenario)) quiet ≡ true
   pub is : IsQuietJournal words scenario first quiet
   pub sent : AreSent words scenario journal quiet

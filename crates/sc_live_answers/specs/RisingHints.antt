@@ -33,6 +33,6 @@ NextRowsRise =
 -- where no mail of a group is under way, and its first members have their replicas, hints rise in it: a replica that does not run names the node of the greatest ballot that it saw, and the replica there runs, is gone, or saw a later round
 abbrev pub QuietHintsRise : Type 0
 QuietHintsRise =
-    (words : ℕ → ℕ → ℕ × ℕ) (at : Sets) (over : Ends) (by : Tellers) (scenario : Scenario) (front : Rows) (base : Base) (t : IsSentThrough at over by words (births as_nodes scenario) front base) → IsRisingOn at by words (births as_nodes scenario) front base t.course
-    → ((who : ℕ) → marks_at (players words (births as_nodes scenario)) front base.core.id who ≡ []) → HasMembers (births as_nodes scenario) front base
-    → (node : ℕ) (r : ReplicaState) → view_at (births as_nodes scenario) front base.core.id node ≡ Some r → r.running ≡ false → r.group.core.gone ≡ None → RisesAt (view_at (births as_nodes scenario) front) base.core.id r
+    (words : ℕ → ℕ → ℕ × ℕ) (at : Sets) (over : Ends) (by : Tellers) (scenario : Scenario) (prefix : Rows) (base : Base) (t : IsSentThrough at over by words (births as_nodes scenario) prefix base) → IsRisingOn at by words (births as_nodes scenario) prefix base t.course
+    → ((who : ℕ) → marks_at (players words (births as_nodes scenario)) prefix base.core.id who ≡ []) → HasMembers (births as_nodes scenario) prefix base
+    → (node : ℕ) (r : ReplicaState) → view_at (births as_nodes scenario) prefix base.core.id node ≡ Some r → r.running ≡ false → r.group.core.gone ≡ None → RisesAt (view_at (births as_nodes scenario) prefix) base.core.id r

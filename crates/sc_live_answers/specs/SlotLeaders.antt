@@ -52,15 +52,15 @@ GroupsBeginLed = (words : ℕ → ℕ → ℕ × ℕ) (by : Tellers) (scenario :
 -- each group of a lawful journal of a valid scenario is well led, and has leaders, after a prefix of the journal, where its rows come in time and the group's mail is as `IsSentSo` says
 abbrev pub GroupsAreLed : Type 0
 GroupsAreLed =
-    (words : ℕ → ℕ → ℕ × ℕ) (scenario : Scenario) (journal front more : Rows) (base : Base) → IsGroupOf as_nodes words scenario journal base → AreInTime (players words (births as_nodes scenario)) journal → AreFew as_nodes scenario journal base → journal ≡ front ++ more
-    → IsSentSo (births as_nodes scenario) front base
-    → IsLedOn (logged_sets as_nodes base journal) (over_at as_nodes base journal) (slot_leaders_at as_nodes scenario base journal) words (births as_nodes scenario) front base × HasLeaders as_nodes (slot_leaders_at as_nodes scenario base journal) scenario journal front base
+    (words : ℕ → ℕ → ℕ × ℕ) (scenario : Scenario) (journal prefix more : Rows) (base : Base) → IsGroupOf as_nodes words scenario journal base → AreInTime (players words (births as_nodes scenario)) journal → AreFew as_nodes scenario journal base → journal ≡ prefix ++ more
+    → IsSentSo (births as_nodes scenario) prefix base
+    → IsLedOn (logged_sets as_nodes base journal) (over_at as_nodes base journal) (slot_leaders_at as_nodes scenario base journal) words (births as_nodes scenario) prefix base × HasLeaders as_nodes (slot_leaders_at as_nodes scenario base journal) scenario journal prefix base
 
 -- each row of a prefix of a journal, where its rows come in time and the group's mail is as `IsSentSo` says, is a row of the group of a known kind, from the course before it to the course after it
 abbrev pub LedRowsGoOn : Type 0
 LedRowsGoOn =
-    (words : ℕ → ℕ → ℕ × ℕ) (scenario : Scenario) (journal front more : Rows) (base : Base) → IsGroupOf as_nodes words scenario journal base → AreInTime (players words (births as_nodes scenario)) journal → AreFew as_nodes scenario journal base → journal ≡ front ++ more
-    → IsSentSo (births as_nodes scenario) front base
-    → (rows : Rows) (seat : Seat Player) (event : Event OrderLine) → IsRowOf front rows seat event → IsSeat (births as_nodes scenario) seat → IsCalmEvent (players words (births as_nodes scenario)) rows seat.who event
+    (words : ℕ → ℕ → ℕ × ℕ) (scenario : Scenario) (journal prefix more : Rows) (base : Base) → IsGroupOf as_nodes words scenario journal base → AreInTime (players words (births as_nodes scenario)) journal → AreFew as_nodes scenario journal base → journal ≡ prefix ++ more
+    → IsSentSo (births as_nodes scenario) prefix base
+    → (rows : Rows) (seat : Seat Player) (event : Event OrderLine) → IsRowOf prefix rows seat event → IsSeat (births as_nodes scenario) seat → IsCalmEvent (players words (births as_nodes scenario)) rows seat.who event
     → (course : Course) × IsWellLed (logged_sets as_nodes base journal) (over_at as_nodes base journal) (slot_leaders_at as_nodes scenario base journal) words (births as_nodes scenario) rows base course
     × IsLedStep (logged_sets as_nodes base journal) (over_at as_nodes base journal) (slot_leaders_at as_nodes scenario base journal) words (births as_nodes scenario) rows seat event base course

@@ -60,7 +60,7 @@ ready_tokens c ready = sum_by (λ entry. command_token c entry.1) ready
 
 -- the tokens of client c at a replica: its requests that are queued, in flight or ready
 abbrev pub replica_tokens : ℕ → ReplicaState → ℕ
-replica_tokens c r = sum_by (command_token c) r.acts + sum_by (command_token c) r.calls + flight_tokens c r.leader.flights + ready_tokens c r.ready
+replica_tokens c r = sum_by (command_token c) r.acts + sum_by (command_token c) r.backlog + flight_tokens c r.leader.flights + ready_tokens c r.ready
 
 -- the tokens of client c at a replica and in the mail that its row has sent so far
 abbrev pub place_tokens : ℕ → Place → ℕ

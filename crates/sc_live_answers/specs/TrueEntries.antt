@@ -18,7 +18,7 @@ pub record LeadsSince (words : ℕ → ℕ → ℕ × ℕ) (scenario : Scenario)
   pub calm : IsCalmJournal words scenario journal
   pub rests : RestsAt words scenario first journal quiet
   pub seen : AreSeen scenario quiet
-  pub front : IsPrefixOf journal rows
+  pub prefix : IsPrefixOf journal rows
   pub sent : AreSent words scenario journal rows
   pub untouched : AreUntouched words (births as_nodes scenario) quiet rows stage
   pub true_since : IsTrueSince scenario quiet rows stage

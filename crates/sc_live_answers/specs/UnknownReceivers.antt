@@ -11,7 +11,7 @@ use Rattle.sc_live_answers.specs.CalmJournals.{IsCalmJournal, IsPrefixOf, AreSen
 
 -- after a prefix of a calm journal whose groups are well led, no mail of any group is for a number that is no player; and first members of groups are players
 pub record NoMailForStrangers : Type 0 where
-  pub strangers : (words : ℕ → ℕ → ℕ × ℕ) (scenario : Scenario) (journal front : Rows) → IsCalmJournal words scenario journal → IsPrefixOf journal front → AreSent words scenario journal front
-      → (name : Draw) (who : ℕ) → is_born (players words (births as_nodes scenario)) who ≡ false → marks_at (players words (births as_nodes scenario)) front name who ≡ []
+  pub strangers : (words : ℕ → ℕ → ℕ × ℕ) (scenario : Scenario) (journal prefix : Rows) → IsCalmJournal words scenario journal → IsPrefixOf journal prefix → AreSent words scenario journal prefix
+      → (name : Draw) (who : ℕ) → is_born (players words (births as_nodes scenario)) who ≡ false → marks_at (players words (births as_nodes scenario)) prefix name who ≡ []
   pub born : (words : ℕ → ℕ → ℕ × ℕ) (scenario : Scenario) (journal : Rows) → IsCalmJournal words scenario journal
       → (base : Base) → Among base (groups_at as_nodes scenario.groups journal) → (who : ℕ) → is_member base.core.members who ≡ true → is_born (players words (births as_nodes scenario)) who ≡ true

@@ -9,7 +9,7 @@ use Rattle.sc_actor.specs.declared.rows.Event.{Event}
 use Rattle.sc_actor.specs.declared.rows.Event.TheVariants.{Go, Told}
 use Rattle.sc_actor.specs.declared.schedules.Line.{Line}
 use Rattle.sc_actor.specs.declared.schedules.Line.TheVariants.{Go as GoLine, Deliver as DeliverLine, Drop as DropLine, Again as AgainLine, Tick as TickLine, Crash as CrashLine, Told as ToldLine, Settle, Free, Storm}
-use Rattle.sc_actor.specs.Definitions.{has_crashed, is_delivery, System, acts, has_gone, Task, Once, Settles, Frees, Storms, WalkPlace, MayAdd, IsLawful, onward, is_over, skips, cuts, after_row, place_after, rest_of_all, tasks_of}
+use Rattle.sc_actor.specs.Definitions.{has_crashed, is_delivery, System, acts, has_started, Task, Once, Settles, Frees, Storms, WalkPlace, MayAdd, IsLawful, onward, is_over, skips, cuts, after_row, place_after, rest_of_all, tasks_of}
 use Rattle.sc_actor.proofs.Lemmas.{lawful-last}
 use Rattle.sc_live_orderly.specs.Definitions.{IsCalmLine, is_told, orders, Said, Nothing, Goes, AnOrder, AreSpaced, gives_order, orders_given, GivesAllowedOrder, GiveAllowedOrders, LineGivesAllowedOrder, LinesGiveAllowedOrders}
 use Rattle.sc_live_orderly.proofs.RowsOfSchedules.{Each-append, IsTaskOf, tasks_after, by_rows}
@@ -104,7 +104,7 @@ module _ {A M O : Type 0} (s : System A M O) where
     taught [] is may = absurd may
     taught (Once (GoLine who) ∷ tasks) is may =
         let go : Event O = Go in
-        let same : go ≡ row.event = acts-event s rows who go row (unless-some (has_gone rows who) (acts s rows who Go) row may) in
+        let same : go ≡ row.event = acts-event s rows who go row (unless-some (has_started rows who) (acts s rows who Go) row may) in
         let none : one_if (is_told row.event) ≡ 0 = subst (λ (e : Event O). one_if (is_told e) ≡ 0) same refl in
         record { so = subst (λ (e : Event O). GivesAllowedOrder allowed row.who e) same tt; fewer = omega (arith, none) }
     taught (Once (ToldLine who order) ∷ tasks) is may =

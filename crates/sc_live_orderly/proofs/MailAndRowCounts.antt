@@ -11,7 +11,7 @@ use Rattle.sc_actor.specs.declared.rows.Row.{Row}
 use Rattle.sc_actor.specs.declared.rows.Event.{Event}
 use Rattle.sc_actor.specs.declared.rows.Event.TheVariants.{Deliver, Tick, Go, Told, Crash, Drop, Again}
 use Rattle.sc_actor.specs.declared.schedules.Line.{Line}
-use Rattle.sc_actor.specs.Definitions.{mails, copies, counts_at, is_delivery, System, row_of, is_go, has_gone, are_apart, IsLawful}
+use Rattle.sc_actor.specs.Definitions.{mails, copies, counts_at, is_delivery, System, row_of, is_go, has_started, are_apart, IsLawful}
 use Rattle.sc_actor.proofs.Lemmas.{waiting_one, mails-snoc}
 use Rattle.sc_live_orderly.specs.Definitions.{IsPlainLine, IsInOrder, IsCalmEvent, IsCalmRow, mail_with, is_born, is_told, deliveries, goes, orders, AreInTime, Owing, SendsToActors, under_way, owed}
 use Rattle.sc_live_orderly.proofs.RowsOfSchedules.{orderly_is_calm, orderly, by_rows}
@@ -90,30 +90,30 @@ abbrev one_if : Bool → ℕ
 one_if b = cond b 1 0
 
 module _ {A M O : Type 0} (s : System A M O) where
-  gone_row : (rows : List (Row M O)) (row : Row M O) (who : ℕ) (b : Bool) → (eqb row.who who && is_go row.event) ≡ b → has_gone (rows ++ row ∷ []) who ≡ (has_gone rows who || b)
+  gone_row : (rows : List (Row M O)) (row : Row M O) (who : ℕ) (b : Bool) → (eqb row.who who && is_go row.event) ≡ b → has_started (rows ++ row ∷ []) who ≡ (has_started rows who || b)
   gone_row rows row who b e =
-      list_any-append (λ (r : Row M O). eqb r.who who && is_go r.event) rows (row ∷ []) ∙ ap (λ x. has_gone rows who || x) (or-false (eqb row.who who && is_go row.event) ∙ e)
+      list_any-append (λ (r : Row M O). eqb r.who who && is_go r.event) rows (row ∷ []) ∙ ap (λ x. has_started rows who || x) (or-false (eqb row.who who && is_go row.event) ∙ e)
 
   module _ (apart : are_apart s.births ≡ true) where
     -- how many seats have gone after one more row
     gone-row : (rows : List (Row M O)) (seat : Seat A) (event : Event O) → find (λ other. eqb other.who seat.who) s.births ≡ Some seat →
-        count_by (λ other. has_gone (rows ++ row_of s.table seat rows event ∷ []) other.who) s.births + cond (has_gone rows seat.who) 1 0
-        ≡ count_by (λ other. has_gone rows other.who) s.births + cond (has_gone rows seat.who || is_go event) 1 0
+        count_by (λ other. has_started (rows ++ row_of s.table seat rows event ∷ []) other.who) s.births + cond (has_started rows seat.who) 1 0
+        ≡ count_by (λ other. has_started rows other.who) s.births + cond (has_started rows seat.who || is_go event) 1 0
     gone-row rows seat event born =
         let row = row_of s.table seat rows event in
-        let f : Seat A → ℕ = λ other. cond (has_gone rows other.who) 1 0 in
-        let g : Seat A → ℕ = λ other. cond (has_gone (rows ++ row ∷ []) other.who) 1 0 in
+        let f : Seat A → ℕ = λ other. cond (has_started rows other.who) 1 0 in
+        let g : Seat A → ℕ = λ other. cond (has_started (rows ++ row ∷ []) other.who) 1 0 in
         let stays : (other : Seat A) → eqb seat.who other.who ≡ false → g other ≡ f other =
-        λ other e. ap (λ b. cond b 1 0) (gone_row rows row other.who false (and_left (eqb seat.who other.who) (is_go event) e) ∙ or-false (has_gone rows other.who)) in
-        let here : g seat ≡ cond (has_gone rows seat.who || is_go event) 1 0 =
+        λ other e. ap (λ b. cond b 1 0) (gone_row rows row other.who false (and_left (eqb seat.who other.who) (is_go event) e) ∙ or-false (has_started rows other.who)) in
+        let here : g seat ≡ cond (has_started rows seat.who || is_go event) 1 0 =
         ap (λ b. cond b 1 0) (gone_row rows row seat.who (is_go event) (ap (λ b. b && is_go event) (eq-eqb seat.who seat.who refl))) in
         one_changes f g seat.who stays s.births seat apart born ∙ ap (λ n. sum_by f s.births + n) here
 
     goes-row : (rows : List (Row M O)) (seat : Seat A) (event : Event O) → find (λ other. eqb other.who seat.who) s.births ≡ Some seat → IsCalmEvent s rows seat.who event →
-        goes rows ≤ count_by (λ other. has_gone rows other.who) s.births → goes (rows ++ row_of s.table seat rows event ∷ []) ≤ count_by (λ other. has_gone (rows ++ row_of s.table seat rows event ∷ []) other.who) s.births
+        goes rows ≤ count_by (λ other. has_started rows other.who) s.births → goes (rows ++ row_of s.table seat rows event ∷ []) ≤ count_by (λ other. has_started (rows ++ row_of s.table seat rows event ∷ []) other.who) s.births
     goes-row rows seat (Deliver number) born fine le =
         let gone = gone-row rows seat (Deliver number) born in
-        let same = ap one_if (or-false (has_gone rows seat.who)) in
+        let same = ap one_if (or-false (has_started rows seat.who)) in
         let count = count_push (λ (r : Row M O). is_go r.event) rows (row_of s.table seat rows (Deliver number)) false refl in
         omega (arith, gone, same, count, le)
     goes-row rows seat Go born fine le =
@@ -125,31 +125,31 @@ module _ {A M O : Type 0} (s : System A M O) where
     goes-row rows seat Tick born fine le = absurd fine
     goes-row rows seat (Told order) born fine le =
         let gone = gone-row rows seat (Told order) born in
-        let same = ap one_if (or-false (has_gone rows seat.who)) in
+        let same = ap one_if (or-false (has_started rows seat.who)) in
         let count = count_push (λ (r : Row M O). is_go r.event) rows (row_of s.table seat rows (Told order)) false refl in
         omega (arith, gone, same, count, le)
     goes-row rows seat Crash born fine le = absurd fine
     goes-row rows seat (Drop mail) born fine le = absurd fine
     goes-row rows seat (Again mail) born fine le = absurd fine
 
-    few_of : (journal : List (Row M O)) → goes journal ≤ count_by (λ other. has_gone journal other.who) s.births → goes journal ≤ length s.births
-    few_of journal le = let all = count_by-le-length (λ (other : Seat A). has_gone journal other.who) s.births in omega (arith, le, all)
+    few_of : (journal : List (Row M O)) → goes journal ≤ count_by (λ other. has_started journal other.who) s.births → goes journal ≤ length s.births
+    few_of journal le = let all = count_by-le-length (λ (other : Seat A). has_started journal other.who) s.births in omega (arith, le, all)
 
-    row_goes : (rows : List (Row M O)) (row : Row M O) → IsCalmRow s rows row → goes rows ≤ count_by (λ other. has_gone rows other.who) s.births → goes (rows ++ row ∷ []) ≤ count_by (λ other. has_gone (rows ++ row ∷ []) other.who) s.births
+    row_goes : (rows : List (Row M O)) (row : Row M O) → IsCalmRow s rows row → goes rows ≤ count_by (λ other. has_started rows other.who) s.births → goes (rows ++ row ∷ []) ≤ count_by (λ other. has_started (rows ++ row ∷ []) other.who) s.births
     row_goes rows row o now =
-        subst (λ r. goes (rows ++ r ∷ []) ≤ count_by (λ other. has_gone (rows ++ r ∷ []) other.who) s.births) (sym o.row_is) (goes-row rows o.seat o.event o.born o.calm now)
+        subst (λ r. goes (rows ++ r ∷ []) ≤ count_by (λ other. has_started (rows ++ r ∷ []) other.who) s.births) (sym o.row_is) (goes-row rows o.seat o.event o.born o.calm now)
 
     -- each actor goes once at most
     pub goes_are_few : (lines : List (Line O)) (journal : List (Row M O)) → Each IsPlainLine lines → IsLawful s lines journal → goes journal ≤ length s.births
     goes_are_few lines journal plain lawful =
-        few_of journal (by_rows s lines (λ rows. goes rows ≤ count_by (λ other. has_gone rows other.who) s.births) (omega arith)
+        few_of journal (by_rows s lines (λ rows. goes rows ≤ count_by (λ other. has_started rows other.who) s.births) (omega arith)
         (λ rows row l now. row_goes rows row (orderly_is_calm s rows row (orderly s lines rows row plain l)) now)
         journal lawful)
 
     -- with orders too
     pub goes_in_time : (journal : List (Row M O)) → AreInTime s journal → goes journal ≤ length s.births
     goes_in_time journal timely =
-        few_of journal (by_time s (λ rows. goes rows ≤ count_by (λ other. has_gone rows other.who) s.births) (omega arith)
+        few_of journal (by_time s (λ rows. goes rows ≤ count_by (λ other. has_started rows other.who) s.births) (omega arith)
         (λ rows row t now. row_goes rows row (last_in_time s rows row t).0 now)
         journal timely)
 

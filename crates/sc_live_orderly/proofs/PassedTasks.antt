@@ -37,26 +37,26 @@ module _ {A M O : Type 0} (s : System A M O) (all : List (Line O)) (journal : Li
 
   module _ (back : List (Task O)) where
     abbrev pub Later : List (Row M O) → Type 0
-    Later more = (rows : List (Row M O)) (front : List (Task O)) (k : ℕ) (c : Bool) → journal ≡ rows ++ more → Stands s all rows (front ++ back) k c → Reaches back
+    Later more = (rows : List (Row M O)) (prefix : List (Task O)) (k : ℕ) (c : Bool) → journal ≡ rows ++ more → Stands s all rows (prefix ++ back) k c → Reaches back
 
     at_end : Later []
     at_end rows [] k c e stands = record { rows = rows; more = []; k = k; c = c; journal_is = e; stands = stands }
-    at_end rows (task ∷ front) k c e stands = by (is_over s rows task) refl (at_end rows front (k + skips task) (c || cuts s rows task) e)
+    at_end rows (task ∷ prefix) k c e stands = by (is_over s rows task) refl (at_end rows prefix (k + skips task) (c || cuts s rows task) e)
       where
-        by : (b : Bool) → is_over s rows task ≡ b → (Stands s all rows (front ++ back) (k + skips task) (c || cuts s rows task) → Reaches back) → Reaches back
-        by true over go = go (Stands-over s all rows task (front ++ back) k c stands over)
-        by false open_ go = absurd (more_rows rows task (front ++ back) k c e stands open_)
+        by : (b : Bool) → is_over s rows task ≡ b → (Stands s all rows (prefix ++ back) (k + skips task) (c || cuts s rows task) → Reaches back) → Reaches back
+        by true over go = go (Stands-over s all rows task (prefix ++ back) k c stands over)
+        by false open_ go = absurd (more_rows rows task (prefix ++ back) k c e stands open_)
 
     at_row : (row : Row M O) (more : List (Row M O)) → Later more → Later (row ∷ more)
     at_row row more again rows [] k c e stands = record { rows = rows; more = row ∷ more; k = k; c = c; journal_is = e; stands = stands }
-    at_row row more again rows (task ∷ front) k c e stands = by (is_over s rows task) refl (at_row row more again rows front (k + skips task) (c || cuts s rows task) e)
+    at_row row more again rows (task ∷ prefix) k c e stands = by (is_over s rows task) refl (at_row row more again rows prefix (k + skips task) (c || cuts s rows task) e)
       where
-        by : (b : Bool) → is_over s rows task ≡ b → (Stands s all rows (front ++ back) (k + skips task) (c || cuts s rows task) → Reaches back) → Reaches back
-        by true over go = go (Stands-over s all rows task (front ++ back) k c stands over)
+        by : (b : Bool) → is_over s rows task ≡ b → (Stands s all rows (prefix ++ back) (k + skips task) (c || cuts s rows task) → Reaches back) → Reaches back
+        by true over go = go (Stands-over s all rows task (prefix ++ back) k c stands over)
         by false open_ go =
-            let next = Stands-row s all rows task (front ++ back) k c row stands open_ (next_row rows row more task (front ++ back) k c e stands open_) in
-            again (rows ++ row ∷ []) (rest_of_task task ++ front) k c (e ∙ sym (append_assoc rows (row ∷ []) more))
-            (subst (λ tasks. Stands s all (rows ++ row ∷ []) tasks k c) (sym (append_assoc (rest_of_task task) front back)) next)
+            let next = Stands-row s all rows task (prefix ++ back) k c row stands open_ (next_row rows row more task (prefix ++ back) k c e stands open_) in
+            again (rows ++ row ∷ []) (rest_of_task task ++ prefix) k c (e ∙ sym (append_assoc rows (row ∷ []) more))
+            (subst (λ tasks. Stands s all (rows ++ row ∷ []) tasks k c) (sym (append_assoc (rest_of_task task) prefix back)) next)
 
     pub reach : (more : List (Row M O)) → Later more
     reach [] = at_end

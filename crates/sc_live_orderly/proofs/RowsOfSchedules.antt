@@ -10,7 +10,7 @@ use Rattle.sc_actor.specs.declared.rows.Event.{Event}
 use Rattle.sc_actor.specs.declared.rows.Event.TheVariants.{Deliver, Go, Told}
 use Rattle.sc_actor.specs.declared.schedules.Line.{Line}
 use Rattle.sc_actor.specs.declared.schedules.Line.TheVariants.{Go as GoLine, Deliver as DeliverLine, Drop as DropLine, Again as AgainLine, Tick as TickLine, Crash as CrashLine, Told as ToldLine, Settle, Free, Storm}
-use Rattle.sc_actor.specs.Definitions.{mails, numbered, has_crashed, System, acts, row_of, waiting, kth, has_gone, Task, Once, Settles, Frees, Storms, WalkPlace, Allows, MayAdd, IsLawful, onward, is_over, after_row, place_after, rest_of_all, tasks_of, delivery}
+use Rattle.sc_actor.specs.Definitions.{mails, numbered, has_crashed, System, acts, row_of, waiting, kth, has_started, Task, Once, Settles, Frees, Storms, WalkPlace, Allows, MayAdd, IsLawful, onward, is_over, after_row, place_after, rest_of_all, tasks_of, delivery}
 use Rattle.sc_actor.proofs.Lemmas.{find-who, first_is, lawful-prefix, lawful-last, unless-some}
 use Rattle.sc_live_orderly.specs.Definitions.{IsPlainLine, IsCalmLine, IsInOrder, IsOrderly, IsCalmEvent, IsCalmRow}
 
@@ -88,7 +88,7 @@ module _ {A M O : Type 0} (s : System A M O) where
         }
 
     allows_orderly : (task : Task O) (row : Row M O) → IsTaskOf IsPlainLine task → Allows s rows task row → IsOrderly s rows row
-    allows_orderly (Once (GoLine who)) row p e = let q = unless-some (has_gone rows who) (acts s rows who Go) row e in acts_orderly who Go row q.0 q.1
+    allows_orderly (Once (GoLine who)) row p e = let q = unless-some (has_started rows who) (acts s rows who Go) row e in acts_orderly who Go row q.0 q.1
     allows_orderly (Once (Settle most)) row p e = cc
     allows_orderly (Once (Free most workers)) row p e = cc
     allows_orderly (Once (DeliverLine who k)) row p e =

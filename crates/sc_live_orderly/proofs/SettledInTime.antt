@@ -8,7 +8,7 @@ use Rattle.sc_actor.specs.declared.rows.Event.{Event}
 use Rattle.sc_actor.specs.declared.rows.Event.TheVariants.{Go, Told}
 use Rattle.sc_actor.specs.declared.schedules.Line.{Line}
 use Rattle.sc_actor.specs.declared.schedules.Line.TheVariants.{Go as GoLine, Deliver as DeliverLine, Drop as DropLine, Again as AgainLine, Tick as TickLine, Crash as CrashLine, Told as ToldLine, Settle, Free, Storm}
-use Rattle.sc_actor.specs.Definitions.{has_crashed, System, acts, has_gone, Task, Once, Settles, Frees, Storms, WalkPlace, MayAdd, IsLawful, onward, is_over, is_quiet, after_row, place_after, rest_of_all, tasks_of, unsettled}
+use Rattle.sc_actor.specs.Definitions.{has_crashed, System, acts, has_started, Task, Once, Settles, Frees, Storms, WalkPlace, MayAdd, IsLawful, onward, is_over, is_quiet, after_row, place_after, rest_of_all, tasks_of, unsettled}
 use Rattle.sc_actor.proofs.Lemmas.{lawful-last, place_after-rows, unless-some}
 use Rattle.sc_live_orderly.specs.Definitions.{IsCalmRow, is_told, HasRoom, Said, Nothing, Goes, AnOrder, AreSpaced, IsClear, ComesInTime, AreInTime}
 use Rattle.sc_live_orderly.proofs.RowsOfSchedules.{allows_calm, by_rows}
@@ -102,7 +102,7 @@ module _ {A M O : Type 0} (s : System A M O) where
     step [] skipped may stands = absurd may
     step (Once (GoLine who) ∷ tasks) skipped may stands =
         let go : Event O = Go in
-        let is : go ≡ row.event = acts-event s rows who go row (unless-some (has_gone rows who) (acts s rows who Go) row may).1 in
+        let is : go ≡ row.event = acts-event s rows who go row (unless-some (has_started rows who) (acts s rows who Go) row may).1 in
         let untold : is_told row.event ≡ false = subst (λ (e : Event O). is_told e ≡ false) is refl in
         record {
           timely = timely_by Go is (allows_calm s rows (Once (GoLine who)) row tt may) stands.0;

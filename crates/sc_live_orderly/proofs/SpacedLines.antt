@@ -10,7 +10,7 @@ use Rattle.sc_actor.specs.declared.rows.Event.{Event}
 use Rattle.sc_actor.specs.declared.rows.Event.TheVariants.{Go, Told}
 use Rattle.sc_actor.specs.declared.schedules.Line.{Line}
 use Rattle.sc_actor.specs.declared.schedules.Line.TheVariants.{Go as GoLine, Deliver as DeliverLine, Drop as DropLine, Again as AgainLine, Tick as TickLine, Crash as CrashLine, Told as ToldLine, Settle, Free, Storm}
-use Rattle.sc_actor.specs.Definitions.{has_crashed, is_delivery, System, acts, has_gone, Task, Once, Settles, Frees, Storms, WalkPlace, Allows, MayAdd, IsLawful, onward, is_over, is_quiet, after_row, place_after, rest_of_all, tasks_of, unsettled}
+use Rattle.sc_actor.specs.Definitions.{has_crashed, is_delivery, System, acts, has_started, Task, Once, Settles, Frees, Storms, WalkPlace, Allows, MayAdd, IsLawful, onward, is_over, is_quiet, after_row, place_after, rest_of_all, tasks_of, unsettled}
 use Rattle.sc_actor.proofs.Lemmas.{lawful-last, lawful-prefix, place_after-rows}
 use Rattle.sc_live_orderly.specs.Definitions.{IsCalmRow, is_told, deliveries, orders, HasRoom, Said, Nothing, Goes, AnOrder, AreSpaced, IsClear, ComesInTime, AreInTime, orders_given, IsMeasure}
 use Rattle.sc_live_orderly.proofs.RowsOfSchedules.{allows_calm, by_rows}
@@ -154,7 +154,7 @@ module _ {A M O : Type 0} (s : System A M O) (lines : List (Line O)) (most : ℕ
       go_step : (who : ℕ) (tasks : List (Task O)) (skipped : ℕ) → Allows s rows (Once (GoLine who)) row → IsClear s rows → AreTasksSpaced (still + raise) Goes tasks → IsStep rows row (Once (GoLine who) ∷ tasks) skipped
       go_step who tasks skipped may clear spaced =
           let go : Event O = Go in
-          let is : go ≡ row.event = acts-event s rows who go row (unless-some (has_gone rows who) (acts s rows who Go) row may) in
+          let is : go ≡ row.event = acts-event s rows who go row (unless-some (has_started rows who) (acts s rows who Go) row may) in
           let t = timely_by Go is (allows_calm s rows (Once (GoLine who)) row tt may) clear in
           let untold : is_told row.event ≡ false = subst (λ (e : Event O). is_told e ≡ false) is refl in
           let lower = measure.lowers rows row lawful t low in

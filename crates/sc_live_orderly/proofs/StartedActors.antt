@@ -7,7 +7,7 @@ use Rattle.sc_actor.specs.declared.actors.Seat.{Seat}
 use Rattle.sc_actor.specs.declared.rows.Row.{Row}
 use Rattle.sc_actor.specs.declared.schedules.Line.{Line}
 use Rattle.sc_actor.specs.declared.schedules.Line.TheVariants.{Go as GoLine}
-use Rattle.sc_actor.specs.Definitions.{System, has_gone, Task, Once, WalkPlace, MayAdd, IsLawful, IsWhole, onward, is_over, cuts, skips, after_row, place_after, rest_of_task, rest_of_all, tasks_of}
+use Rattle.sc_actor.specs.Definitions.{System, has_started, Task, Once, WalkPlace, MayAdd, IsLawful, IsWhole, onward, is_over, cuts, skips, after_row, place_after, rest_of_task, rest_of_all, tasks_of}
 use Rattle.sc_actor.proofs.Lemmas.{lawful-last, place_after-rows}
 use Rattle.sc_live_orderly.proofs.RowsOfSchedules.{by_rows}
 use Rattle.sc_live_orderly.proofs.PassedLines.{gone_over, gone_stays, gone_by}
@@ -15,7 +15,7 @@ use Rattle.sc_live_orderly.proofs.PassedLines.{gone_over, gone_stays, gone_by}
 module _ {A M O : Type 0} (s : System A M O) (who : ℕ) (seat : Seat A) (born : find (λ other. eqb other.who who) s.births ≡ Some seat) where
   -- the actor has started, or it is still to be told to go
   abbrev Goes : List (Row M O) → List (Task O) → Type 0
-  Goes rows tasks = (has_gone rows who ≡ true) ⊎ Among (Once (GoLine who)) tasks
+  Goes rows tasks = (has_started rows who ≡ true) ⊎ Among (Once (GoLine who)) tasks
 
   among_right : (xs ys : List (Task O)) → Among (Once (GoLine who)) ys → Among (Once (GoLine who)) (xs ++ ys)
   among_right [] ys a = a
@@ -62,7 +62,7 @@ module _ {A M O : Type 0} (s : System A M O) (who : ℕ) (seat : Seat A) (born :
     told (line ∷ first) (inr a) = among_right (tasks_of s.words line) (flat_map (tasks_of s.words) first) (told first a)
 
     -- in a whole journal it has started
-    pub started_when_whole : Among (GoLine who) lines → (journal : List (Row M O)) → IsLawful s lines journal → IsWhole s lines journal → has_gone journal who ≡ true
+    pub started_when_whole : Among (GoLine who) lines → (journal : List (Row M O)) → IsLawful s lines journal → IsWhole s lines journal → has_started journal who ≡ true
     started_when_whole a journal lawful whole =
         elim (by_rows s lines (λ rows. Goes rows (place_after s lines rows).tasks) (onward_goes [] (flat_map (tasks_of s.words) lines) 0 false (inr (told lines a))) row_goes journal lawful) [
           | inl gone ↦ gone

@@ -8,7 +8,7 @@ use Rattle.sc_actor.specs.declared.rows.Event.TheVariants.{Deliver, Tick, Go, To
 use Rattle.sc_actor.specs.declared.rows.Row.{Row}
 use Rattle.sc_actor.specs.declared.schedules.Line.{Line}
 use Rattle.sc_actor.specs.declared.schedules.Line.TheVariants.{Go as GoLine, Deliver as DeliverLine, Drop as DropLine, Again as AgainLine, Tick as TickLine, Crash as CrashLine, Told as ToldLine, Settle, Free, Storm}
-use Rattle.sc_actor.specs.Definitions.{mails, copies, has_crashed, is_delivery, System, numbers_of, row_of, waiting, kth, has_gone, is_go}
+use Rattle.sc_actor.specs.Definitions.{mails, copies, has_crashed, is_delivery, System, numbers_of, row_of, waiting, kth, has_started, is_go}
 
 -- A plain line starts an actor, delivers the first pending mail of one actor, or delivers pending mail of all.
 abbrev pub IsPlainLine : {O : Type 0} → Line O → Type 0
@@ -38,7 +38,7 @@ IsCalmLine (Storm number most) = ⊥
 
 -- The event is in order after these rows: an actor goes that has not gone, or an actor takes its pending mail with the lowest number.
 abbrev pub IsInOrder : {A M O : Type 0} → System A M O → List (Row M O) → ℕ → Event O → Type 0
-IsInOrder s rows who Go = has_gone rows who ≡ false
+IsInOrder s rows who Go = has_started rows who ≡ false
 IsInOrder s rows who (Deliver number) = kth (waiting s rows (Some who)) 1 ≡ Some number
 IsInOrder s rows who Tick = ⊥
 IsInOrder s rows who (Told order) = ⊥
@@ -56,7 +56,7 @@ pub record IsOrderly {A M O : Type 0} (s : System A M O) (rows : List (Row M O))
 
 -- The event is calm after these rows: it is in order, or it gives an order.
 abbrev pub IsCalmEvent : {A M O : Type 0} → System A M O → List (Row M O) → ℕ → Event O → Type 0
-IsCalmEvent s rows who Go = has_gone rows who ≡ false
+IsCalmEvent s rows who Go = has_started rows who ≡ false
 IsCalmEvent s rows who (Deliver number) = kth (waiting s rows (Some who)) 1 ≡ Some number
 IsCalmEvent s rows who (Told order) = Unit {0}
 IsCalmEvent s rows who Tick = ⊥

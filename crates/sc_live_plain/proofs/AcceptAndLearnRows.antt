@@ -111,7 +111,7 @@ module _ (frame : Frame) (r : ReplicaState) (slot : ℕ) (command : Command) whe
 
   pub accepted_follower : IsPlainFollower r → IsPlainFollower (accepted_state frame r slot command)
   unfolding accepted_state
-  accepted_follower f = record { stopped = f.stopped; calls = f.calls; flights = f.flights; ready = f.ready }
+  accepted_follower f = record { stopped = f.stopped; backlog = f.backlog; flights = f.flights; ready = f.ready }
 
   pub accepted_leader : (begun : Requests) (taken : ℕ) → IsPlainLeader begun frame taken r → IsPlainLeader begun frame taken (accepted_state frame r slot command)
   unfolding accepted_state
@@ -123,7 +123,7 @@ module _ (frame : Frame) (r : ReplicaState) (slot : ℕ) (command : Command) whe
         (ap (λ (b : Ballot). not (below b frame.ballot)) l.ballot_is ∙ ap not (at_least_itself frame.ballot))
         (and_parts (not (below r.leader.ballot r.acceptor.promised)) (r.leader.is_first || is_majority (frame.at s) r.leader.promisers) (l.may s)).1;
     open_ = l.open_;
-    calls = l.calls;
+    backlog = l.backlog;
     flights = l.flights;
     ready = l.ready;
     slots = record { most = l.slots.most; once = l.slots.once };
@@ -243,7 +243,7 @@ module _ (begun : Requests) (frame : Frame) (is : IsFrame frame) (me : ℕ) (r :
 
     pub learnt_follower : IsPlainFollower learnt_state
     unfolding learnt_state entered forgotten
-    learnt_follower = record { stopped = f.stopped; calls = f.calls; flights = ap (without_flight (next r)) f.flights; ready = ap (λ (es : List (ℕ × Command)). without_slot es (next r)) f.ready }
+    learnt_follower = record { stopped = f.stopped; backlog = f.backlog; flights = ap (without_flight (next r)) f.flights; ready = ap (λ (es : List (ℕ × Command)). without_slot es (next r)) f.ready }
 
     pub learnt_next : next learnt_state ≡ next r + 1
     unfolding learnt_state
@@ -252,8 +252,8 @@ module _ (begun : Requests) (frame : Frame) (is : IsFrame frame) (me : ℕ) (r :
 -- one that does not lead owes nothing
 pub follower_owes : (r : ReplicaState) → IsPlainFollower r → replica_owes r ≡ 0
 follower_owes r f =
-    let calls = ap length f.calls in
+    let backlog = ap length f.backlog in
     let flights = ap length f.flights in
     let ready = ap length f.ready in
     let runs = cond-false r.running (next r - 1) 0 f.stopped in
-    omega (arith, calls, flights, ready, runs)
+    omega (arith, backlog, flights, ready, runs)

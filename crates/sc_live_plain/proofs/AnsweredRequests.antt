@@ -45,12 +45,12 @@ replies_more seat rows (row ∷ more) =
 -- ---- the law
 
 -- the first line that delivers
-pub first_delivery : (lines : List SchedLine) → list_any delivers lines ≡ true → (front : List SchedLine) × (many : SchedLine) × (back : List SchedLine) × (lines ≡ front ++ many ∷ back) × (delivers many ≡ true)
+pub first_delivery : (lines : List SchedLine) → list_any delivers lines ≡ true → (prefix : List SchedLine) × (many : SchedLine) × (back : List SchedLine) × (lines ≡ prefix ++ many ∷ back) × (delivers many ≡ true)
 first_delivery [] e = cc
 first_delivery (line_ ∷ lines) e = by (delivers line_) refl e (first_delivery lines)
   where
-    by : (b : Bool) → delivers line_ ≡ b → (b || list_any delivers lines) ≡ true → (list_any delivers lines ≡ true → (front : List SchedLine) × (many : SchedLine) × (back : List SchedLine) × (lines ≡ front ++ many ∷ back) × (delivers many ≡ true))
-        → (front : List SchedLine) × (many : SchedLine) × (back : List SchedLine) × (line_ ∷ lines ≡ front ++ many ∷ back) × (delivers many ≡ true)
+    by : (b : Bool) → delivers line_ ≡ b → (b || list_any delivers lines) ≡ true → (list_any delivers lines ≡ true → (prefix : List SchedLine) × (many : SchedLine) × (back : List SchedLine) × (lines ≡ prefix ++ many ∷ back) × (delivers many ≡ true))
+        → (prefix : List SchedLine) × (many : SchedLine) × (back : List SchedLine) × (line_ ∷ lines ≡ prefix ++ many ∷ back) × (delivers many ≡ true)
     by true is e' more = ([], line_, lines, refl, is)
     by false is e' more = (let r = more e' in (line_ ∷ r.0, r.1, r.2, ap (λ l. line_ ∷ l) r.3, r.4))
 

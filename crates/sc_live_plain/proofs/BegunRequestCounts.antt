@@ -4,7 +4,7 @@ use Rattle.std.specs.Prelude.{nat_le}
 use Rattle.std.proofs.lemmas.Bool.{cond_both}
 use Rattle.std.proofs.lemmas.List.{length_push}
 use Rattle.sc_node_table.specs.Values.{Draw, Op, AnswerBody, Value, NotLeader, NotMine, Gone, Stale, MailBody, Request, Answer}
-use Rattle.sc_lookup.specs.Definitions.{target_in, preferring, passed_on, told_not_mine, told_gone}
+use Rattle.sc_lookup.specs.Definitions.{target_in, preferring, passed_on, learnt_from_not_mine, learnt_from_gone}
 use Rattle.sc_client_table.specs.Definitions.{Client, waiting_request, asked_of, sent_where, chosen_for, request_sent, started, waits_for, was_asked, redirected, answer_taken, got}
 use Rattle.sc_live_plain.specs.Definitions.{waiting_ones, begun_ones}
 
@@ -24,8 +24,8 @@ redirected_same : (group : Draw) (answer : AnswerBody) (client : Client) → beg
 redirected_same group (NotLeader (Some hint)) client =
     asked_same (record client { known = preferring group hint client.known }) group (target_in group (preferring group hint client.known)) (waiting_request client)
 redirected_same group (NotLeader None) client = asked_same (record client { known = passed_on group client.known }) group (target_in group (passed_on group client.known)) (waiting_request client)
-redirected_same group (NotMine arc succ) client = request_same (record client { known = told_not_mine group arc succ client.known })
-redirected_same group (Gone into) client = request_same (record client { known = told_gone group into client.known })
+redirected_same group (NotMine arc succ) client = request_same (record client { known = learnt_from_not_mine group arc succ client.known })
+redirected_same group (Gone into) client = request_same (record client { known = learnt_from_gone group into client.known })
 redirected_same group (Value reply) client = refl
 redirected_same group (Stale last) client = refl
 

@@ -11,7 +11,7 @@ use Rattle.sc_node_table.specs.Values.{Draw, Op, Get, Reply, Got, Link, Route, A
 use Rattle.sc_base.proofs.Lemmas.{draw_is, same_name}
 use Rattle.sc_ideal.specs.Definitions.{holds_key}
 use Rattle.sc_actor.specs.declared.rows.Input.TheVariants.{Go}
-use Rattle.sc_lookup.specs.Definitions.{KnownGroups, way_to, nearer, better, chosen, target_in, changed, preferring, starting, group_learnt, told_not_mine, told_gone, far, new_way, target_of}
+use Rattle.sc_lookup.specs.Definitions.{KnownGroups, way_to, nearer, better, chosen, target_in, changed, preferring, starting, group_learnt, learnt_from_not_mine, learnt_from_gone, far, new_way, target_of}
 use Rattle.sc_lookup.specs.declared.ways.Way.{Way}
 use Rattle.sc_paxos_law.proofs.Lemmas.{from_map, Among-left}
 use Rattle.sc_client_table.specs.Definitions.{Client as ClientState, request_at, waiting_request, ClientStep, asked_of, sent_to, sent_where, chosen_for, request_sent, started, waits_for, was_asked, redirected, answer_taken, got, table}
@@ -318,7 +318,7 @@ module _ (set : Setting) where
             sends (sent_to group (record client { known = known })) (asked_row later gone is_gone w.seq w.op (record client { known = known }) (ready known (preferring_knows group node client.known (k.knows few)) (preferring_each group node client.known s.says.has (k.targets few))) group chosen_is_ (begun_later s.client s.op s.to_is s.is_begun))
 
         -- it says that the key is another group's: the next one is learnt, and asked
-        next_known : (frame : Frame) → Among frame set.frames → w.group ≡ frame.core.id → holds_key frame.core.arc (key_of w.op) ≡ false → Knows set client.known → Knows set (told_not_mine frame.core.id frame.core.arc frame.core.succ client.known)
+        next_known : (frame : Frame) → Among frame set.frames → w.group ≡ frame.core.id → holds_key frame.core.arc (key_of w.op) ≡ false → Knows set client.known → Knows set (learnt_from_not_mine frame.core.id frame.core.arc frame.core.succ client.known)
         next_known frame a name lacks (inl one) =
             let chosen_here : chosen (pos_of (key_of w.op)) client.known ≡ Some frame.core.id = w.chosen_is ∙ ap Some name in
             let among = subst (λ l. Among frame.core.id (map name_in l)) one.2 (chosen_among (pos_of (key_of w.op)) client.known frame.core.id chosen_here) in
@@ -327,7 +327,7 @@ module _ (set : Setting) where
             let ring = linked.rings frame a in
             let first = learn_in_turn.gone ring.0 frame one.1 in
             let next_ = learn_in_turn.not_mine (frame ∷ ring.0) 1 (pos_of (key_of w.op)) frame ((frame.core.id, one.1) ∷ []) ring.1.round first (inl refl) (ap (chosen (pos_of (key_of w.op))) (sym known_is) ∙ chosen_here) lacks in
-            subst (λ l. Knows set (told_not_mine frame.core.id frame.core.arc frame.core.succ l)) (sym known_is) (inr (record { ring = frame ∷ ring.0; is_ring = ring.1; reached = 2; first = next_.1 }))
+            subst (λ l. Knows set (learnt_from_not_mine frame.core.id frame.core.arc frame.core.succ l)) (sym known_is) (inr (record { ring = frame ∷ ring.0; is_ring = ring.1; reached = 2; first = next_.1 }))
         next_known frame a name lacks (inr r) =
             let chosen_here : chosen (pos_of (key_of w.op)) client.known ≡ Some frame.core.id = w.chosen_is ∙ ap Some name in
             let among = subst (Among frame.core.id) r.first.names (chosen_among (pos_of (key_of w.op)) client.known frame.core.id chosen_here) in
@@ -337,16 +337,16 @@ module _ (set : Setting) where
             let next_ = learn_in_turn.not_mine r.ring r.reached (pos_of (key_of w.op)) frame client.known r.is_ring.round r.first (subst (λ x. Among x r.ring) same in_ring) chosen_here lacks in
             inr (record { ring = r.ring; is_ring = r.is_ring; reached = r.reached + 1; first = next_.1 })
 
-        sent_on : (group : Draw) (arc : Arc) (succ : Link) → w.group ≡ group → Says (Answer group w.seq (NotMine arc succ)) → Keeps (request_sent (record client { known = told_not_mine group arc succ client.known }))
+        sent_on : (group : Draw) (arc : Arc) (succ : Link) → w.group ≡ group → Says (Answer group w.seq (NotMine arc succ)) → Keeps (request_sent (record client { known = learnt_from_not_mine group arc succ client.known }))
         sent_on group arc succ name (inr s) = absurd (s.says)
         sent_on group arc succ name (inl s) =
             let frame : Frame = s.frame in
             let reply = s.says.1 in
             let lacks : holds_key frame.core.arc (key_of w.op) ≡ false = ap (λ x. holds_key frame.core.arc (key_of x)) (sym (op_same reply.client reply.op reply.to_is reply.is_begun)) ∙ reply.says.0 in
-            let known_is : told_not_mine group arc succ client.known ≡ told_not_mine frame.core.id frame.core.arc frame.core.succ client.known =
-            ap (λ d. told_not_mine d arc succ client.known) s.says.0
-            ∙ (ap (λ (x : Arc). told_not_mine frame.core.id x succ client.known) reply.says.1 ∙ ap (λ (x : Link). told_not_mine frame.core.id frame.core.arc x client.known) reply.says.2) in
-            let known : KnownGroups = told_not_mine frame.core.id frame.core.arc frame.core.succ client.known in
+            let known_is : learnt_from_not_mine group arc succ client.known ≡ learnt_from_not_mine frame.core.id frame.core.arc frame.core.succ client.known =
+            ap (λ d. learnt_from_not_mine d arc succ client.known) s.says.0
+            ∙ (ap (λ (x : Arc). learnt_from_not_mine frame.core.id x succ client.known) reply.says.1 ∙ ap (λ (x : Link). learnt_from_not_mine frame.core.id frame.core.arc x client.known) reply.says.2) in
+            let known : KnownGroups = learnt_from_not_mine frame.core.id frame.core.arc frame.core.succ client.known in
             let targets = learnt_each frame.core.succ.group (end_of frame.core.arc) frame.core.succ.members (starting frame.core.id frame.core.arc.lo client.known) (linked.links frame s.is_frame) (starting_each frame.core.id frame.core.arc.lo client.known (k.targets few)) in
             subst (λ l. Keeps (request_sent (record client { known = l }))) (sym known_is)
             (sends (request_sent (record client { known = known })) (ready_row later gone is_gone w.seq w.op (record client { known = known }) (ready known (next_known frame s.is_frame (name ∙ s.says.0) lacks (k.knows few)) targets) (begun_later reply.client reply.op reply.to_is reply.is_begun)))
@@ -363,13 +363,13 @@ module _ (set : Setting) where
             let in_ring : Among f.0 r.ring = subst (Among f.0) (take-append-drop r.reached r.ring) (Among-left f.0 (take r.reached r.ring) (drop r.reached r.ring) f.1) in
             absurd (linked.stand f.0 into (r.is_ring.within f.0 in_ring) (subst (λ d. HasGoneTo set d into) (sym f.2) went))
 
-        moved : (group : Draw) (into : Route) → w.group ≡ group → Says (Answer group w.seq (Gone into)) → Keeps (request_sent (record client { known = told_gone group into client.known }))
+        moved : (group : Draw) (into : Route) → w.group ≡ group → Says (Answer group w.seq (Gone into)) → Keeps (request_sent (record client { known = learnt_from_gone group into client.known }))
         moved group into name (inl s) = absurd (s.says.1.says)
         moved group into name (inr s) =
             let one = alone group into name s.says (k.knows few) in
             let known : KnownGroups = (into.group, new_way into.lo into.members) ∷ [] in
             let removed : remove_entry (same_draw group) ((group, one.0) ∷ []) ≡ [] = cond-true (same_draw group group) [] ((group, one.0) ∷ []) (same_name group group refl) in
-            let known_is : told_gone group into client.known ≡ known = ap (told_gone group into) one.1 ∙ ap (group_learnt into.group into.lo into.members) removed in
+            let known_is : learnt_from_gone group into client.known ≡ known = ap (learnt_from_gone group into) one.1 ∙ ap (group_learnt into.group into.lo into.members) removed in
             subst (λ l. Keeps (request_sent (record client { known = l }))) (sym known_is)
             (sends (request_sent (record client { known = known })) (ready_row later gone is_gone w.seq w.op (record client { known = known }) (ready known (inl (into.group, new_way into.lo into.members, refl)) (linked.routes group into s.says, tt)) (begun_later s.client s.op s.to_is s.is_begun)))
 

@@ -7,7 +7,7 @@ use Rattle.sc_base.proofs.Lemmas.{draw_is, same_name}
 use Rattle.sc_mail.specs.declared.bodies.AnswerBody.TheVariants as Says
 use Rattle.sc_machine_table.specs.Definitions.{Group}
 use Rattle.sc_paxos_words.proofs.Lemmas.{Each-weaker, find_found}
-use Rattle.sc_node_table.specs.Definitions.{NodeState, replica_of, with_replica, node_table, ReplicaState, Executed, childless, name_of, mailed, call_refusal, requested, request_row}
+use Rattle.sc_node_table.specs.Definitions.{NodeState, replica_of, with_replica, node_table, ReplicaState, Executed, childless, name_of, mailed, request_refusal, requested, request_row}
 use Rattle.sc_live_plain.specs.Definitions.{Other, mark, Setting, IsHome, HasGoneTo, IsSetting, IsNearer, KnowsBetter, IsCalmNode, IsAsideAnswer, IsAsideBody, IsCalmMail, ComesInTime, NodesStayCalm, IsFrame, IsBegun, Requests, IsPlainBody, IsPlainMail, IsPlainAt}
 use Rattle.sc_live_plain.proofs.Lists.{some_is}
 use Rattle.sc_live_plain.proofs.NodeRows.{NodeRow, node_row, mail_is, node_plain, node_said, me_after, found_after, others_after}
@@ -32,7 +32,7 @@ abbrev pub aside_answer : Option Route → Option ℕ → AnswerBody
 aside_answer (Some into) hint = Says.Gone into
 aside_answer None hint = Says.NotLeader hint
 
-aside_refused : (gone : Option Route) (core : Core) (hint : Option ℕ) (op : Op) → call_refusal gone core false hint op ≡ Some (aside_answer gone hint)
+aside_refused : (gone : Option Route) (core : Core) (hint : Option ℕ) (op : Op) → request_refusal gone core false hint op ≡ Some (aside_answer gone hint)
 aside_refused (Some into) core hint op = refl
 aside_refused None core hint op = refl
 
@@ -41,7 +41,7 @@ pub aside_step : (r : ReplicaState) (group : Draw) (from client seq : ℕ) (op :
     → mailed from (Request group client seq op) (r, []) ≡ ((r, mail_of r.me (client_actor client) (Answer (name_of r) seq (aside_answer r.group.core.gone r.hint)) ∷ []), [])
 unfolding mailed request_row requested
 aside_step r group from client seq op stops =
-    ap (λ (o : Option AnswerBody). childless (requested o client seq op (r, []))) (ap (λ b. call_refusal r.group.core.gone r.group.core b r.hint op) stops ∙ aside_refused r.group.core.gone r.group.core r.hint op)
+    ap (λ (o : Option AnswerBody). childless (requested o client seq op (r, []))) (ap (λ b. request_refusal r.group.core.gone r.group.core b r.hint op) stops ∙ aside_refused r.group.core.gone r.group.core r.hint op)
 
 module _ (begun : Requests) (set : Setting) (is : IsSetting set) (node : NodeState) (n : IsCalmNode begun set node) (mail : Mail) (to : mail.to ≡ node.me)
     (not_client : (client seq : ℕ) (op : Op) → begun client seq op → node.me ≡ client_actor client → ⊥) (due : ComesInTime begun set node mail) where
@@ -75,14 +75,14 @@ module _ (begun : Requests) (set : Setting) (is : IsSetting set) (node : NodeSta
     -- at a node that left, the mail asks to accept something
     accepts : (body : MailBody) → is_member k.frame.core.members node.me ≡ false → IsPlainBody begun k.frame mail.from node.me body → Does begun k.frame (is.are k.frame k.is_frame) node.me k.r mail.from body k.place
         → (slot : ℕ) × DidAccept begun k.frame (is.are k.frame k.is_frame) node.me mail.from slot k.r k.place
-    accepts (Accept group ballot slot command) left b does = (slot, does)
-    accepts (Request group client seq op) left b does = absurd (away left does.0)
-    accepts (Accepted group ballot slot) left b does = absurd (away left does.0)
-    accepts (Learn group slot command) left b does = absurd (both_ways (is_member k.frame.core.members node.me) left b.1.to_in)
-    accepts _ left b does = absurd does
+    accepts (Accept group ballot slot command) left b response = (slot, response)
+    accepts (Request group client seq op) left b response = absurd (away left response.0)
+    accepts (Accepted group ballot slot) left b response = absurd (away left response.0)
+    accepts (Learn group slot command) left b response = absurd (both_ways (is_member k.frame.core.members node.me) left b.1.to_in)
+    accepts _ left b response = absurd response
 
     did : is_member k.frame.core.members node.me ≡ false → (slot : ℕ) × DidAccept begun k.frame (is.are k.frame k.is_frame) node.me mail.from slot k.r k.place
-    did left = accepts mail.body left says k.row.does
+    did left = accepts mail.body left says k.row.response
 
     own_after : IsPlainAt begun k.frame node.me k.place.0 → k.place.0.me ≡ node.me
     own_after (inl p) = p.0.me_is

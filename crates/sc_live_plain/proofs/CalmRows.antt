@@ -5,7 +5,7 @@ use Rattle.sc_base.specs.Definitions.{is_member}
 use Rattle.sc_node_table.specs.Values.{Op, Command, Noop, Call, Core, Flight}
 use Rattle.sc_ideal.specs.Definitions.{key_of, holds_key}
 use Rattle.sc_paxos_words.proofs.Lemmas.{Each-weaker}
-use Rattle.sc_node_table.specs.Definitions.{entered, serves_calls, ReplicaState, name_of, next, slots_ahead, numbers_from}
+use Rattle.sc_node_table.specs.Definitions.{entered, admits_requests, ReplicaState, name_of, next, slots_ahead, numbers_from}
 use Rattle.sc_live_steps.specs.calm.Definitions.{AreBounded, IsServedCall, ServesAll, AreNines, MayPump, Follows, Points, Ways}
 use Rattle.sc_live_plain.specs.Definitions.{Frame, IsFrame, Requests, IsPlainCall, IsPlainCommand, IsPlainFlight, IsPlainFollower, IsPlainReplica, IsLeading}
 use Rattle.sc_live_plain.proofs.PlainEntries.{entered_plain}
@@ -23,7 +23,7 @@ module _ (ways : Ways) (begun : Requests) (frame : Frame) (is : IsFrame frame) (
   served_call : (core : Core) (command : Command) → core ≡ frame.core → IsPlainCommand begun frame command → IsServedCall core command
   served_call core (Call client seq op) e p = record {
     stands = ap (λ (c : Core). c.gone) e ∙ is.stands;
-    serves = ap (λ (c : Core). serves_calls c.lock) e ∙ ap serves_calls is.free;
+    serves = ap (λ (c : Core). admits_requests c.lock) e ∙ ap admits_requests is.free;
     holds = ap (λ (c : Core). holds_key c.arc (key_of op)) e ∙ p.held;
   }
   served_call core Noop e p = absurd p

@@ -5,7 +5,7 @@ use Rattle.sc_base.specs.Definitions.{Among, client_actor, same_draw}
 use Rattle.sc_node_table.specs.Values.{Draw, Op, Route, OrderLine, AnswerBody, NotMine, Stale, Mail, Request, Answer, Node, Client, Seat, Event, Deliver, Go, Got, Row}
 use Rattle.sc_base.proofs.Lemmas.{draw_is, same_name}
 use Rattle.sc_actor.specs.declared.rows.Input.TheVariants.{Go as GoInput}
-use Rattle.sc_actor.specs.Definitions.{mails, value, acted, input_of, System, row_of, has_gone, waiting, kth}
+use Rattle.sc_actor.specs.Definitions.{mails, value, acted, input_of, System, row_of, has_started, waiting, kth}
 use Rattle.sc_paxos_words.proofs.Lemmas.{find_found}
 use Rattle.sc_client_table.specs.Definitions.{Client as ClientState, ClientStep, table}
 use Rattle.sc_node_table.specs.Definitions.{NodeState, replica_of, is_node, node_table, ReplicaState, Place, name_of}
@@ -184,10 +184,10 @@ module _ (words : ℕ → ℕ → ℕ × ℕ) (scenario : Scenario) (begins : Is
             -- the request comes to it
             took : (op : Op) → first.mail ≡ asking client.me w.target w.group w.seq op → Later
             took op same =
-                let does = subst (λ (m : Mail). Does (IsBegun scenario rows) k.frame (is.are k.frame k.is_frame) n.node.me k.r m.from m.body k.place) same k.row.does in
-                elim (does.1) [
+                let response = subst (λ (m : Mail). Does (IsBegun scenario rows) k.frame (is.are k.frame k.is_frame) n.node.me k.r m.from m.body k.place) same k.row.response in
+                elim (response.1) [
                   | inl refused ↦ answered_later (NotMine k.frame.core.arc k.frame.core.succ) tt (subst (Among (mail_of k.frame.lead (client_actor client.me) (Answer k.frame.core.id w.seq (NotMine k.frame.core.arc k.frame.core.succ)))) (sym (ap (λ (p : Place). p.1) refused.place_is)) (inl refl))
-                  | inr queued ↦ elim (queued.run.leads.calls client.me w.seq (inr (refl, omega arith))) [ inl h ↦ held_later h | inr x ↦ told x ]
+                  | inr queued ↦ elim (queued.run.leads.backlog client.me w.seq (inr (refl, omega arith))) [ inl h ↦ held_later h | inr x ↦ told x ]
                 ]
 
             -- its request is queued there
@@ -195,7 +195,7 @@ module _ (words : ℕ → ℕ → ℕ × ℕ) (scenario : Scenario) (begins : Is
             held_still r there h =
                 let was_there : Some k.r ≡ Some r = sym k.found ∙ (sym (before_is k.frame.core.id) ∙ (ap (λ d. replica_at scenario rows d me) name ∙ (ap (replica_at scenario rows w.group) (sym here) ∙ there))) in
                 let same : k.r ≡ r = some_is was_there in
-                elim (does_holds (IsBegun scenario rows) k.frame (is.are k.frame k.is_frame) n.node.me k.r first.mail.from first.mail.body k.place (n.me_is ∙ (sym here ∙ lead)) k.row.does client.me w.seq (subst (λ x. IsHeld x client.me w.seq) (sym same) h)) [
+                elim (does_holds (IsBegun scenario rows) k.frame (is.are k.frame k.is_frame) n.node.me k.r first.mail.from first.mail.body k.place (n.me_is ∙ (sym here ∙ lead)) k.row.response client.me w.seq (subst (λ x. IsHeld x client.me w.seq) (sym same) h)) [
                   | inl now_ ↦ held_later now_
                   | inr x ↦ told x
                 ]
@@ -315,7 +315,7 @@ module _ (words : ℕ → ℕ → ℕ × ℕ) (scenario : Scenario) (begins : Is
               | inr ne ↦ elsewhere (Deliver number) fine client w.group w.target w.seq (λ e. away asks a (ap client_actor (sym (me_of asks client a was)) ∙ e)) ne s
             ]
 
-      node_go : (fine : has_gone rows me ≡ false) → AreSought (rows ++ row_of player_table (node_seat as_nodes scenario.groups scenario.policy me) rows Go ∷ [])
+      node_go : (fine : has_started rows me ≡ false) → AreSought (rows ++ row_of player_table (node_seat as_nodes scenario.groups scenario.policy me) rows Go ∷ [])
       node_go fine asks client a now_is w =
           let r = row_of player_table (nseat me) rows Go in
           let was = was_client Go fine asks client a now_is in
@@ -453,9 +453,9 @@ module _ (words : ℕ → ℕ → ℕ × ℕ) (scenario : Scenario) (begins : Is
             subst (λ (x : ClientState). (w : IsWaiting x) → is_node w.target ≡ true → IsSought (rows ++ row_of player_table (cseat mine) rows (Deliver number) ∷ []) x w.group w.target w.seq) e (ignored d) w node
 
         client_turn : AreSought (rows ++ row_of player_table (client_seat (route_of begins.first) mine) rows (Deliver number) ∷ [])
-        client_turn = all_sought (Deliver number) fine step became sends nodes (own (clients_of.does words scenario begins set is linked rows t j mine is_mine born number fine))
+        client_turn = all_sought (Deliver number) fine step became sends nodes (own (clients_of.response words scenario begins set is linked rows t j mine is_mine born number fine))
 
-      client_go : (fine : has_gone rows (client_actor mine.client) ≡ false)
+      client_go : (fine : has_started rows (client_actor mine.client) ≡ false)
           → ((asks : Asks) (client : ClientState) → Among asks scenario.clients → value player_table (client_seat (route_of begins.first) asks) (rows ++ row_of player_table (client_seat (route_of begins.first) mine) rows Go ∷ []) ≡ Client client → (w : IsWaiting client) → is_node w.target ≡ true)
           → AreSought (rows ++ row_of player_table (client_seat (route_of begins.first) mine) rows Go ∷ [])
       client_go fine nodes =

@@ -62,7 +62,7 @@ module _ (begun : Requests) (frame : Frame) (is : IsFrame frame) (taken : ℕ) (
           ballot_is = l.ballot_is;
           may = l.may;
           open_ = l.open_;
-          calls = l.calls;
+          backlog = l.backlog;
           flights = fe;
           ready = ee;
           slots = record { most = l.slots.most; once = λ s. same s ∙ l.slots.once s };
@@ -78,7 +78,7 @@ module _ (begun : Requests) (frame : Frame) (is : IsFrame frame) (taken : ℕ) (
         learns = λ who m ne. ap (numbers_from (next r)) none;
         offers = λ slot who least high a. absurd (omega (arith, least, high));
         owed = omega (arith, few);
-        calls = λ c n w. inl (holds c n w);
+        backlog = λ c n w. inl (holds c n w);
       }
 
   -- nothing changes

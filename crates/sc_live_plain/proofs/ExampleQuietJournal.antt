@@ -9,7 +9,7 @@ use Rattle.sc_base.specs.declared.names.Draw.{Draw}
 use Rattle.sc_base.proofs.NameLemmas.{draw_is}
 use Rattle.sc_cmd.specs.declared.orders.OrderLine.{OrderLine}
 use Rattle.sc_cmd.specs.declared.orders.OrderRefusal.TheVariants.{LastMember}
-use Rattle.sc_cmd.specs.declared.orders.ToldResult.TheVariants.{Refused}
+use Rattle.sc_cmd.specs.declared.orders.OrderResult.TheVariants.{Refused}
 use Rattle.sc_mail.specs.declared.bodies.Mail.{Mail}
 use Rattle.sc_mail.specs.declared.bodies.MailBody.TheVariants.{Told as Tells}
 use Rattle.sc_actor.specs.declared.rows.Row.{Row}
@@ -100,7 +100,7 @@ stands = record {
 
 at_rest : IsAtRest lead
 unfolding lead
-at_rest = record { free = refl; acts = refl; calls = refl; waits = refl; flights = refl; ready = refl }
+at_rest = record { free = refl; acts = refl; backlog = refl; waits = refl; flights = refl; ready = refl }
 
 runs : lead.running ≡ true
 unfolding lead

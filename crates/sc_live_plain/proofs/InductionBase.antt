@@ -78,7 +78,7 @@ born_settled begun me base =
             ballot_is = refl;
             may = λ slot. ap (λ b. not b && true) (at_least_itself (record { round = 1; node = base.core.first }));
             open_ = λ slot low. refl;
-            calls = tt;
+            backlog = tt;
             flights = tt;
             ready = tt;
             slots = born_taken me base;
@@ -86,7 +86,7 @@ born_settled begun me base =
           done = record { executed = refl; offered = inl refl };
         },
       )
-      | inr ne ↦ inr (ne, record { stopped = ne_eqb base.core.first me (λ e. ne (sym e)); calls = refl; flights = refl; ready = refl })
+      | inr ne ↦ inr (ne, record { stopped = ne_eqb base.core.first me (λ e. ne (sym e)); backlog = refl; flights = refl; ready = refl })
     ]
 
 -- and owes nothing

@@ -9,10 +9,10 @@ use Rattle.sc_node_table.specs.Values.{Draw}
 use Rattle.sc_base.proofs.Lemmas.{draw_is, same_name}
 use Rattle.sc_paxos_words.proofs.Lemmas.{Each-among}
 use Rattle.sc_lookup.specs.declared.ways.Way.{Way}
-use Rattle.sc_lookup.specs.Definitions.{far, new_way, KnownGroups, way_to, chosen, changed, preferring, starting, told_not_mine}
+use Rattle.sc_lookup.specs.Definitions.{far, new_way, KnownGroups, way_to, chosen, changed, preferring, starting, learnt_from_not_mine}
 use Rattle.sc_paxos_law.proofs.Lemmas.{from_map, Among-left, Among-right, Among-either}
 use Rattle.sc_live_plain.specs.Definitions.{FollowedBy, AreRoundRing, start_of, start_known, KnowsFirst, ClientsLearnInTurn, Frame}
-use Rattle.sc_live_plain.proofs.PlainKnownGroups.{IsChosen, chosen_is, parts_of, take_front}
+use Rattle.sc_live_plain.proofs.PlainKnownGroups.{IsChosen, chosen_is, parts_of, take_prefix}
 use Rattle.sc_live_plain.proofs.Lists.{map_among}
 use Rattle.sc_live_plain.proofs.PlainKnownGroups.{map_push as map_last}
 
@@ -139,30 +139,30 @@ module _ (frames : List Frame) (ring : AreRoundRing frames) where
       subst (λ lo. gap p lo < gap p frame.core.arc.lo) (sym k.starts) (near_behind p frame.core.arc.lo frame.core.arc.len arc.1 arc.0.some arc.0.most (omega (arith, out)))
 
   module _ (reached : ℕ) (low : reached ≤ length frames) where
-    abbrev front : List Frame
-    front = take reached frames
+    abbrev prefix : List Frame
+    prefix = take reached frames
 
     abbrev back : List Frame
     back = drop reached frames
 
-    parts : frames ≡ front ++ back
+    parts : frames ≡ prefix ++ back
     parts = sym (take-append-drop reached frames)
 
-    prefix_frames : (frame : Frame) → Among frame front → Among frame frames
-    prefix_frames frame a = subst (Among frame) (sym parts) (Among-left frame front back a)
+    prefix_frames : (frame : Frame) → Among frame prefix → Among frame frames
+    prefix_frames frame a = subst (Among frame) (sym parts) (Among-left frame prefix back a)
 
     -- none of the first is nearer to a position
     abbrev IsNearest : ℕ → Frame → Type 0
-    IsNearest p frame = (other : Frame) → Among other front → gap p frame.core.arc.lo ≤ gap p other.core.arc.lo
+    IsNearest p frame = (other : Frame) → Among other prefix → gap p frame.core.arc.lo ≤ gap p other.core.arc.lo
 
     -- the one behind the first, which follows another
     record Follows (frame : Frame) : Type 0 where
       other : Frame
       rest : List Frame
-      whole : frames ≡ front ++ other ∷ rest
+      whole : frames ≡ prefix ++ other ∷ rest
       before : FollowedBy frame other
 
-    wrapped : (p : ℕ) (frame : Frame) → Among frame front → IsNearest p frame → holds frame.core.arc p ≡ false → (l : List Frame) → frames ≡ l ++ frame ∷ [] → (all : List Frame) → frames ≡ all → front ≡ frames → Follows frame
+    wrapped : (p : ℕ) (frame : Frame) → Among frame prefix → IsNearest p frame → holds frame.core.arc p ≡ false → (l : List Frame) → frames ≡ l ++ frame ∷ [] → (all : List Frame) → frames ≡ all → prefix ≡ frames → Follows frame
     wrapped p frame a near lacks l whole [] e same = absurd (subst (Among frame) (same ∙ e) a)
     wrapped p frame a near lacks l whole (first ∷ rest) e same =
         let k = ring.last l rest frame first whole e in
@@ -170,18 +170,18 @@ module _ (frames : List Frame) (ring : AreRoundRing frames) where
         let lt = nearer p frame first (prefix_frames frame a) k lacks in
         absurd (omega (arith, le, lt))
 
-    behind : (p : ℕ) (frame : Frame) → Among frame front → IsNearest p frame → holds frame.core.arc p ≡ false → (l b rest : List Frame) → back ≡ rest → front ≡ l ++ frame ∷ b → frames ≡ l ++ frame ∷ (b ++ rest) → Follows frame
+    behind : (p : ℕ) (frame : Frame) → Among frame prefix → IsNearest p frame → holds frame.core.arc p ≡ false → (l b rest : List Frame) → back ≡ rest → prefix ≡ l ++ frame ∷ b → frames ≡ l ++ frame ∷ (b ++ rest) → Follows frame
     behind p frame a near lacks l (other ∷ b) rest r split whole =
         let k = ring.next l (b ++ rest) frame other whole in
         let le = near other (subst (Among other) (sym split) (Among-right other l (frame ∷ other ∷ b) (inr (inl refl)))) in
         let lt = nearer p frame other (prefix_frames frame a) k lacks in
         absurd (omega (arith, le, lt))
-    behind p frame a near lacks l [] (other ∷ rest) r split whole = record { other = other; rest = rest; whole = parts ∙ ap (λ (fs : List Frame). front ++ fs) r; before = ring.next l rest frame other whole }
-    behind p frame a near lacks l [] [] r split whole = wrapped p frame a near lacks l whole frames refl (subst (λ (fs : List Frame). front ≡ fs) (split ∙ sym whole) refl)
+    behind p frame a near lacks l [] (other ∷ rest) r split whole = record { other = other; rest = rest; whole = parts ∙ ap (λ (fs : List Frame). prefix ++ fs) r; before = ring.next l rest frame other whole }
+    behind p frame a near lacks l [] [] r split whole = wrapped p frame a near lacks l whole frames refl (subst (λ (fs : List Frame). prefix ≡ fs) (split ∙ sym whole) refl)
 
-    follows : (p : ℕ) (frame : Frame) → Among frame front → IsNearest p frame → holds frame.core.arc p ≡ false → Follows frame
+    follows : (p : ℕ) (frame : Frame) → Among frame prefix → IsNearest p frame → holds frame.core.arc p ≡ false → Follows frame
     follows p frame a near lacks =
-        let w = parts_of front frame a in
+        let w = parts_of prefix frame a in
         behind p frame a near lacks w.0 w.1 back refl w.2 (parts ∙ (ap (λ (fs : List Frame). fs ++ back) w.2 ∙ append_assoc w.0 (frame ∷ w.1) back))
 
   -- ---- a client learns that a key is not the chosen group's
@@ -229,7 +229,7 @@ module _ (frames : List Frame) (ring : AreRoundRing frames) where
     taken : take (reached + 1) frames ≡ take reached frames ++ next_one.other ∷ []
     taken =
         ap (λ (l : List Frame). take (reached + 1) l) next_one.whole
-        ∙ (ap (λ n. take (n + 1) (take reached frames ++ next_one.other ∷ next_one.rest)) (sym count) ∙ take_front (take reached frames) next_one.other next_one.rest)
+        ∙ (ap (λ n. take (n + 1) (take reached frames ++ next_one.other ∷ next_one.rest)) (sym count) ∙ take_prefix (take reached frames) next_one.other next_one.rest)
 
     -- it is not known
     is_new : (groups : KnownGroups) → map name_in groups ≡ map id_of (take reached frames) → way_to frame.core.succ.group groups ≡ None
@@ -246,12 +246,12 @@ module _ (frames : List Frame) (ring : AreRoundRing frames) where
     abbrev entry : Draw × Way
     entry = (frame.core.succ.group, new_way (end_of frame.core.arc) frame.core.succ.members)
 
-    learnt : told_not_mine frame.core.id frame.core.arc frame.core.succ known ≡ started ++ entry ∷ []
+    learnt : learnt_from_not_mine frame.core.id frame.core.arc frame.core.succ known ≡ started ++ entry ∷ []
     learnt =
         cond-false (is_some (way_to frame.core.succ.group started)) (starting frame.core.succ.group (end_of frame.core.arc) started) (started ++ entry ∷ [])
         (ap is_some (is_new (starting frame.core.id frame.core.arc.lo known) names_started))
 
-    names_after : map name_in (told_not_mine frame.core.id frame.core.arc frame.core.succ known) ≡ map id_of (take (reached + 1) frames)
+    names_after : map name_in (learnt_from_not_mine frame.core.id frame.core.arc frame.core.succ known) ≡ map id_of (take (reached + 1) frames)
     names_after =
         ap (λ l. map name_in l) learnt
         ∙ (map_last name_in started entry
@@ -273,18 +273,18 @@ module _ (frames : List Frame) (ring : AreRoundRing frames) where
     starts_one : reached ≤ 1 → map start_known (starting frame.core.id frame.core.arc.lo known) ≡ map start_of (take reached frames)
     starts_one few =
         let n = count in
-        let front_is : take reached frames ≡ frame ∷ [] = only_one (take reached frames) frame (omega (arith, n, few)) in_prefix in
-        let one = one_of_one name_in known frame.core.id (k.names ∙ ap (λ l. map id_of l) front_is) in
+        let prefix_is : take reached frames ≡ frame ∷ [] = only_one (take reached frames) frame (omega (arith, n, few)) in_prefix in
+        let one = one_of_one name_in known frame.core.id (k.names ∙ ap (λ l. map id_of l) prefix_is) in
         let same = same_name frame.core.id one.0.0 (sym one.2) in
         ap (λ l. map start_known (starting frame.core.id frame.core.arc.lo l)) one.1
         ∙ (ap (λ o. map start_known (changed (λ way. record way { lo = frame.core.arc.lo }) frame.core.id (one.0 ∷ []) o)) (cond-true (same_draw frame.core.id one.0.0) (Some one.0.1) None same)
         ∙ (ap (λ l. map start_known l) (cond-true (same_draw frame.core.id one.0.0) ((one.0.0, record one.0.1 { lo = frame.core.arc.lo }) ∷ []) (one.0 ∷ []) same)
-        ∙ (ap (λ d. (d, frame.core.arc.lo) ∷ []) one.2 ∙ ap (λ l. map start_of l) (sym front_is))))
+        ∙ (ap (λ d. (d, frame.core.arc.lo) ∷ []) one.2 ∙ ap (λ l. map start_of l) (sym prefix_is))))
 
     starts_started : map start_known (starting frame.core.id frame.core.arc.lo known) ≡ map start_of (take reached frames)
     starts_started = elim (cases_lt 1 reached) [ inl many ↦ starts_many (omega (arith, many)) | inr few ↦ starts_one (omega (arith, few)) ]
 
-    starts_after : map start_known (told_not_mine frame.core.id frame.core.arc frame.core.succ known) ≡ map start_of (take (reached + 1) frames)
+    starts_after : map start_known (learnt_from_not_mine frame.core.id frame.core.arc frame.core.succ known) ≡ map start_of (take (reached + 1) frames)
     starts_after =
         ap (λ l. map start_known l) learnt
         ∙ (map_last start_known started entry
@@ -301,7 +301,7 @@ module _ (frames : List Frame) (ring : AreRoundRing frames) where
         let n = count in
         omega (arith, all, both, n)
 
-    learns_next : (way_to frame.core.succ.group known ≡ None) × KnowsFirst frames (reached + 1) (told_not_mine frame.core.id frame.core.arc frame.core.succ known)
+    learns_next : (way_to frame.core.succ.group known ≡ None) × KnowsFirst frames (reached + 1) (learnt_from_not_mine frame.core.id frame.core.arc frame.core.succ known)
     learns_next = (is_new known k.names, record { some = omega arith; low = more; names = names_after; starts = λ two. starts_after })
 
 -- Between two orders a client comes to know the groups that stand round the ring, one after another, from the one that it reached first: by NotMine of the group that it chose, it learns the next one, which it did not know. Only where that first one starts may be old.

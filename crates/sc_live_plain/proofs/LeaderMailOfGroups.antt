@@ -162,7 +162,7 @@ module _ (words : ℕ → ℕ → ℕ × ℕ) (scenario : Scenario) where
           let lead_now : node.me ≡ k.frame.lead → replica_at scenario rows k.frame.core.id k.frame.lead ≡ Some k.r = λ e. ap (replica_at scenario rows k.frame.core.id) (sym e) ∙ here in
           let lead_then : node.me ≡ k.frame.lead → replica_at scenario (rows ++ row ∷ []) k.frame.core.id k.frame.lead ≡ Some k.place.0 = λ e. ap (replica_at scenario (rows ++ row ∷ []) k.frame.core.id) (sym e) ∙ found_now in
           let slots_now : node.me ≡ k.frame.lead → AreTaken k.r g.taken = λ e. (let same : g.r ≡ k.r = (let some : Some g.r ≡ Some k.r = sym g.there ∙ lead_now e in cc) in subst (λ x. AreTaken x g.taken) same g.slots) in
-          let moves = does_moves begun k.frame (are k.frame k.is_frame) node.me k.r g.taken mail.from mail.body k.place a.taken (subst (λ t. IsPlainBody begun k.frame mail.from t mail.body) to k.says) k.row.does slots_now a.own in
+          let moves = does_moves begun k.frame (are k.frame k.is_frame) node.me k.r g.taken mail.from mail.body k.place a.taken (subst (λ t. IsPlainBody begun k.frame mail.from t mail.body) to k.says) k.row.response slots_now a.own in
           let how : How k.frame now then_ node.me (mark k.frame.core.id mail) (λ who. marks_for k.frame.core.id who k.place.1) =
           moves now then_
           (record { bound = λ e. ap (λ o. next_in o + g.taken) (lead_now e); voters = λ e slot. ap (λ o. votes_in o slot) (lead_now e); next = ap next_in here })

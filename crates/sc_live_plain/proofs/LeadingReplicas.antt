@@ -172,7 +172,7 @@ pub record IsHeld (r : ReplicaState) (client seq : ℕ) : Type 0 where
   pub number : ℕ
   pub op : Op
   pub later : seq ≤ number
-  pub where_ : Among (Call client number op) r.calls
+  pub where_ : Among (Call client number op) r.backlog
       ⊎ (((flight : Flight Command) × Among flight r.leader.flights × (flight.value ≡ Call client number op)) ⊎ ((slot : ℕ) × Among (slot, Call client number op) r.ready))
 
 -- such a request is answered for good
@@ -221,4 +221,4 @@ pub record Leads (begun : Requests) (frame : Frame) (first free : ℕ) (held : L
   pub learns : (who : ℕ) → is_member frame.core.members who ≡ true → (who ≡ frame.lead → ⊥) → learns_to frame.core.id who place.1 ≡ numbers_from first (next place.0 - first)
   pub offers : (slot who : ℕ) → free ≤ slot → slot < next place.0 + taken → Among who (frame.at slot) → (command : Command) × Among (mail_of frame.lead who (Accept frame.core.id frame.ballot slot command)) place.1
   pub owed : replica_owes place.0 + sum_by mail_owes place.1 ≤ bound
-  pub calls : (client seq : ℕ) → wanted client seq → IsHeld place.0 client seq ⊎ IsReportedOf frame place.1 client seq
+  pub backlog : (client seq : ℕ) → wanted client seq → IsHeld place.0 client seq ⊎ IsReportedOf frame place.1 client seq

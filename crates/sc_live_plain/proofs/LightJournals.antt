@@ -10,7 +10,7 @@ use Rattle.sc_node_table.specs.Values.{Draw, Op, OrderLine, Mail, MailBody, Requ
 use Rattle.sc_mail.specs.Definitions.{body_weight}
 use Rattle.sc_actor.specs.declared.rows.Input.TheVariants.{Go as GoInput}
 use Rattle.sc_actor.specs.declared.schedules.Line.TheVariants as line
-use Rattle.sc_actor.specs.Definitions.{mails, is_delivery, System, numbers_of, row_of, acts, has_gone, value, Task, Once, Settles, Frees, Storms, tasks_of, WalkPlace, onward, after_row, rest_of_all, place_after, start, is_over, MayAdd, IsLawful}
+use Rattle.sc_actor.specs.Definitions.{mails, is_delivery, System, numbers_of, row_of, acts, has_started, value, Task, Once, Settles, Frees, Storms, tasks_of, WalkPlace, onward, after_row, rest_of_all, place_after, start, is_over, MayAdd, IsLawful}
 use Rattle.sc_actor.proofs.Lemmas.{mails-snoc, lawful-last}
 use Rattle.sc_paxos_words.proofs.Lemmas.{Each-weaker, Each-from_All}
 use Rattle.sc_node_table.specs.Definitions.{numbers_from, slots_ahead}
@@ -180,7 +180,7 @@ module _ (words : ℕ → ℕ → ℕ × ℕ) (scenario : Scenario) where
   may_go : (rows : List (Row Mail OrderLine)) (tasks : List (Task OrderLine)) (row : Row Mail OrderLine) → Each IsGoTask tasks → MayAdd (system_of as_nodes words scenario) rows tasks row → IsGoRow row
   may_go rows [] row g m = absurd m
   may_go rows (Once (line.Go who) ∷ tasks) row g m =
-      cond_both (has_gone rows who) None (acts (system_of as_nodes words scenario) rows who Go) (λ (o : Option (Row Mail OrderLine)). o ≡ Some row → IsGoRow row) (λ _ k. cc) (λ _ k. acts_go rows who row k) m
+      cond_both (has_started rows who) None (acts (system_of as_nodes words scenario) rows who Go) (λ (o : Option (Row Mail OrderLine)). o ≡ Some row → IsGoRow row) (λ _ k. cc) (λ _ k. acts_go rows who row k) m
   may_go rows (Once (line.Deliver who k) ∷ tasks) row g m = absurd g.0
   may_go rows (Once (line.Drop who k) ∷ tasks) row g m = absurd g.0
   may_go rows (Once (line.Again mail) ∷ tasks) row g m = absurd g.0

@@ -36,9 +36,9 @@ module _ (begun : Requests) (frame : Frame) (is : IsFrame frame) where
   -- what the replica of a node does in its group
   pub does_moves : (me : ℕ) (r : ReplicaState) (taken : ℕ) (from : ℕ) (body : MailBody) (place : Place) (after : ℕ) → IsPlainBody begun frame from me body → Does begun frame is me r from body place → (me ≡ frame.lead → AreTaken r taken) → (me ≡ frame.lead → AreTaken place.0 after)
       → MovesBy frame me r taken place.0 after (mark_of frame.core.id from body) place.1
-  does_moves me r taken from (Request group client seq op) place after b does slots slots' =
-      let lead = does.0 in
-      elim (does.1) [
+  does_moves me r taken from (Request group client seq op) place after b response slots slots' =
+      let lead = response.0 in
+      elim (response.1) [
         | inl refused ↦ (
             let same : after ≡ taken = taken_once r after taken (subst (λ (p : Place). AreTaken p.0 after) refused.place_is (slots' lead)) (slots lead) in
             let answer : Mail = mail_of frame.lead (client_actor client) (Answer frame.core.id seq (Says.NotMine frame.core.arc frame.core.succ)) in
@@ -50,28 +50,28 @@ module _ (begun : Requests) (frame : Frame) (is : IsFrame frame) where
             let moves = asked_moves begun frame r queued.taken queued.leader.slots r.leader.flights _ _ place queued.run.taken queued.run.leads refl in
             subst (λ m. MovesBy frame m r taken place.0 after Other place.1) (sym lead) (subst (λ t. MovesBy frame frame.lead r t place.0 after Other place.1) first (subst (λ t. MovesBy frame frame.lead r queued.taken place.0 t Other place.1) last moves)))
       ]
-  does_moves me r taken from (Accept group ballot slot command) place after b does slots slots' =
+  does_moves me r taken from (Accept group ballot slot command) place after b response slots slots' =
       let to : from ≡ frame.lead = b.2.from_is in
-      let sends : place.1 ≡ mail_of me frame.lead (Accepted frame.core.id frame.ballot slot) ∷ [] = does.sends ∙ ap (λ n. mail_of me n (Accepted frame.core.id frame.ballot slot) ∷ []) to in
-      let moves = accept_moves frame me r taken place.0 slot does.next_is does.flights_are in
+      let sends : place.1 ≡ mail_of me frame.lead (Accepted frame.core.id frame.ballot slot) ∷ [] = response.sends ∙ ap (λ n. mail_of me n (Accepted frame.core.id frame.ballot slot) ∷ []) to in
+      let moves = accept_moves frame me r taken place.0 slot response.next_is response.flights_are in
       let counted : MovesBy frame me r taken place.0 after (Asks slot) (mail_of me frame.lead (Accepted frame.core.id frame.ballot slot) ∷ []) = elim (cases_eq me frame.lead) [
-        | inl lead ↦ (let same : taken ≡ after = taken_once place.0 taken after (does.slots taken (slots lead)) (slots' lead) in
+        | inl lead ↦ (let same : taken ≡ after = taken_once place.0 taken after (response.slots taken (slots lead)) (slots' lead) in
             subst (λ t. MovesBy frame me r taken place.0 t (Asks slot) (mail_of me frame.lead (Accepted frame.core.id frame.ballot slot) ∷ [])) same moves)
         | inr follows ↦ (λ one two v w own. moves one two v (record { bound = λ e. absurd (follows e); voters = λ e. absurd (follows e); next = w.next }) own)
       ] in
       subst (λ m. MovesBy frame me r taken place.0 after m place.1) (sym (here group (Asks slot) b.0)) (subst (λ (l : List Mail). MovesBy frame me r taken place.0 after (Asks slot) l) (sym sends) counted)
-  does_moves me r taken from (Accepted group ballot slot) place after b does slots slots' =
-      let lead = does.0 in
-      let d = does.1 in
+  does_moves me r taken from (Accepted group ballot slot) place after b response slots slots' =
+      let lead = response.0 in
+      let d = response.1 in
       let first : d.taken ≡ taken = taken_once r d.taken taken d.leader.slots (slots lead) in
       let run = d.counted.run in
       let last : run.taken ≡ after = taken_once place.0 run.taken after run.leads.leader.slots (slots' lead) in
       let moves = counted_moves begun frame r d.taken d.leader.slots d.counted.held _ _ place run.taken run.leads from slot b.3 d.counted.votes in
       subst (λ m. MovesBy frame me r taken place.0 after m place.1) (sym (here group (Votes from slot) b.0))
       (subst (λ m. MovesBy frame m r taken place.0 after (Votes from slot) place.1) (sym lead) (subst (λ t. MovesBy frame frame.lead r t place.0 after (Votes from slot) place.1) first (subst (λ t. MovesBy frame frame.lead r d.taken place.0 t (Votes from slot) place.1) last moves)))
-  does_moves me r taken from (Learn group slot command) place after b does slots slots' =
-      let moves = learn_moves frame me r taken place.0 slot does.follows b.1.to_in does.next_is in
-      let kept : MovesBy frame me r taken place.0 after (Tells slot) [] = λ one two v w own. moves one two v (record { bound = λ e. absurd (does.follows e); voters = λ e. absurd (does.follows e); next = w.next }) own in
-      subst (λ m. MovesBy frame me r taken place.0 after m place.1) (sym (here group (Tells slot) b.0)) (subst (λ (l : List Mail). MovesBy frame me r taken place.0 after (Tells slot) l) (sym does.sends) kept)
-  does_moves me r taken from (Answer group seq answer) place after b does slots slots' = absurd does
-  does_moves me r taken from _ place after b does slots slots' = absurd does
+  does_moves me r taken from (Learn group slot command) place after b response slots slots' =
+      let moves = learn_moves frame me r taken place.0 slot response.follows b.1.to_in response.next_is in
+      let kept : MovesBy frame me r taken place.0 after (Tells slot) [] = λ one two v w own. moves one two v (record { bound = λ e. absurd (response.follows e); voters = λ e. absurd (response.follows e); next = w.next }) own in
+      subst (λ m. MovesBy frame me r taken place.0 after m place.1) (sym (here group (Tells slot) b.0)) (subst (λ (l : List Mail). MovesBy frame me r taken place.0 after (Tells slot) l) (sym response.sends) kept)
+  does_moves me r taken from (Answer group seq answer) place after b response slots slots' = absurd response
+  does_moves me r taken from _ place after b response slots slots' = absurd response

@@ -5,7 +5,7 @@ use Rattle.std.proofs.lemmas.Bool.{cond_both}
 use Rattle.sc_base.specs.Definitions.{Each}
 use Rattle.sc_node_table.specs.Values.{Draw, Op, Got, AnswerBody, Value, NotLeader, NotMine, Gone, Stale, Mail, MailBody, Request, Answer}
 use Rattle.sc_actor.specs.declared.rows.Input.TheVariants.{Go}
-use Rattle.sc_lookup.specs.Definitions.{target_in, preferring, passed_on, told_not_mine, told_gone}
+use Rattle.sc_lookup.specs.Definitions.{target_in, preferring, passed_on, learnt_from_not_mine, learnt_from_gone}
 use Rattle.sc_client_table.specs.Definitions.{Client as ClientState, waiting_request, ClientStep, asked_of, sent_where, chosen_for, request_sent, started, waits_for, was_asked, redirected, answer_taken, got, table}
 use Rattle.sc_node_table.specs.Definitions.{NodeState}
 use Rattle.sc_live_plain.specs.Definitions.{Other, mark, Setting, IsCalmNode, IsAsideBody, IsCalmMail, Requests}
@@ -57,8 +57,8 @@ started_only seq client =
 redirected_only : (group : Draw) (answer : AnswerBody) (client : ClientState) → AsksOnly (redirected group answer client)
 redirected_only group (NotLeader (Some hint)) client = asked_only (record client { known = preferring group hint client.known }) group (target_in group (preferring group hint client.known)) (waiting_request client)
 redirected_only group (NotLeader None) client = asked_only (record client { known = passed_on group client.known }) group (target_in group (passed_on group client.known)) (waiting_request client)
-redirected_only group (NotMine arc succ) client = sent_only (record client { known = told_not_mine group arc succ client.known })
-redirected_only group (Gone into) client = sent_only (record client { known = told_gone group into client.known })
+redirected_only group (NotMine arc succ) client = sent_only (record client { known = learnt_from_not_mine group arc succ client.known })
+redirected_only group (Gone into) client = sent_only (record client { known = learnt_from_gone group into client.known })
 redirected_only group (Value reply) client = tt
 redirected_only group (Stale last) client = tt
 

@@ -58,7 +58,7 @@ module _ (one two : Requests) (more : IsMore one two) where
     ballot_is = l.ballot_is;
     may = l.may;
     open_ = l.open_;
-    calls = Each-weaker (IsPlainCommand one frame) (IsPlainCommand two frame) (command_more frame) r.calls l.calls;
+    backlog = Each-weaker (IsPlainCommand one frame) (IsPlainCommand two frame) (command_more frame) r.backlog l.backlog;
     flights = Each-weaker (IsPlainFlight one frame) (IsPlainFlight two frame) (flight_more frame) r.leader.flights l.flights;
     ready = Each-weaker (λ (entry : ℕ × Command). IsPlainCommand one frame entry.1) (λ (entry : ℕ × Command). IsPlainCommand two frame entry.1) (λ entry. command_more frame entry.1) r.ready l.ready;
     slots = l.slots;

@@ -7,7 +7,7 @@ use Rattle.std.proofs.lemmas.List.Folds.{list_any-append}
 use Rattle.sc_base.specs.Definitions.{Among, Each, client_actor, is_member}
 use Rattle.sc_node_table.specs.Values.{Draw, Op, OrderLine, Mail, MailBody, Request, Accept, Accepted, Learn, Seat, Row, Event, Deliver, Go, Got, Client}
 use Rattle.sc_actor.specs.declared.rows.Input.TheVariants.{Go as GoInput}
-use Rattle.sc_actor.specs.Definitions.{mails, is_delivery, value, acted, input_of, System, row_of, has_gone, is_go, waiting, kth}
+use Rattle.sc_actor.specs.Definitions.{mails, is_delivery, value, acted, input_of, System, row_of, has_started, is_go, waiting, kth}
 use Rattle.sc_actor.proofs.Lemmas.{value-snoc}
 use Rattle.sc_node_table.specs.Definitions.{is_node, slots_ahead}
 use Rattle.sc_client_table.specs.Definitions.{ClientStep, table}
@@ -110,7 +110,7 @@ module _ (words : ℕ → ℕ → ℕ × ℕ) (scenario : Scenario) (stage : IsS
     }
 
     -- the journal after it
-    client_after : (gone : Bool) → has_gone (rows ++ row_of player_table (client_seat (route_of stage.first) asks) rows event ∷ []) (client_actor asks.client) ≡ gone
+    client_after : (gone : Bool) → has_started (rows ++ row_of player_table (client_seat (route_of stage.first) asks) rows event ∷ []) (client_actor asks.client) ≡ gone
         → ClientRow (frames_of scenario) round asks (IsBegun scenario (rows ++ row_of player_table (client_seat (route_of stage.first) asks) rows event ∷ [])) gone after
         → ((name : Draw) → IsTaken Other (marks_at words scenario rows name (client_actor asks.client)) (drop (cond (is_delivery event) 1 0) (marks_at words scenario rows name (client_actor asks.client))))
         → ((name : Draw) (who : ℕ) → Each IsOther (marks_for name who after.1)) → IsPaid (system_of as_nodes words scenario) stage.seats_apart (owing_of scenario) rows (client_seat (route_of stage.first) asks) event
@@ -161,9 +161,9 @@ module _ (words : ℕ → ℕ → ℕ × ℕ) (scenario : Scenario) (stage : IsS
         let same : b.asks ≡ asks = stage.once b.asks asks b.is_asks a (b.client_is ∙ c.plain.me_is) in
         ap (λ (ops : List Op). slice_get ops (seq - 1)) (c.plain.requests_are ∙ sym (ap (λ (x : Asks). x.ops) same)) ∙ b.op_is
 
-    pub takes : TakesMail (frames_of scenario) round asks (IsBegun scenario rows) (IsBegun scenario (rows ++ row_of player_table (client_seat (route_of stage.first) asks) rows (Deliver number) ∷ [])) (has_gone rows (client_actor asks.client)) c.client first.mail c.plain is_plain
+    pub takes : TakesMail (frames_of scenario) round asks (IsBegun scenario rows) (IsBegun scenario (rows ++ row_of player_table (client_seat (route_of stage.first) asks) rows (Deliver number) ∷ [])) (has_started rows (client_actor asks.client)) c.client first.mail c.plain is_plain
         (first.receiver ∙ ap client_actor (sym c.plain.me_is)) asked_right (more (Deliver number) fine (table c.client (Got first.mail)) got_is got_more) (now (Deliver number) fine (table c.client (Got first.mail)) got_is got_more) (table c.client (Got first.mail))
-    takes = client_row (frames_of scenario) round asks (IsBegun scenario rows) (IsBegun scenario (rows ++ row_of player_table (client_seat (route_of stage.first) asks) rows (Deliver number) ∷ [])) (has_gone rows (client_actor asks.client)) c.client first.mail c.plain is_plain
+    takes = client_row (frames_of scenario) round asks (IsBegun scenario rows) (IsBegun scenario (rows ++ row_of player_table (client_seat (route_of stage.first) asks) rows (Deliver number) ∷ [])) (has_started rows (client_actor asks.client)) c.client first.mail c.plain is_plain
         (first.receiver ∙ ap client_actor (sym c.plain.me_is)) asked_right (more (Deliver number) fine (table c.client (Got first.mail)) got_is got_more) (now (Deliver number) fine (table c.client (Got first.mail)) got_is got_more)
 
     marks_taken : (name : Draw) → IsTaken Other (marks_at words scenario rows name (client_actor asks.client)) (drop 1 (marks_at words scenario rows name (client_actor asks.client)))
@@ -176,7 +176,7 @@ module _ (words : ℕ → ℕ → ℕ × ℕ) (scenario : Scenario) (stage : IsS
         mark_none name = client_mark (IsBegun scenario rows) is_plain.frame name (stage.are is_plain.frame is_plain.is_frame) first.mail.from first.mail.to first.mail.body (ap is_node first.receiver ∙ no_node) is_plain.says
 
     others_sent : (name : Draw) (who : ℕ) → Each IsOther (marks_for name who (table c.client (Got first.mail)).1)
-    others_sent name who = elim (takes.does) [
+    others_sent name who = elim (takes.response) [
       | inl ignored ↦ subst (λ (p : ClientStep). Each IsOther (marks_for name who p.1)) (sym ignored.after_is) tt
       | inr (inl asked) ↦ asked_others name who (table c.client (Got first.mail)) asked
       | inr (inr ended) ↦ ended_others name who (table c.client (Got first.mail)) ended
@@ -184,7 +184,7 @@ module _ (words : ℕ → ℕ → ℕ × ℕ) (scenario : Scenario) (stage : IsS
 
     client_turn : J (rows ++ row_of player_table (client_seat (route_of stage.first) asks) rows (Deliver number) ∷ [])
     client_turn =
-        client_after (Deliver number) fine (table c.client (Got first.mail)) got_is got_more (has_gone rows (client_actor asks.client))
+        client_after (Deliver number) fine (table c.client (Got first.mail)) got_is got_more (has_started rows (client_actor asks.client))
         (started_still words scenario stage rows (row_of player_table (cseat asks) rows (Deliver number)) (client_actor asks.client) refl) takes.row marks_taken others_sent
         (λ mail sent. (
         let same : first.mail ≡ mail = (let e : Some first.mail ≡ Some mail = sym first.sent ∙ sent in cc) in
@@ -193,7 +193,7 @@ module _ (words : ℕ → ℕ → ℕ × ℕ) (scenario : Scenario) (stage : IsS
 
   -- ---- a client starts
 
-  module _ (fine : has_gone rows (client_actor asks.client) ≡ false) where
+  module _ (fine : has_started rows (client_actor asks.client) ≡ false) where
     pub go_is : acted player_table (value player_table (client_seat (route_of stage.first) asks) rows) (input_of {O = OrderLine} (mails rows) Go) ≡ (Client (table c.client GoInput).0, (table c.client GoInput).1)
     go_is = ap (λ p. acted player_table p (Some GoInput)) c.is
 
@@ -210,15 +210,15 @@ module _ (words : ℕ → ℕ → ℕ × ℕ) (scenario : Scenario) (stage : IsS
     pub goes : Goes (frames_of scenario) round asks (IsBegun scenario (rows ++ row_of player_table (client_seat (route_of stage.first) asks) rows Go ∷ [])) c.client (table c.client GoInput)
     goes = go_row (frames_of scenario) round asks (IsBegun scenario (rows ++ row_of player_table (client_seat (route_of stage.first) asks) rows Go ∷ [])) c.client fresh (now Go fine (table c.client GoInput) go_is go_more)
 
-    gone_now : has_gone (rows ++ row_of player_table (client_seat (route_of stage.first) asks) rows Go ∷ []) (client_actor asks.client) ≡ true
+    gone_now : has_started (rows ++ row_of player_table (client_seat (route_of stage.first) asks) rows Go ∷ []) (client_actor asks.client) ≡ true
     gone_now =
         list_any-append (λ (r : Row Mail OrderLine). eqb r.who (client_actor asks.client) && is_go r.event) rows (row_of player_table (cseat asks) rows Go ∷ [])
-        ∙ (ap (λ b. has_gone rows (client_actor asks.client) || ((b && true) || false)) (eq-eqb (client_actor asks.client) (client_actor asks.client) refl) ∙ or_right (has_gone rows (client_actor asks.client)) true refl)
+        ∙ (ap (λ b. has_started rows (client_actor asks.client) || ((b && true) || false)) (eq-eqb (client_actor asks.client) (client_actor asks.client) refl) ∙ or_right (has_started rows (client_actor asks.client)) true refl)
 
     client_go : J (rows ++ row_of player_table (client_seat (route_of stage.first) asks) rows Go ∷ [])
     client_go =
         client_after Go fine (table c.client GoInput) go_is go_more true gone_now goes.row (λ name. inr (refl, sym (at_zero (marks_at words scenario rows name (client_actor asks.client)))))
-        (λ name who. elim (goes.does) [ inl asked ↦ asked_others name who (table c.client GoInput) asked | inr ended ↦ ended_others name who (table c.client GoInput) ended ])
+        (λ name who. elim (goes.response) [ inl asked ↦ asked_others name who (table c.client GoInput) asked | inr ended ↦ ended_others name who (table c.client GoInput) ended ])
         (subst (λ p. owed_by (owing_of scenario) (player_table p GoInput) ≤ player_owes (length (frames_of scenario)) p) (sym c.is) goes.owed)
       where
         at_zero : (xs : List Mark) → drop 0 xs ≡ xs

@@ -10,7 +10,7 @@ use Rattle.sc_node_table.specs.Values.{Draw, Op, Get, Reply, Got, Link, AnswerBo
 use Rattle.sc_base.proofs.Lemmas.{draw_is, same_name}
 use Rattle.sc_actor.specs.declared.rows.Input.TheVariants.{Go}
 use Rattle.sc_ideal.specs.Definitions.{holds_key}
-use Rattle.sc_lookup.specs.Definitions.{KnownGroups, chosen, target_in, told_not_mine}
+use Rattle.sc_lookup.specs.Definitions.{KnownGroups, chosen, target_in, learnt_from_not_mine}
 use Rattle.sc_client_table.specs.Definitions.{Client, request_at, waiting_request, ClientStep, asked_of, sent_where, chosen_for, request_sent, started, waits_for, was_asked, answer_taken, got, table}
 use Rattle.sc_scenario.specs.declared.scenarios.Asks.{Asks}
 use Rattle.sc_live_plain.specs.Definitions.{Frame, body_owes, mail_owes, waiting_ones, begun_ones, client_owes, way_of, IsWaiting, IsResting, IsPlainClient, Requests, IsPlainBody, IsPlainMail}
@@ -70,10 +70,10 @@ module _ (frames : List Frame) (round : IsRound frames) (asks : Asks) where
 
   is_sent : (seq reached : ℕ) (op : Op) (client : Client) → IsReady seq reached op client → IsSent seq op client (request_sent client)
   is_sent seq reached op client k =
-      let front : KnownGroups = take reached (map way_of frames) in
+      let prefix : KnownGroups = take reached (map way_of frames) in
       let count : length (take reached (map way_of frames)) ≡ reached = ap length (take-map way_of reached frames) ∙ count_prefix reached k.low in
       let some = k.some in
-      let one = one_chosen (pos_of (key_of op)) front (omega (arith, some, count)) in
+      let one = one_chosen (pos_of (key_of op)) prefix (omega (arith, some, count)) in
       let c = chosen_frame frames round reached k.low (pos_of (key_of op)) one.0 (ap (chosen (pos_of (key_of op))) (sym (take-map way_of reached frames)) ∙ one.1) in
       let chosen_ : chosen (pos_of (key_of op)) client.known ≡ Some c.frame.core.id = ap (chosen (pos_of (key_of op))) k.known_are ∙ one.1 ∙ ap Some (sym c.name) in
       let target_ : target_in c.frame.core.id client.known ≡ Some c.frame.lead = ap (target_in c.frame.core.id) (k.known_are ∙ take-map way_of reached frames) ∙ target_leads frames round reached k.low c.frame c.is_frame in
@@ -207,7 +207,7 @@ module _ (frames : List Frame) (round : IsRound frames) (asks : Asks) where
     pub record TakesMail (after : ClientStep) : Type 0 where
       pub row : ClientRow begun' gone after
       pub owed : 1 + (client_owes groups after.0 + sum_by mail_owes after.1) ≤ client_owes groups client + mail_owes mail
-      pub does : DidIgnore client mail after ⊎ (DidAsk after ⊎ DidEnd after)
+      pub response : DidIgnore client mail after ⊎ (DidAsk after ⊎ DidEnd after)
 
     some_owed : (body : MailBody) → 1 ≤ body_owes body
     some_owed (Answer group seq (Value reply)) = omega arith
@@ -224,7 +224,7 @@ module _ (frames : List Frame) (round : IsRound frames) (asks : Asks) where
         record {
           row = record { plain = k; said = tt };
           owed = omega (arith, some);
-          does = inl (record { after_is = refl; no_reply = no_reply; not_sent = not_sent });
+          response = inl (record { after_is = refl; no_reply = no_reply; not_sent = not_sent });
         }
 
     -- what a body says
@@ -273,7 +273,7 @@ module _ (frames : List Frame) (round : IsRound frames) (asks : Asks) where
           record {
             row = subst (λ b. ClientRow begun' b (started (w.seq + 1) after)) (sym is_gone) r.0;
             owed = omega (arith, owes, push, few, one, mail_one, before, most);
-            does = inr r.1;
+            response = inr r.1;
           }
 
       -- it says that a later request is noted: that is not so of the last one, and nothing is done
@@ -292,7 +292,7 @@ module _ (frames : List Frame) (round : IsRound frames) (asks : Asks) where
 
       -- an answer of that node sends it on: it asks the next group
       sent_on : (group : Draw) (arc : Arc) (succ : Link) → mail.body ≡ Answer group w.seq (NotMine arc succ) → was_asked client.asked mail.from group ≡ true
-          → TakesMail (request_sent (record client { known = told_not_mine group arc succ client.known }))
+          → TakesMail (request_sent (record client { known = learnt_from_not_mine group arc succ client.known }))
       sent_on group arc succ e t =
           let says = says_of (Answer group w.seq (NotMine arc succ)) e in
           let reply = says.1 in
@@ -303,13 +303,13 @@ module _ (frames : List Frame) (round : IsRound frames) (asks : Asks) where
           let parts_ = and_parts (eqb w.target mail.from) (same_draw w.group group) (ap (λ (o : Option (Draw × ℕ)). was_asked o mail.from group) (sym w.asked) ∙ t) in
           let name : m.frame.core.id ≡ w.group = sym says.0 ∙ sym (draw_is w.group group parts_.1) in
           let g = known_grows frames round k.reached k.low (pos_of (key_of w.op)) m.frame w.group m.is_frame name (ap (chosen (pos_of (key_of w.op))) (sym k.known_are) ∙ w.chosen_is) lacks in
-          let known_ : told_not_mine group arc succ client.known ≡ take (k.reached + 1) (map way_of frames) =
-          ap (told_not_mine group arc succ) k.known_are
-          ∙ ap (λ d. told_not_mine d arc succ (take k.reached (map way_of frames))) says.0
-          ∙ ap (λ (x : Arc). told_not_mine m.frame.core.id x succ (take k.reached (map way_of frames))) reply.says.1
-          ∙ ap (λ (x : Link). told_not_mine m.frame.core.id m.frame.core.arc x (take k.reached (map way_of frames))) reply.says.2
+          let known_ : learnt_from_not_mine group arc succ client.known ≡ take (k.reached + 1) (map way_of frames) =
+          ap (learnt_from_not_mine group arc succ) k.known_are
+          ∙ ap (λ d. learnt_from_not_mine d arc succ (take k.reached (map way_of frames))) says.0
+          ∙ ap (λ (x : Arc). learnt_from_not_mine m.frame.core.id x succ (take k.reached (map way_of frames))) reply.says.1
+          ∙ ap (λ (x : Link). learnt_from_not_mine m.frame.core.id m.frame.core.arc x (take k.reached (map way_of frames))) reply.says.2
           ∙ g.known_is in
-          let after : Client = record client { known = told_not_mine group arc succ client.known } in
+          let after : Client = record client { known = learnt_from_not_mine group arc succ client.known } in
           let ready : IsReady w.seq (k.reached + 1) w.op after =
           record { me_is = k.me_is; requests_are = k.requests_are; some = omega arith; low = g.more; known_are = known_; waits = w.waits; number = w.number; op_is = w.op_is } in
           let b : begun' client.me w.seq w.op = weaker client.me w.seq w.op (subst (λ x. begun client.me w.seq x) op_ mine) in
@@ -326,7 +326,7 @@ module _ (frames : List Frame) (round : IsRound frames) (asks : Asks) where
           record {
             row = r.0;
             owed = omega (arith, owes, now_known, was_known, few, more, one, mail_owed, before, then_);
-            does = inr (inl r.1);
+            response = inr (inl r.1);
           }
 
       waited : (group : Draw) (answer : AnswerBody) → mail.body ≡ Answer group w.seq answer → TakesMail (answer_taken mail.from group w.seq answer client)
@@ -334,7 +334,7 @@ module _ (frames : List Frame) (round : IsRound frames) (asks : Asks) where
       waited group (Stale last) e =
           cond_both (was_asked client.asked mail.from group) (client, []) (client, []) TakesMail (λ _. stale group last e) (λ _. stale group last e)
       waited group (NotMine arc succ) e =
-          cond_both (was_asked client.asked mail.from group) (request_sent (record client { known = told_not_mine group arc succ client.known })) (client, []) TakesMail
+          cond_both (was_asked client.asked mail.from group) (request_sent (record client { known = learnt_from_not_mine group arc succ client.known })) (client, []) TakesMail
           (λ t. sent_on group arc succ e t) (λ f. sent_elsewhere group arc succ e f)
       waited group (NotLeader hint) e = absurd ((says_of (Answer group w.seq (NotLeader hint)) e).1.says)
       waited group (Gone into) e = absurd ((says_of (Answer group w.seq (Gone into)) e).1.says)
@@ -365,7 +365,7 @@ module _ (frames : List Frame) (round : IsRound frames) (asks : Asks) where
   pub record Goes (begun : Requests) (client : Client) (after : ClientStep) : Type 0 where
     pub row : ClientRow begun true after
     pub owed : client_owes groups after.0 + sum_by mail_owes after.1 ≤ client_owes groups client
-    pub does : DidAsk after ⊎ DidEnd after
+    pub response : DidAsk after ⊎ DidEnd after
 
   -- a client that has not started has asked nothing
   pub unasked : (client : Client) → IsResting false client ⊎ ((false ≡ true) × IsWaiting client) → (client.waiting ≡ None) × (client.replies ≡ [])
@@ -381,4 +381,4 @@ module _ (frames : List Frame) (round : IsRound frames) (asks : Asks) where
       let r = started_row begun' client 1 k.reached k.me_is k.requests_are k.some k.low k.known_are (omega (arith, short)) (omega (arith, short)) now in
       let owes = started_owes begun' client 1 k.reached k.me_is k.requests_are k.some k.low k.known_are (omega (arith, short)) (omega (arith, short)) now in
       let waits = ap waiting_ones none.0 in
-      record { row = r.0; owed = omega (arith, owes, waits); does = r.1 }
+      record { row = r.0; owed = omega (arith, owes, waits); response = r.1 }

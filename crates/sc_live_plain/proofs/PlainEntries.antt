@@ -5,7 +5,7 @@ use Rattle.sc_base.specs.Definitions.{Among, is_member, least_of}
 use Rattle.sc_node_table.specs.Values.{Op, Command, Call, Core, Lock, Free, Effect, Route, AnswerBody, Mail, Learn}
 use Rattle.sc_machine_table.specs.Definitions.{applied}
 use Rattle.sc_node_table.specs.declared.Before.{Before}
-use Rattle.sc_node_table.specs.Definitions.{stopped, entered, answer_of, told_call, told_effect, announced, learnt_to, welcomed, slot_lost, landed, left_gone, left, is_among, looked_for, looked, executed_one, welcomed_all, answer_to, sent_others, ReplicaState, Place, name_of, next, members, flying, forgotten, waits_in, rest_of, numbers_from, slots_ahead, before_of, spoken, spoken_mails, told_begun, went_on}
+use Rattle.sc_node_table.specs.Definitions.{stopped, entered, answer_of, answered_or_put_back, effect_reported, announced, learnt_to, welcomed, slot_lost, landed, left_gone, left, is_among, looked_for, looked, executed_one, welcomed_all, answer_to, sent_others, ReplicaState, Place, name_of, next, members, flying, forgotten, waits_in, rest_of, numbers_from, slots_ahead, before_of, spoken, spoken_mails, begun_reported, went_on}
 use Rattle.sc_law_walks.proofs.Lemmas.{floor_under, entered_next, cleared}
 use Rattle.sc_paxos_law.proofs.Lemmas.{among-member}
 use Rattle.sc_live_plain.specs.Definitions.{Frame, IsFrame, Requests, IsPlainGroup, IsPlainReplica}
@@ -58,15 +58,15 @@ module _ (begun : Requests) (frame : Frame) (is : IsFrame frame) where
 
 announced_call : (client seq : ℕ) (op : Op) (effect : Effect) (answer : AnswerBody) (r : ReplicaState) (mails : List Mail) → answer_of effect ≡ Some answer
     → announced true effect (Call client seq op) (r, mails) ≡ (r, answer_to r.me (name_of r) client seq answer mails)
-unfolding announced told_call told_effect
-announced_call client seq op effect answer r mails e = ap (λ (o : Option AnswerBody). told_call o (Call client seq op) (r, mails)) e
+unfolding announced answered_or_put_back effect_reported
+announced_call client seq op effect answer r mails e = ap (λ (o : Option AnswerBody). answered_or_put_back o (Call client seq op) (r, mails)) e
 
 announced_learnt : (client seq : ℕ) (op : Op) (effect : Effect) (place : Place) → announced false effect (Call client seq op) place ≡ place
-unfolding announced told_effect
+unfolding announced effect_reported
 announced_learnt client seq op effect place = refl
 
 spoken_call : (counted : Bool) (before : Before) (client seq : ℕ) (op : Op) (effect : Effect) (r : ReplicaState) (mails : List Mail) → spoken counted before effect (Call client seq op) (r, mails) ≡ (r, mails)
-unfolding spoken spoken_mails told_begun went_on
+unfolding spoken spoken_mails begun_reported went_on
 spoken_call true before client seq op effect r mails = refl
 spoken_call false before client seq op effect r mails = refl
 

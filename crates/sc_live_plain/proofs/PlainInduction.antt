@@ -2,7 +2,7 @@
 use Rattle.std.proofs.Common.{◌≡◌, ℕ, ◌+◌, ◌≤◌, length}
 use Rattle.sc_base.specs.Definitions.{Among, Each, client_actor}
 use Rattle.sc_node_table.specs.Values.{Mail, Node, Client}
-use Rattle.sc_actor.specs.Definitions.{mails, value, has_gone}
+use Rattle.sc_actor.specs.Definitions.{mails, value, has_started}
 use Rattle.sc_node_table.specs.Definitions.{NodeState}
 use Rattle.sc_client_table.specs.Definitions.{Client as ClientState}
 use Rattle.sc_scenario.specs.declared.scenarios.Asks.{Asks}
@@ -29,7 +29,7 @@ module _ (words : ℕ → ℕ → ℕ × ℕ) (scenario : Scenario) (stage : IsS
   pub record IsClientAt (rows : Journal) (asks : Asks) : Type 0 where
     pub client : ClientState
     pub is : value player_table (client_seat (route_of stage.first) asks) rows ≡ Client client
-    pub plain : IsPlainClient (frames_of scenario) asks (has_gone rows (client_actor asks.client)) client
+    pub plain : IsPlainClient (frames_of scenario) asks (has_started rows (client_actor asks.client)) client
 
   -- all players, all mail and all groups after some rows, and what is owed still
   pub record IsPlainJournal (rows : Journal) : Type 0 where

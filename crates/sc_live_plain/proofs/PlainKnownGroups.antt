@@ -10,7 +10,7 @@ use Rattle.sc_node_table.specs.Values.{Draw}
 use Rattle.sc_base.proofs.Lemmas.{draw_is, same_name}
 use Rattle.sc_paxos_words.proofs.Lemmas.{Each-among}
 use Rattle.sc_lookup.specs.declared.ways.Way.{Way}
-use Rattle.sc_lookup.specs.Definitions.{far, target_of, KnownGroups, way_to, nearer, better, chosen, target_in, changed, starting, group_learnt, told_not_mine}
+use Rattle.sc_lookup.specs.Definitions.{far, target_of, KnownGroups, way_to, nearer, better, chosen, target_in, changed, starting, group_learnt, learnt_from_not_mine}
 use Rattle.sc_paxos_law.proofs.Lemmas.{from_map}
 use Rattle.sc_live_plain.specs.Definitions.{Frame, AreNamedApart, way_of}
 use Rattle.sc_live_plain.proofs.Lists.{map_among}
@@ -99,135 +99,135 @@ pub map_push : {X Y : Type 0} (f : X → Y) (xs : List X) (x : X) → map f (xs 
 map_push f [] x = refl
 map_push f (y ∷ xs) x = ap (λ l. f y ∷ l) (map_push f xs x)
 
-pub take_front : {X : Type 0} (front : List X) (x : X) (back : List X) → take (length front + 1) (front ++ x ∷ back) ≡ front ++ x ∷ []
-take_front [] x back = refl
-take_front {X} (y ∷ front) x back =
-    let n : length (y ∷ front) + 1 ≡ suc (length front + 1) = omega arith in
-    ap (λ m. take m ((y ∷ front) ++ x ∷ back)) n ∙ ap (λ (l : List X). y ∷ l) (take_front front x back)
+pub take_prefix : {X : Type 0} (prefix : List X) (x : X) (back : List X) → take (length prefix + 1) (prefix ++ x ∷ back) ≡ prefix ++ x ∷ []
+take_prefix [] x back = refl
+take_prefix {X} (y ∷ prefix) x back =
+    let n : length (y ∷ prefix) + 1 ≡ suc (length prefix + 1) = omega arith in
+    ap (λ m. take m ((y ∷ prefix) ++ x ∷ back)) n ∙ ap (λ (l : List X). y ∷ l) (take_prefix prefix x back)
 
 -- ---- what is known of a group
 
 -- nothing is known of one that is none of these
-none_known : (name : Draw) (front : List Frame) → Each (λ (other : Frame). other.core.id ≡ name → ⊥) front → way_to name (map way_of front) ≡ None
+none_known : (name : Draw) (prefix : List Frame) → Each (λ (other : Frame). other.core.id ≡ name → ⊥) prefix → way_to name (map way_of prefix) ≡ None
 none_known name [] e = refl
-none_known name (x ∷ front) e =
-    cond-false (same_draw name x.core.id) (Some (way_of x).1) (way_to name (map way_of front)) (elim (cases_Bool (same_draw name x.core.id)) [ inl t ↦ absurd (e.0 (sym (draw_is name x.core.id t))) | inr f ↦ f ])
-    ∙ none_known name front e.1
+none_known name (x ∷ prefix) e =
+    cond-false (same_draw name x.core.id) (Some (way_of x).1) (way_to name (map way_of prefix)) (elim (cases_Bool (same_draw name x.core.id)) [ inl t ↦ absurd (e.0 (sym (draw_is name x.core.id t))) | inr f ↦ f ])
+    ∙ none_known name prefix e.1
 
 -- of one of them its way
-pub way_known : (front : List Frame) (frame : Frame) → ((other : Frame) → Among other front → other.core.id ≡ frame.core.id → other ≡ frame) → Among frame front → way_to frame.core.id (map way_of front) ≡ Some (way_of frame).1
+pub way_known : (prefix : List Frame) (frame : Frame) → ((other : Frame) → Among other prefix → other.core.id ≡ frame.core.id → other ≡ frame) → Among frame prefix → way_to frame.core.id (map way_of prefix) ≡ Some (way_of frame).1
 way_known [] frame apart a = absurd a
-way_known (x ∷ front) frame apart a =
+way_known (x ∷ prefix) frame apart a =
     elim (cases_Bool (same_draw frame.core.id x.core.id)) [
-      | inl t ↦ cond-true (same_draw frame.core.id x.core.id) (Some (way_of x).1) (way_to frame.core.id (map way_of front)) t
+      | inl t ↦ cond-true (same_draw frame.core.id x.core.id) (Some (way_of x).1) (way_to frame.core.id (map way_of prefix)) t
           ∙ ap (λ (y : Frame). Some (way_of y).1) (apart x (inl refl) (sym (draw_is frame.core.id x.core.id t)))
-      | inr f ↦ cond-false (same_draw frame.core.id x.core.id) (Some (way_of x).1) (way_to frame.core.id (map way_of front)) f
-          ∙ way_known front frame (λ o b e. apart o (inr b) e) (elim a [ inl same ↦ absurd (both_ways (same_draw frame.core.id x.core.id) f (same_name frame.core.id x.core.id (ap (λ (y : Frame). y.core.id) (sym same)))) | inr b ↦ b ])
+      | inr f ↦ cond-false (same_draw frame.core.id x.core.id) (Some (way_of x).1) (way_to frame.core.id (map way_of prefix)) f
+          ∙ way_known prefix frame (λ o b e. apart o (inr b) e) (elim a [ inl same ↦ absurd (both_ways (same_draw frame.core.id x.core.id) f (same_name frame.core.id x.core.id (ap (λ (y : Frame). y.core.id) (sym same)))) | inr b ↦ b ])
     ]
 
 module _ (frames : List Frame) (round : IsRound frames) (reached : ℕ) (low : reached ≤ length frames) where
-  abbrev front : List Frame
-  front = take reached frames
+  abbrev prefix : List Frame
+  prefix = take reached frames
 
   abbrev back : List Frame
   back = drop reached frames
 
-  parts : frames ≡ front ++ back
+  parts : frames ≡ prefix ++ back
   parts = sym (take-append-drop reached frames)
 
-  known_prefix : take reached (map way_of frames) ≡ map way_of front
+  known_prefix : take reached (map way_of frames) ≡ map way_of prefix
   known_prefix = take-map way_of reached frames
 
-  pub prefix_frames : (frame : Frame) → Among frame front → Among frame frames
-  prefix_frames frame a = subst (Among frame) (sym parts) (among_first front back frame a)
+  pub prefix_frames : (frame : Frame) → Among frame prefix → Among frame frames
+  prefix_frames frame a = subst (Among frame) (sym parts) (among_first prefix back frame a)
 
   -- the group of a name that is chosen
   pub record IsChosenFrame (p : ℕ) (group : Draw) : Type 0 where
     pub frame : Frame
-    pub is_frame : Among frame front
+    pub is_frame : Among frame prefix
     pub name : frame.core.id ≡ group
-    pub each : (other : Frame) → Among other front → far p (way_of frame).1 ≤ far p (way_of other).1
+    pub each : (other : Frame) → Among other prefix → far p (way_of frame).1 ≤ far p (way_of other).1
 
-  pub chosen_frame : (p : ℕ) (group : Draw) → chosen p (map way_of front) ≡ Some group → IsChosenFrame p group
+  pub chosen_frame : (p : ℕ) (group : Draw) → chosen p (map way_of prefix) ≡ Some group → IsChosenFrame p group
   chosen_frame p group e =
-      let c = chosen_is p (map way_of front) group e in
-      let f = from_map way_of front c.entry c.stands in
+      let c = chosen_is p (map way_of prefix) group e in
+      let f = from_map way_of prefix c.entry c.stands in
       record {
         frame = f.0;
         is_frame = f.1;
         name = ap (λ (x : Draw × Way). x.0) f.2 ∙ c.name;
-        each = λ other a. (let le = Each-among (λ (x : Draw × Way). far p c.entry.1 ≤ far p x.1) (map way_of front) (way_of other) c.each (map_among way_of front other a) in
+        each = λ other a. (let le = Each-among (λ (x : Draw × Way). far p c.entry.1 ≤ far p x.1) (map way_of prefix) (way_of other) c.each (map_among way_of prefix other a) in
             let same = ap (λ (x : Draw × Way). far p x.1) f.2 in omega (arith, le, same));
       }
 
-  pub way_in : (frame : Frame) → Among frame front → way_to frame.core.id (map way_of front) ≡ Some (way_of frame).1
-  way_in frame a = way_known front frame (λ o b e. round.apart o frame (prefix_frames o b) (prefix_frames frame a) e) a
+  pub way_in : (frame : Frame) → Among frame prefix → way_to frame.core.id (map way_of prefix) ≡ Some (way_of frame).1
+  way_in frame a = way_known prefix frame (λ o b e. round.apart o frame (prefix_frames o b) (prefix_frames frame a) e) a
 
   -- the node that is asked leads
-  pub target_leads : (frame : Frame) → Among frame front → target_in frame.core.id (map way_of front) ≡ Some frame.lead
+  pub target_leads : (frame : Frame) → Among frame prefix → target_in frame.core.id (map way_of prefix) ≡ Some frame.lead
   target_leads frame a = ap (λ (o : Option Way). option_map target_of o) (way_in frame a) ∙ ap Some (sym (round.leads frame (prefix_frames frame a)))
 
   -- ---- the one behind the chosen one
 
   -- the group that the answer names is learnt
-  learnt : (frame other : Frame) (rest : List Frame) → Among frame front → back ≡ other ∷ rest → IsBefore frame other
-      → told_not_mine frame.core.id frame.core.arc frame.core.succ (map way_of front) ≡ take (reached + 1) (map way_of frames)
+  learnt : (frame other : Frame) (rest : List Frame) → Among frame prefix → back ≡ other ∷ rest → IsBefore frame other
+      → learnt_from_not_mine frame.core.id frame.core.arc frame.core.succ (map way_of prefix) ≡ take (reached + 1) (map way_of frames)
   learnt frame other rest a e k =
-      let whole : frames ≡ front ++ other ∷ rest = parts ∙ ap (λ (l : List Frame). front ++ l) e in
-      let new = none_known other.core.id front (round.distinct front rest other whole) in
-      let same : starting frame.core.id frame.core.arc.lo (map way_of front) ≡ map way_of front =
-      ap (λ (o : Option Way). changed (λ way. record way { lo = frame.core.arc.lo }) frame.core.id (map way_of front) o) (way_in frame a)
-      ∙ set_value_same (same_draw frame.core.id) (map way_of front) (way_of frame).1 (way_in frame a) in
-      let count : length front ≡ reached = length-take-le reached frames low in
+      let whole : frames ≡ prefix ++ other ∷ rest = parts ∙ ap (λ (l : List Frame). prefix ++ l) e in
+      let new = none_known other.core.id prefix (round.distinct prefix rest other whole) in
+      let same : starting frame.core.id frame.core.arc.lo (map way_of prefix) ≡ map way_of prefix =
+      ap (λ (o : Option Way). changed (λ way. record way { lo = frame.core.arc.lo }) frame.core.id (map way_of prefix) o) (way_in frame a)
+      ∙ set_value_same (same_draw frame.core.id) (map way_of prefix) (way_of frame).1 (way_in frame a) in
+      let count : length prefix ≡ reached = length-take-le reached frames low in
       ap (λ known. group_learnt frame.core.succ.group (end_of frame.core.arc) frame.core.succ.members known) same
-      ∙ ap (λ name. group_learnt name (end_of frame.core.arc) frame.core.succ.members (map way_of front)) k.name
-      ∙ ap (λ lo. group_learnt other.core.id lo frame.core.succ.members (map way_of front)) k.ends
-      ∙ ap (λ members. group_learnt other.core.id other.core.arc.lo members (map way_of front)) k.members
-      ∙ cond-false (is_some (way_to other.core.id (map way_of front))) (starting other.core.id other.core.arc.lo (map way_of front)) (map way_of front ++ way_of other ∷ []) (ap is_some new)
-      ∙ sym (map_push way_of front other)
-      ∙ ap (map way_of) (sym (ap (λ (l : List Frame). take (reached + 1) l) whole ∙ ap (λ n. take (n + 1) (front ++ other ∷ rest)) (sym count) ∙ take_front front other rest))
+      ∙ ap (λ name. group_learnt name (end_of frame.core.arc) frame.core.succ.members (map way_of prefix)) k.name
+      ∙ ap (λ lo. group_learnt other.core.id lo frame.core.succ.members (map way_of prefix)) k.ends
+      ∙ ap (λ members. group_learnt other.core.id other.core.arc.lo members (map way_of prefix)) k.members
+      ∙ cond-false (is_some (way_to other.core.id (map way_of prefix))) (starting other.core.id other.core.arc.lo (map way_of prefix)) (map way_of prefix ++ way_of other ∷ []) (ap is_some new)
+      ∙ sym (map_push way_of prefix other)
+      ∙ ap (map way_of) (sym (ap (λ (l : List Frame). take (reached + 1) l) whole ∙ ap (λ n. take (n + 1) (prefix ++ other ∷ rest)) (sym count) ∙ take_prefix prefix other rest))
       ∙ sym (take-map way_of (reached + 1) frames)
 
   -- the next group is not known, and will be
   pub record Grows (frame : Frame) : Type 0 where
     pub more : reached + 1 ≤ length frames
-    pub known_is : told_not_mine frame.core.id frame.core.arc frame.core.succ (take reached (map way_of frames)) ≡ take (reached + 1) (map way_of frames)
+    pub known_is : learnt_from_not_mine frame.core.id frame.core.arc frame.core.succ (take reached (map way_of frames)) ≡ take (reached + 1) (map way_of frames)
 
-  grown : (frame other : Frame) (rest : List Frame) → Among frame front → back ≡ other ∷ rest → IsBefore frame other → Grows frame
+  grown : (frame other : Frame) (rest : List Frame) → Among frame prefix → back ≡ other ∷ rest → IsBefore frame other → Grows frame
   grown frame other rest a e k =
-      let sum = length-append front back in
+      let sum = length-append prefix back in
       let whole = ap length parts in
-      let count : length front ≡ reached = length-take-le reached frames low in
+      let count : length prefix ≡ reached = length-take-le reached frames low in
       let tail = ap length e in
       record {
         more = omega (arith, sum, whole, count, tail);
-        known_is = ap (λ known. told_not_mine frame.core.id frame.core.arc frame.core.succ known) known_prefix ∙ learnt frame other rest a e k;
+        known_is = ap (λ known. learnt_from_not_mine frame.core.id frame.core.arc frame.core.succ known) known_prefix ∙ learnt frame other rest a e k;
       }
 
-  wrapped : (p : ℕ) (frame : Frame) → Among frame front → ((other : Frame) → Among other front → far p (way_of frame).1 ≤ far p (way_of other).1) → holds frame.core.arc p ≡ false → (a : List Frame) → frames ≡ a ++ frame ∷ [] → (all : List Frame) → frames ≡ all → front ≡ frames → Grows frame
+  wrapped : (p : ℕ) (frame : Frame) → Among frame prefix → ((other : Frame) → Among other prefix → far p (way_of frame).1 ≤ far p (way_of other).1) → holds frame.core.arc p ≡ false → (a : List Frame) → frames ≡ a ++ frame ∷ [] → (all : List Frame) → frames ≡ all → prefix ≡ frames → Grows frame
   wrapped p frame a near lacks l whole [] e same = absurd (subst (Among frame) (same ∙ e) a)
   wrapped p frame a near lacks l whole (first ∷ rest) e same =
       let k = round.last l rest frame first whole e in
-      let among : Among first front = subst (Among first) (sym (same ∙ e)) (inl refl) in
+      let among : Among first prefix = subst (Among first) (sym (same ∙ e)) (inl refl) in
       let le = near first among in
       let lt = k.nearer p lacks in
       absurd (omega (arith, le, lt))
 
-  behind : (p : ℕ) (frame : Frame) → Among frame front → ((other : Frame) → Among other front → far p (way_of frame).1 ≤ far p (way_of other).1) → holds frame.core.arc p ≡ false → (a b rest : List Frame) → back ≡ rest → front ≡ a ++ frame ∷ b → frames ≡ a ++ frame ∷ (b ++ rest) → Grows frame
+  behind : (p : ℕ) (frame : Frame) → Among frame prefix → ((other : Frame) → Among other prefix → far p (way_of frame).1 ≤ far p (way_of other).1) → holds frame.core.arc p ≡ false → (a b rest : List Frame) → back ≡ rest → prefix ≡ a ++ frame ∷ b → frames ≡ a ++ frame ∷ (b ++ rest) → Grows frame
   behind p frame a near lacks l (other ∷ b) rest r split whole =
       let k = round.next l (b ++ rest) frame other whole in
-      let among : Among other front = subst (Among other) (sym split) (among_last l (frame ∷ other ∷ b) other (inr (inl refl))) in
+      let among : Among other prefix = subst (Among other) (sym split) (among_last l (frame ∷ other ∷ b) other (inr (inl refl))) in
       let le = near other among in
       let lt = k.nearer p lacks in
       absurd (omega (arith, le, lt))
   behind p frame a near lacks l [] (other ∷ rest) r split whole = grown frame other rest a r (round.next l rest frame other whole)
-  behind p frame a near lacks l [] [] r split whole = wrapped p frame a near lacks l whole frames refl (subst (λ (fs : List Frame). front ≡ fs) (split ∙ sym whole) refl)
+  behind p frame a near lacks l [] [] r split whole = wrapped p frame a near lacks l whole frames refl (subst (λ (fs : List Frame). prefix ≡ fs) (split ∙ sym whole) refl)
 
   pub known_grows : (p : ℕ) (frame : Frame) (group : Draw) → Among frame frames → frame.core.id ≡ group → chosen p (take reached (map way_of frames)) ≡ Some group → holds frame.core.arc p ≡ false → Grows frame
   known_grows p frame group a name e lacks =
       let c = chosen_frame p group (ap (chosen p) (sym known_prefix) ∙ e) in
       let same : c.frame ≡ frame = round.apart c.frame frame (prefix_frames c.frame c.is_frame) a (c.name ∙ sym name) in
-      let in_prefix : Among frame front = subst (λ (f : Frame). Among f front) same c.is_frame in
-      let split = parts_of front frame in_prefix in
+      let in_prefix : Among frame prefix = subst (λ (f : Frame). Among f prefix) same c.is_frame in
+      let split = parts_of prefix frame in_prefix in
       let whole : frames ≡ split.0 ++ frame ∷ (split.1 ++ back) = parts ∙ ap (λ (l : List Frame). l ++ back) split.2 ∙ append_assoc split.0 (frame ∷ split.1) back in
       behind p frame in_prefix (λ other b. (let le = c.each other b in let is = ap (λ (f : Frame). far p (way_of f).1) same in omega (arith, le, is))) lacks split.0 split.1 back refl split.2 whole

@@ -5,7 +5,7 @@ use Rattle.std.proofs.lemmas.Bool.{cases_eq, both_ways, eq-eqb}
 use Rattle.sc_base.specs.Definitions.{Among, Each, client_actor}
 use Rattle.sc_node_table.specs.Values.{Op, OrderLine, Mail, Seat, Event, Deliver, Go, Got, Node}
 use Rattle.sc_actor.specs.declared.rows.Input.TheVariants.{Go as GoInput}
-use Rattle.sc_actor.specs.Definitions.{mails, value, acted, input_of, System, row_of, has_gone, waiting, kth}
+use Rattle.sc_actor.specs.Definitions.{mails, value, acted, input_of, System, row_of, has_started, waiting, kth}
 use Rattle.sc_actor.proofs.Lemmas.{value-snoc}
 use Rattle.sc_paxos_words.proofs.Lemmas.{Each-weaker}
 use Rattle.sc_node_table.specs.Definitions.{is_node, node_table, last_slot}
@@ -133,7 +133,7 @@ module _ (words : ℕ → ℕ → ℕ × ℕ) (scenario : Scenario) (stage : IsS
     pub node_go_paid : IsPaid (system_of as_nodes words scenario) stage.seats_apart (owing_of scenario) rows (node_seat as_nodes scenario.groups scenario.policy me) Go
     node_go_paid = subst (λ p. owed_by (owing_of scenario) (player_table p GoInput) ≤ player_owes (length (frames_of scenario)) p) (sym n.is) (omega arith)
 
-    node_go : has_gone rows me ≡ false → J (rows ++ row_of player_table (nseat me) rows Go ∷ [])
+    node_go : has_started rows me ≡ false → J (rows ++ row_of player_table (nseat me) rows Go ∷ [])
     node_go fine =
         let r = row_of player_table (nseat me) rows Go in
         let orderly : IsOrderly sys rows r = record { seat = nseat me; born = born; event = Go; row_is = refl; in_order = fine } in

@@ -7,7 +7,7 @@ use Rattle.std.proofs.lemmas.List.Folds.{list_any-append}
 use Rattle.std.proofs.lemmas.List.Sums.{sum_by-cons}
 use Rattle.sc_base.specs.Definitions.{Among, Each, client_actor, most_nodes, same_draw, is_member}
 use Rattle.sc_node_table.specs.Values.{Base, OrderLine, Mail, Seat, Row, Node}
-use Rattle.sc_actor.specs.Definitions.{mails, numbered, value, acted, input_of, System, has_gone, is_go}
+use Rattle.sc_actor.specs.Definitions.{mails, numbered, value, acted, input_of, System, has_started, is_go}
 use Rattle.sc_actor.proofs.Lemmas.{value-snoc, mails-snoc}
 use Rattle.sc_paxos_words.proofs.Lemmas.{Each-append, Each-weaker, find_found}
 use Rattle.sc_node_table.specs.Definitions.{replica_of, is_node, ReplicaState, name_of, next, last_slot, numbers_from, slots_ahead}
@@ -80,16 +80,16 @@ module _ (words : ℕ → ℕ → ℕ × ℕ) (scenario : Scenario) (stage : IsS
         value-snoc player_table seat rows row
         ∙ ap (λ b. cond b (acted player_table (value player_table seat rows) (input_of (mails rows) row.event)).0 (value player_table seat rows)) (ne_eqb row.who seat.who (λ e. ne (sym e)))
 
-    pub gone_others : (who : ℕ) → (who ≡ row.who → ⊥) → has_gone (rows ++ row ∷ []) who ≡ has_gone rows who
+    pub gone_others : (who : ℕ) → (who ≡ row.who → ⊥) → has_started (rows ++ row ∷ []) who ≡ has_started rows who
     gone_others who ne =
         list_any-append (λ (r : Row Mail OrderLine). eqb r.who who && is_go r.event) rows (row ∷ [])
-        ∙ (ap (λ b. has_gone rows who || ((b && is_go row.event) || false)) (ne_eqb row.who who (λ e. ne (sym e))) ∙ or-false (has_gone rows who))
+        ∙ (ap (λ b. has_started rows who || ((b && is_go row.event) || false)) (ne_eqb row.who who (λ e. ne (sym e))) ∙ or-false (has_started rows who))
 
     -- a row that is no Go leaves who has gone
-    pub started_still : (who : ℕ) → is_go row.event ≡ false → has_gone (rows ++ row ∷ []) who ≡ has_gone rows who
+    pub started_still : (who : ℕ) → is_go row.event ≡ false → has_started (rows ++ row ∷ []) who ≡ has_started rows who
     started_still who none =
         list_any-append (λ (r : Row Mail OrderLine). eqb r.who who && is_go r.event) rows (row ∷ [])
-        ∙ (ap (λ b. has_gone rows who || (b || false)) (and_right (eqb row.who who) (is_go row.event) none) ∙ or-false (has_gone rows who))
+        ∙ (ap (λ b. has_started rows who || (b || false)) (and_right (eqb row.who who) (is_go row.event) none) ∙ or-false (has_started rows who))
 
     -- where no client has fewer begun, whatever was begun is begun
     pub begun_more : ((asks : Asks) → Among asks scenario.clients → begun_of (value player_table (cseat asks) rows) ≤ begun_of (value player_table (cseat asks) (rows ++ row ∷ []))) → IsMore (IsBegun scenario rows) (IsBegun scenario (rows ++ row ∷ []))

@@ -8,7 +8,7 @@ use Rattle.sc_base.specs.Definitions.{Among, Each, votes_of}
 use Rattle.sc_node_table.specs.Values.{Ballot, Draw, Op, Command, Call, Core, Lock, Free, Route, AnswerBody, Mail, MailBody, Accept, Must, Flight}
 use Rattle.sc_ideal.specs.Definitions.{key_of, holds_key}
 use Rattle.sc_paxos_words.proofs.Lemmas.{Each-push, Each-weaker}
-use Rattle.sc_node_table.specs.Definitions.{sent_all, answered, Found, is_act, serves_calls, waits, refused_by, turned_down, next_call, from_calls, from_acts, from_queues, found_by, found_for, offered, pumped_from, pumped, ReplicaState, Place, name_of, next, first_set, settled, may_offer, taken_at, under_way, open_slots, is_idle, last_slot, numbers_from, slots_ahead}
+use Rattle.sc_node_table.specs.Definitions.{sent_all, answered, Found, is_act, admits_requests, waits, refused_by, turned_down, next_queued, from_backlog, from_acts, from_queues, found_by, found_for, offered, pumped_from, pumped, ReplicaState, Place, name_of, next, first_set, settled, may_offer, taken_at, under_way, open_slots, is_idle, last_slot, numbers_from, slots_ahead}
 use Rattle.sc_paxos_law.proofs.Lemmas.{among-member}
 use Rattle.sc_live_plain.specs.Definitions.{Frame, IsFrame, mail_owes, replica_owes, Requests, IsPlainCommand, IsPlainCall, takers, IsPlainFlight, IsPlainLeader, IsPlainReplica}
 use Rattle.sc_live_plain.proofs.SlotCounts.{one_if, one_yes, one_no, count-push}
@@ -18,24 +18,24 @@ use Rattle.sc_live_steps.proofs.FollowingProofs.LeastMembers.{none_decided}
 
 -- ---- what is found in the queue
 
-found_turn : (o : Option AnswerBody) (me : ℕ) (idle : Bool) (core : Core) (command : Command) (calls : List Command) (mails : List Mail) → o ≡ None
-    → ◌≡◌ {A = Option Command × List Command × List Mail} (elim o [ None ↦ (Some command, calls, mails) | Some answer ↦ next_call me idle core calls (answered me core.id answer command mails) ]) (Some command, calls, mails)
-found_turn None me idle core command calls mails e = refl
-found_turn (Some answer) me idle core command calls mails e = cc
+found_turn : (o : Option AnswerBody) (me : ℕ) (idle : Bool) (core : Core) (command : Command) (backlog : List Command) (mails : List Mail) → o ≡ None
+    → ◌≡◌ {A = Option Command × List Command × List Mail} (elim o [ None ↦ (Some command, backlog, mails) | Some answer ↦ next_queued me idle core backlog (answered me core.id answer command mails) ]) (Some command, backlog, mails)
+found_turn None me idle core command backlog mails e = refl
+found_turn (Some answer) me idle core command backlog mails e = cc
 
 served_key : (into : Option Route) (core : Core) (op : Op) → into ≡ None → holds_key core.arc (key_of op) ≡ true → refused_by into core op ≡ None
 served_key None core op e h = cond-true (holds_key core.arc (key_of op)) None _ h
 served_key (Some into) core op e h = cc
 
-call_found : (me : ℕ) (idle : Bool) (core : Core) (client seq : ℕ) (op : Op) (calls : List Command) (mails : List Mail) → core.lock ≡ Free → core.gone ≡ None → holds_key core.arc (key_of op) ≡ true
-    → next_call me idle core (Call client seq op ∷ calls) mails ≡ (Some (Call client seq op), calls, mails)
-unfolding next_call
-call_found me idle core client seq op calls mails f g h =
-    cond-false (waits idle core.lock (Call client seq op)) _ _ (ap (λ (lock : Lock). not (serves_calls lock)) f)
-    ∙ found_turn (turned_down core (Call client seq op)) me idle core (Call client seq op) calls mails (served_key core.gone core op g h)
+call_found : (me : ℕ) (idle : Bool) (core : Core) (client seq : ℕ) (op : Op) (backlog : List Command) (mails : List Mail) → core.lock ≡ Free → core.gone ≡ None → holds_key core.arc (key_of op) ≡ true
+    → next_queued me idle core (Call client seq op ∷ backlog) mails ≡ (Some (Call client seq op), backlog, mails)
+unfolding next_queued
+call_found me idle core client seq op backlog mails f g h =
+    cond-false (waits idle core.lock (Call client seq op)) _ _ (ap (λ (lock : Lock). not (admits_requests lock)) f)
+    ∙ found_turn (turned_down core (Call client seq op)) me idle core (Call client seq op) backlog mails (served_key core.gone core op g h)
 
-none_found : (me : ℕ) (idle : Bool) (core : Core) (mails : List Mail) → next_call me idle core [] mails ≡ (None, [], mails)
-unfolding next_call
+none_found : (me : ℕ) (idle : Bool) (core : Core) (mails : List Mail) → next_queued me idle core [] mails ≡ (None, [], mails)
+unfolding next_queued
 none_found me idle core mails = refl
 
 -- what is found goes on
@@ -59,36 +59,36 @@ module _ (begun : Requests) (frame : Frame) (is : IsFrame frame) (first free : �
   L taken place = Leads begun frame first free held bound wanted taken place
 
   module _ (slot taken : ℕ) (r : ReplicaState) (mails : List Mail) (k : L taken (r, mails)) (low : next r ≤ slot) where
-    calls_for : from_queues (r, mails) ≡ from_calls (r, mails)
+    calls_for : from_queues (r, mails) ≡ from_backlog (r, mails)
     unfolding from_queues
     calls_for =
         cond-false (list_any is_act (under_way r)) (None, (r, mails)) (from_acts r.acts (r, mails)) (no_acts begun frame taken r k.leader (open_slots r))
         ∙ ap (λ acts. from_acts acts (r, mails)) k.plain.acts
 
-    found_calls : found_for slot (r, mails) ≡ from_calls (r, mails)
+    found_calls : found_for slot (r, mails) ≡ from_backlog (r, mails)
     unfolding found_for
     found_calls = ap (λ (what : Must Command). found_by what (r, mails)) (k.leader.open_ slot low) ∙ calls_for
 
-    find_call : (client seq : ℕ) (op : Op) (rest : List Command) → r.calls ≡ Call client seq op ∷ rest → IsPlainCall begun frame client seq op
-        → found_for slot (r, mails) ≡ (Some (Call client seq op), (record r { calls = rest }, mails))
-    unfolding from_calls
+    find_call : (client seq : ℕ) (op : Op) (rest : List Command) → r.backlog ≡ Call client seq op ∷ rest → IsPlainCall begun frame client seq op
+        → found_for slot (r, mails) ≡ (Some (Call client seq op), (record r { backlog = rest }, mails))
+    unfolding from_backlog
     find_call client seq op rest e c =
         found_calls
-        ∙ ap (λ (found : Option Command × List Command × List Mail). (found.0, (record r { calls = found.1 }, found.2)))
-        (ap (λ calls. next_call r.me (is_idle r) r.group.core calls mails) e
+        ∙ ap (λ (found : Option Command × List Command × List Mail). (found.0, (record r { backlog = found.1 }, found.2)))
+        (ap (λ backlog. next_queued r.me (is_idle r) r.group.core backlog mails) e
         ∙ call_found r.me (is_idle r) r.group.core client seq op rest mails (ap (λ (core : Core). core.lock) k.plain.group.core_is ∙ is.free) (ap (λ (core : Core). core.gone) k.plain.group.core_is ∙ is.stands)
         (ap (λ (core : Core). holds_key core.arc (key_of op)) k.plain.group.core_is ∙ c.held))
 
-    find_nothing : r.calls ≡ [] → found_for slot (r, mails) ≡ (None, (record r { calls = [] }, mails))
-    unfolding from_calls
+    find_nothing : r.backlog ≡ [] → found_for slot (r, mails) ≡ (None, (record r { backlog = [] }, mails))
+    unfolding from_backlog
     find_nothing e =
         found_calls
-        ∙ ap (λ (found : Option Command × List Command × List Mail). (found.0, (record r { calls = found.1 }, found.2)))
-        (ap (λ calls. next_call r.me (is_idle r) r.group.core calls mails) e ∙ none_found r.me (is_idle r) r.group.core mails)
+        ∙ ap (λ (found : Option Command × List Command × List Mail). (found.0, (record r { backlog = found.1 }, found.2)))
+        (ap (λ backlog. next_queued r.me (is_idle r) r.group.core backlog mails) e ∙ none_found r.me (is_idle r) r.group.core mails)
 
   -- ---- a call is offered
 
-  module _ (slot taken : ℕ) (r : ReplicaState) (mails : List Mail) (client seq : ℕ) (op : Op) (rest : List Command) (at : slot ≡ next r + taken) (room : taken < slots_ahead) (e : r.calls ≡ Call client seq op ∷ rest) (k : L taken (r, mails)) where
+  module _ (slot taken : ℕ) (r : ReplicaState) (mails : List Mail) (client seq : ℕ) (op : Op) (rest : List Command) (at : slot ≡ next r + taken) (room : taken < slots_ahead) (e : r.backlog ≡ Call client seq op ∷ rest) (k : L taken (r, mails)) where
     command : Command
     command = Call client seq op
 
@@ -96,10 +96,10 @@ module _ (begun : Requests) (frame : Frame) (is : IsFrame frame) (first free : �
     body = Accept (name_of r) r.leader.ballot slot (Call client seq op)
 
     after : Place
-    after = offered slot (frame.at slot) (Call client seq op) (record r { calls = rest }, mails)
+    after = offered slot (frame.at slot) (Call client seq op) (record r { backlog = rest }, mails)
 
     calls_plain : Each (IsPlainCommand begun frame) (Call client seq op ∷ rest)
-    calls_plain = subst (Each (IsPlainCommand begun frame)) e k.leader.calls
+    calls_plain = subst (Each (IsPlainCommand begun frame)) e k.leader.backlog
 
     name_is : name_of r ≡ frame.core.id
     name_is = ap (λ (core : Core). core.id) k.plain.group.core_is
@@ -135,7 +135,7 @@ module _ (begun : Requests) (frame : Frame) (is : IsFrame frame) (first free : �
       ballot_is = l.ballot_is;
       may = l.may;
       open_ = l.open_;
-      calls = calls_plain.1;
+      backlog = calls_plain.1;
       flights = Each-push (IsPlainFlight begun frame) r.leader.flights (record { slot = slot; value = Call client seq op; voters = None }) l.flights
           (record { is_call = calls_plain.0; voters_are = omega arith; undecided = none_decided (frame.at slot) });
       ready = l.ready;
@@ -187,7 +187,7 @@ module _ (begun : Requests) (frame : Frame) (is : IsFrame frame) (first free : �
     offered_calls : (c n : ℕ) → wanted c n → IsHeld after.0 c n ⊎ IsReportedOf frame after.1 c n
     unfolding after offered
     offered_calls c n w =
-        elim (k.calls c n w) [
+        elim (k.backlog c n w) [
           | inr told ↦ inr (record {
             number = told.number;
             answer = told.answer;
@@ -229,7 +229,7 @@ module _ (begun : Requests) (frame : Frame) (is : IsFrame frame) (first free : �
           learns = λ who m ne. all_learns r.me (Accept (name_of r) r.leader.ballot slot (Call client seq op)) frame.core.id who (frame.at slot) mails refl ∙ k.learns who m ne;
           offers = offered_offers;
           owed = offered_owed;
-          calls = offered_calls;
+          backlog = offered_calls;
         }
 
   -- ---- the open slots, one after another
@@ -238,42 +238,42 @@ module _ (begun : Requests) (frame : Frame) (is : IsFrame frame) (first free : �
   pub record IsPumped (before after : Place) : Type 0 where
     pub taken : ℕ
     pub leads : L taken after
-    pub offered_all : (after.0.calls ≡ []) ⊎ (taken ≡ slots_ahead)
+    pub offered_all : (after.0.backlog ≡ []) ⊎ (taken ≡ slots_ahead)
     pub same_next : next after.0 ≡ next before.0
     pub same_ready : after.0.ready ≡ before.0.ready
 
   -- an empty queue is what is left of it
-  emptied : (taken : ℕ) (r : ReplicaState) (mails : List Mail) → r.calls ≡ [] → L taken (r, mails) → L taken (record r { calls = [] }, mails)
-  emptied taken r mails e k = subst (λ calls. L taken (record r { calls = calls }, mails)) e k
+  emptied : (taken : ℕ) (r : ReplicaState) (mails : List Mail) → r.backlog ≡ [] → L taken (r, mails) → L taken (record r { backlog = [] }, mails)
+  emptied taken r mails e k = subst (λ backlog. L taken (record r { backlog = backlog }, mails)) e k
 
   -- what is under way here is a call
   pub call_is : (command : Command) → IsPlainCommand begun frame command → (client : ℕ) × (seq : ℕ) × (op : Op) × (command ≡ Call client seq op)
   call_is (Call client seq op) p = (client, seq, op, refl)
   call_is _ p = absurd p
 
-  turned : (slot taken : ℕ) (sets : List (List ℕ)) (r : ReplicaState) (mails : List Mail) (client seq : ℕ) (op : Op) (rest : List Command) → slot ≡ next r + taken → taken < slots_ahead → r.calls ≡ Call client seq op ∷ rest → L taken (r, mails)
+  turned : (slot taken : ℕ) (sets : List (List ℕ)) (r : ReplicaState) (mails : List Mail) (client seq : ℕ) (op : Op) (rest : List Command) → slot ≡ next r + taken → taken < slots_ahead → r.backlog ≡ Call client seq op ∷ rest → L taken (r, mails)
       → ((place : Place) → next place.0 ≡ next r → L (taken + 1) place → IsPumped place (pumped_from (slot + 1) sets place))
-      → IsPumped (r, mails) (pumped_from (slot + 1) sets (offered slot (frame.at slot) (Call client seq op) (record r { calls = rest }, mails)))
+      → IsPumped (r, mails) (pumped_from (slot + 1) sets (offered slot (frame.at slot) (Call client seq op) (record r { backlog = rest }, mails)))
   unfolding after offered
   turned slot taken sets r mails client seq op rest at room e k more =
       let q = more (after slot taken r mails client seq op rest at room e k) refl (offered_leads slot taken r mails client seq op rest at room e k) in
       record { taken = q.taken; leads = q.leads; offered_all = q.offered_all; same_next = q.same_next; same_ready = q.same_ready }
 
   -- the slot behind those that are taken: the next queued request is offered there, if there is one
-  turn : (slot taken : ℕ) (sets : List (List ℕ)) (r : ReplicaState) (mails : List Mail) (calls : List Command) → r.calls ≡ calls → slot ≡ next r + taken → taken < slots_ahead → L taken (r, mails)
+  turn : (slot taken : ℕ) (sets : List (List ℕ)) (r : ReplicaState) (mails : List Mail) (backlog : List Command) → r.backlog ≡ backlog → slot ≡ next r + taken → taken < slots_ahead → L taken (r, mails)
       → ((place : Place) → next place.0 ≡ next r → L (taken + 1) place → IsPumped place (pumped_from (slot + 1) sets place))
       → IsPumped (r, mails) (elim ((found_for slot (r, mails)).0) [ None ↦ (found_for slot (r, mails)).1 | Some c ↦ pumped_from (slot + 1) sets (offered slot (frame.at slot) c (found_for slot (r, mails)).1) ])
   turn slot taken sets r mails [] e at room k more =
       let low : next r ≤ slot = omega (arith, at) in
-      by_nothing (IsPumped (r, mails)) slot (frame.at slot) sets (found_for slot (r, mails)) (record r { calls = [] }, mails) (find_nothing slot taken r mails k low e)
+      by_nothing (IsPumped (r, mails)) slot (frame.at slot) sets (found_for slot (r, mails)) (record r { backlog = [] }, mails) (find_nothing slot taken r mails k low e)
       (record { taken = taken; leads = emptied taken r mails e k; offered_all = inl refl; same_next = refl; same_ready = refl })
   turn slot taken sets r mails (command ∷ rest) e at room k more =
       let low : next r ≤ slot = omega (arith, at) in
-      let plain : Each (IsPlainCommand begun frame) (command ∷ rest) = subst (Each (IsPlainCommand begun frame)) e k.leader.calls in
+      let plain : Each (IsPlainCommand begun frame) (command ∷ rest) = subst (Each (IsPlainCommand begun frame)) e k.leader.backlog in
       let c = call_is command plain.0 in
       let is_call : IsPlainCall begun frame c.0 c.1 c.2 = subst (IsPlainCommand begun frame) c.3 plain.0 in
-      let here : r.calls ≡ Call c.0 c.1 c.2 ∷ rest = e ∙ ap (λ (x : Command). x ∷ rest) c.3 in
-      by_found (IsPumped (r, mails)) slot (frame.at slot) sets (found_for slot (r, mails)) (Call c.0 c.1 c.2) (record r { calls = rest }, mails) (find_call slot taken r mails k low c.0 c.1 c.2 rest here is_call)
+      let here : r.backlog ≡ Call c.0 c.1 c.2 ∷ rest = e ∙ ap (λ (x : Command). x ∷ rest) c.3 in
+      by_found (IsPumped (r, mails)) slot (frame.at slot) sets (found_for slot (r, mails)) (Call c.0 c.1 c.2) (record r { backlog = rest }, mails) (find_call slot taken r mails k low c.0 c.1 c.2 rest here is_call)
       (turned slot taken sets r mails c.0 c.1 c.2 rest at room here k more)
 
   pump_all : (count slot taken : ℕ) (place : Place) → slot + count ≡ next place.0 + slots_ahead → next place.0 ≤ slot → slot ≤ next place.0 + taken → L taken place → IsPumped place (pumped_from slot (map frame.at (numbers_from slot count)) place)
@@ -296,7 +296,7 @@ module _ (begun : Requests) (frame : Frame) (is : IsFrame frame) (first free : �
             let within = one_yes (in_range (next r) taken slot) (range_yes (next r) taken slot low under) in
             absurd (both_ways (is_some (taken_at r slot)) f (takes r slot (omega (arith, one, within)))))
         | inr over ↦ cond_both (may_offer r (frame.at slot)) _ _ (IsPumped (r, mails))
-            (λ _. turn slot taken (map frame.at (numbers_from (slot + 1) count)) r mails r.calls refl (omega (arith, over, high)) (omega (arith, end, high, over)) k
+            (λ _. turn slot taken (map frame.at (numbers_from (slot + 1) count)) r mails r.backlog refl (omega (arith, over, high)) (omega (arith, end, high, over)) k
             (λ place same l. (let n = same in pump_all count (slot + 1) (taken + 1) place (omega (arith, end, n)) (omega (arith, low, n)) (omega (arith, high, n)) l)))
             (λ no. absurd (both_ways (may_offer r (frame.at slot)) no (k.leader.may slot)))
       ])

@@ -122,7 +122,7 @@ module _ (begun : Requests) (at : Replicas) (group : Draw) (quiet : StandsQuiet 
     ballot_is = refl;
     may = may;
     open_ = quiet.leads.unbound;
-    calls = subst (Each (IsPlainCommand begun (frame_at_rest quiet.lead))) (sym rests.calls) tt;
+    backlog = subst (Each (IsPlainCommand begun (frame_at_rest quiet.lead))) (sym rests.backlog) tt;
     flights = subst (Each (IsPlainFlight begun (frame_at_rest quiet.lead))) (sym rests.flights) tt;
     ready = subst (Each (λ (entry : ℕ × Command). IsPlainCommand begun (frame_at_rest quiet.lead) entry.1)) (sym rests.ready) tt;
     slots = none_taken quiet.lead rests;
@@ -132,7 +132,7 @@ module _ (begun : Requests) (at : Replicas) (group : Draw) (quiet : StandsQuiet 
   leading = record {
     taken = 0;
     leader = leader;
-    done = record { executed = ap (λ (entries : List (ℕ × Command)). count_by (λ (entry : ℕ × Command). eqb entry.0 (next quiet.lead)) entries) rests.ready; offered = inl rests.calls };
+    done = record { executed = ap (λ (entries : List (ℕ × Command)). count_by (λ (entry : ℕ × Command). eqb entry.0 (next quiet.lead)) entries) rests.ready; offered = inl rests.backlog };
   }
 
   -- ---- the replicas
@@ -145,7 +145,7 @@ module _ (begun : Requests) (at : Replicas) (group : Draw) (quiet : StandsQuiet 
   ]
 
   follows : (node : ℕ) (r : ReplicaState) → at group node ≡ Some r → (node ≡ quiet.lead.me → ⊥) → IsPlainFollower r
-  follows node r there ne = (let rest = (all node r there).1 in record { stopped = stopped node r there ne; calls = rest.calls; flights = rest.flights; ready = rest.ready })
+  follows node r there ne = (let rest = (all node r there).1 in record { stopped = stopped node r there ne; backlog = rest.backlog; flights = rest.flights; ready = rest.ready })
 
   sets_at : (r : ReplicaState) → IsUpToDate quiet.lead r → r.sets ≡ map (frame_at_rest quiet.lead).at (numbers_from (next r) slots_ahead)
   sets_at r u = u.sets_are ∙ (four_are (next quiet.lead) quiet.lead.sets (members quiet.lead) kept.many ∙ ap (λ n. map (frame_at_rest quiet.lead).at (numbers_from n slots_ahead)) (sym u.next_is))

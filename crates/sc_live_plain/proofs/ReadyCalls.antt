@@ -99,7 +99,7 @@ module _ (begun : Requests) (frame : Frame) (is : IsFrame frame) (first free : �
     unfolding entered forgotten
     ready_after = refl
 
-    calls_after : after.calls ≡ r.calls
+    calls_after : after.backlog ≡ r.backlog
     unfolding entered forgotten
     calls_after = refl
 
@@ -149,7 +149,7 @@ module _ (begun : Requests) (frame : Frame) (is : IsFrame frame) (first free : �
           ballot_is = l.ballot_is;
           may = l.may;
           open_ = λ slot low. l.open_ slot (omega (arith, up, low));
-          calls = l.calls;
+          backlog = l.backlog;
           flights = out_each (λ (f : Flight Command). f.slot) (λ s fs. without_flight s fs) (λ s. refl) (λ s f fs. refl) (IsPlainFlight begun frame) (next r) r.leader.flights l.flights;
           ready = out_each (λ (entry : ℕ × Command). entry.0) (λ s es. without_slot es s) (λ s. refl) (λ s x es. refl) (λ (entry : ℕ × Command). IsPlainCommand begun frame entry.1) (next r) r.ready l.ready;
           slots = record { most = omega (arith, most); once = once_after };
@@ -250,7 +250,7 @@ module _ (begun : Requests) (frame : Frame) (is : IsFrame frame) (first free : �
 
     calls_kept : (c s : ℕ) → wanted c s → IsHeld after c s ⊎ IsReportedOf frame said_mails c s
     calls_kept c s w =
-        elim (k.calls c s w) [
+        elim (k.backlog c s w) [
           | inl h ↦ held_after c s h
           | inr told ↦ inr (record { number = told.number; answer = told.answer; later = told.later; owes = told.owes; told = kept_mail _ told.told })
         ]
@@ -274,7 +274,7 @@ module _ (begun : Requests) (frame : Frame) (is : IsFrame frame) (first free : �
           learns = learns_after;
           offers = λ s who least high a. absurd (omega (arith, up, end, least, high));
           owed = owed_after;
-          calls = calls_kept;
+          backlog = calls_kept;
         }
 
     pub one_leads : L taken (executed_one true (Call client seq op) (r, mails))

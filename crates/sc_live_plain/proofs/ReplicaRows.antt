@@ -92,7 +92,7 @@ module _ (begun : Requests) (frame : Frame) (is : IsFrame frame) where
     pub name_is : name_of place.0 ≡ frame.core.id
     pub said : Each (λ mail. IsPlainBody begun frame mail.from mail.to mail.body) place.1
     pub owed : 1 + (replica_owes place.0 + sum_by mail_owes place.1) ≤ replica_owes r + body_owes body
-    pub does : Does me r from body place
+    pub response : Does me r from body place
 
   abbrev Row : ℕ → ReplicaState → ℕ → MailBody → Type 0
   Row me r from body = ReplicaRow me r from body (mailed from body (r, [])).0 × ((mailed from body (r, [])).1 ≡ [])
@@ -118,7 +118,7 @@ module _ (begun : Requests) (frame : Frame) (is : IsFrame frame) where
                   name_is = ap (λ (core : Core). core.id) run.leads.plain.group.core_is;
                   said = said_plain _ _ _ _ _ run.leads.said;
                   owed = omega (arith, owed);
-                  does = (refl, inr (record { taken = k.taken; plain = p; leader = k.leader; done = k.done; run = run }));
+                  response = (refl, inr (record { taken = k.taken; plain = p; leader = k.leader; done = k.done; run = run }));
                 },
                 refl,
               ))
@@ -130,7 +130,7 @@ module _ (begun : Requests) (frame : Frame) (is : IsFrame frame) where
                   name_is = ap (λ (core : Core). core.id) p.group.core_is;
                   said = ((refl, record { client = client; op = op; from_is = refl; to_is = refl; is_begun = b; says = (f, refl, refl) }), tt);
                   owed = omega arith;
-                  does = (refl, inl (record { lacks = f; place_is = refl }));
+                  response = (refl, inl (record { lacks = f; place_is = refl }));
                 }),
                 refl,
               ))
@@ -149,7 +149,7 @@ module _ (begun : Requests) (frame : Frame) (is : IsFrame frame) where
             name_is = ap (λ (core : Core). core.id) run.leads.plain.group.core_is;
             said = said_plain _ _ _ _ _ run.leads.said;
             owed = omega (arith, owed);
-            does = (refl, record { taken = k.taken; plain = p; leader = k.leader; done = k.done; room = open_room k.taken k.leader; counted = counted });
+            response = (refl, record { taken = k.taken; plain = p; leader = k.leader; done = k.done; room = open_room k.taken k.leader; counted = counted });
           },
           accepted_none begun frame is k.taken r p k.leader k.done (open_room k.taken k.leader) from slot m,
         )
@@ -184,7 +184,7 @@ module _ (begun : Requests) (frame : Frame) (is : IsFrame frame) where
             name_is = (accepted_voter frame is me r v slot command).name_is;
             said = ((refl, refl, f, m), tt);
             owed = omega (arith, owes);
-            does = did_accept me slot command;
+            response = did_accept me slot command;
           }),
           refl,
         )
@@ -211,7 +211,7 @@ module _ (begun : Requests) (frame : Frame) (is : IsFrame frame) where
             name_is = ap (λ (core : Core). core.id) (learnt_plain begun frame is me r p f is.leads client seq op c low).group.core_is;
             said = tt;
             owed = omega (arith, owes);
-            does = record { follows = ne; follower = f; sends = refl; next_is = learnt_next begun frame is me r p f is.leads client seq op c low; flights_are = after.flights };
+            response = record { follows = ne; follower = f; sends = refl; next_is = learnt_next begun frame is me r p f is.leads client seq op c low; flights_are = after.flights };
           }),
           learnt_none begun frame is me r p f is.leads client seq op c low from slot at,
         )

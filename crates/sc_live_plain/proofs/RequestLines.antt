@@ -3,7 +3,7 @@ use Rattle.std.proofs.Common.{◌≡◌, ℕ, ◌+◌, ◌≤◌, true, List, []
 use Rattle.std.proofs.lemmas.Bool.{both_ways}
 use Rattle.sc_base.specs.Definitions.{Among, client_actor, is_member}
 use Rattle.sc_node_table.specs.Values.{Base, OrderLine, Mail, Answer, Node, Client, Seat}
-use Rattle.sc_actor.specs.Definitions.{value, System, has_gone}
+use Rattle.sc_actor.specs.Definitions.{value, System, has_started}
 use Rattle.sc_client_table.specs.Definitions.{Client as ClientState}
 use Rattle.sc_node_table.specs.Definitions.{replica_of, ReplicaState, numbers_from, slots_ahead}
 use Rattle.sc_scenario.specs.declared.scenarios.Asks.{Asks}
@@ -48,21 +48,21 @@ module _ (words : ℕ → ℕ → ℕ × ℕ) (scenario : Scenario) (begins : Is
   asked_node rows j asks client a e w =
       let c = j.clients asks a in
       let same : c.client ≡ client = client_is (sym c.is ∙ e) in
-      let home = waiting_home set asks (has_gone rows (client_actor asks.client)) client (subst (λ (x : ClientState). IsCalmClient set asks (has_gone rows (client_actor asks.client)) x) same c.calm) w in
+      let home = waiting_home set asks (has_started rows (client_actor asks.client)) client (subst (λ (x : ClientState). IsCalmClient set asks (has_started rows (client_actor asks.client)) x) same c.calm) w in
       seated.homes w.group w.target home
 
   -- ---- row by row
 
   module _ (before after : Journal) (requests : AreRequests words scenario set before after) where
-    go_through : (front back : Journal) → after ≡ front ++ back → Holds (before ++ front) → Holds (before ++ after)
-    go_through front [] e h = subst (λ (l : Journal). Holds (before ++ l)) (sym (e ∙ append-nil front)) h
-    go_through front (row ∷ back) e h =
-        let r = requests front back row e in
-        let then_ : IsAsking words scenario set begins.first ((before ++ front) ++ row ∷ []) = asking_row words scenario begins set is linked (before ++ front) r.0 h.0 r.1 row r.2 in
-        let sought = sought_row words scenario begins set is linked (before ++ front) r.0 h.0 h.1 r.1 row r.2
-        (λ asks client a v w. (let n = asked_node ((before ++ front) ++ row ∷ []) then_ asks client a v w in node_number words scenario begins w.target n.0 n.1)) in
-        let place : (before ++ front) ++ row ∷ [] ≡ before ++ (front ++ row ∷ []) = append_assoc before front (row ∷ []) in
-        go_through (front ++ row ∷ []) back (e ∙ sym (append_assoc front (row ∷ []) back)) (subst Holds place (then_, sought))
+    go_through : (prefix back : Journal) → after ≡ prefix ++ back → Holds (before ++ prefix) → Holds (before ++ after)
+    go_through prefix [] e h = subst (λ (l : Journal). Holds (before ++ l)) (sym (e ∙ append-nil prefix)) h
+    go_through prefix (row ∷ back) e h =
+        let r = requests prefix back row e in
+        let then_ : IsAsking words scenario set begins.first ((before ++ prefix) ++ row ∷ []) = asking_row words scenario begins set is linked (before ++ prefix) r.0 h.0 r.1 row r.2 in
+        let sought = sought_row words scenario begins set is linked (before ++ prefix) r.0 h.0 h.1 r.1 row r.2
+        (λ asks client a v w. (let n = asked_node ((before ++ prefix) ++ row ∷ []) then_ asks client a v w in node_number words scenario begins w.target n.0 n.1)) in
+        let place : (before ++ prefix) ++ row ∷ [] ≡ before ++ (prefix ++ row ∷ []) = append_assoc before prefix (row ∷ []) in
+        go_through (prefix ++ row ∷ []) back (e ∙ sym (append_assoc prefix (row ∷ []) back)) (subst Holds place (then_, sought))
 
   -- ---- where nothing is left
 
@@ -122,7 +122,7 @@ module _ (words : ℕ → ℕ → ℕ × ℕ) (scenario : Scenario) (begins : Is
         let requests = ap length c.calm.requests_are in
         elim (c.calm.state) [
           | inl rests ↦ elim (rests.replies) [
-            | inl not_gone ↦ absurd (both_ways (has_gone rows (client_actor asks.client)) not_gone.0 gone)
+            | inl not_gone ↦ absurd (both_ways (has_started rows (client_actor asks.client)) not_gone.0 gone)
             | inr all ↦ ap (λ (x : ClientState). length x.replies) (sym same) ∙ (all.1 ∙ requests)
           ]
           | inr waits ↦ absurd (none_waits asks c.client a c.is waits.1)

@@ -7,7 +7,7 @@ use Rattle.std.proofs.lemmas.List.Folds.{list_any-append}
 use Rattle.sc_base.specs.Definitions.{Among, Each, client_actor}
 use Rattle.sc_node_table.specs.Values.{Draw, Op, Base, OrderLine, Mail, Seat, Row, Event, Deliver, Go, Got, Client}
 use Rattle.sc_actor.specs.declared.rows.Input.TheVariants.{Go as GoInput}
-use Rattle.sc_actor.specs.Definitions.{mails, is_delivery, value, acted, input_of, System, row_of, has_gone, is_go, waiting, kth}
+use Rattle.sc_actor.specs.Definitions.{mails, is_delivery, value, acted, input_of, System, row_of, has_started, is_go, waiting, kth}
 use Rattle.sc_node_table.specs.Definitions.{is_node}
 use Rattle.sc_client_table.specs.Definitions.{ClientStep, table}
 use Rattle.sc_scenario.specs.declared.scenarios.Asks.{Asks}
@@ -80,7 +80,7 @@ module _ (words : ℕ → ℕ → ℕ × ℕ) (scenario : Scenario) (begins : Is
       }
 
       -- the journal after it
-      client_after : (gone : Bool) → has_gone (rows ++ row_of player_table (client_seat (route_of begins.first) asks) rows event ∷ []) (client_actor asks.client) ≡ gone
+      client_after : (gone : Bool) → has_started (rows ++ row_of player_table (client_seat (route_of begins.first) asks) rows event ∷ []) (client_actor asks.client) ≡ gone
           → StaysCalm (IsBegun scenario (rows ++ row_of player_table (client_seat (route_of begins.first) asks) rows event ∷ [])) set asks gone after
           → ((name : Draw) → IsTaken Other (marks_at words scenario rows name (client_actor asks.client)) (drop (cond (is_delivery event) 1 0) (marks_at words scenario rows name (client_actor asks.client))))
           → Each (λ mail. (name : Draw) → mark name mail ≡ Other) after.1 → IsAsking words scenario set begins.first (rows ++ row_of player_table (client_seat (route_of begins.first) asks) rows event ∷ [])
@@ -131,9 +131,9 @@ module _ (words : ℕ → ℕ → ℕ × ℕ) (scenario : Scenario) (begins : Is
           ap (λ (ops : List Op). slice_get ops (seq - 1)) (c.calm.requests_are ∙ sym (ap (λ (x : Asks). x.ops) same)) ∙ b.op_is
 
       -- what becomes of the request that waits
-      pub does : Seeks (table c.client (Got first.mail)) ⊎ Ignores c.client first.mail (table c.client (Got first.mail))
-      does =
-          (takes_calm set asks (IsBegun scenario rows) (IsBegun scenario (rows ++ row_of player_table (client_seat (route_of begins.first) asks) rows (Deliver number) ∷ [])) (has_gone rows (client_actor asks.client)) c.client first.mail is linked c.calm is_calm
+      pub response : Seeks (table c.client (Got first.mail)) ⊎ Ignores c.client first.mail (table c.client (Got first.mail))
+      response =
+          (takes_calm set asks (IsBegun scenario rows) (IsBegun scenario (rows ++ row_of player_table (client_seat (route_of begins.first) asks) rows (Deliver number) ∷ [])) (has_started rows (client_actor asks.client)) c.client first.mail is linked c.calm is_calm
           (first.receiver ∙ ap client_actor (sym c.calm.me_is)) asked_right (more (Deliver number) fine (table c.client (Got first.mail)) got_is got_more) (now (Deliver number) fine (table c.client (Got first.mail)) got_is got_more)).1
 
       mark_none : (name : Draw) → IsCalmMail (IsBegun scenario rows) set first.mail → mark name first.mail ≡ Other
@@ -148,13 +148,13 @@ module _ (words : ℕ → ℕ → ℕ × ℕ) (scenario : Scenario) (begins : Is
       client_turn : IsAsking words scenario set begins.first (rows ++ row_of player_table (client_seat (route_of begins.first) asks) rows (Deliver number) ∷ [])
       client_turn =
           let r = row_of player_table (cseat asks) rows (Deliver number) in
-          client_after (Deliver number) fine (table c.client (Got first.mail)) got_is got_more (has_gone rows (client_actor asks.client)) (started_still words scenario begins rows r (client_actor asks.client) refl)
-          (clients_calm.takes scenario rows (rows ++ r ∷ []) set asks (has_gone rows (client_actor asks.client)) c.client first.mail is linked c.calm is_calm (first.receiver ∙ ap client_actor (sym c.calm.me_is)) asked_right
+          client_after (Deliver number) fine (table c.client (Got first.mail)) got_is got_more (has_started rows (client_actor asks.client)) (started_still words scenario begins rows r (client_actor asks.client) refl)
+          (clients_calm.takes scenario rows (rows ++ r ∷ []) set asks (has_started rows (client_actor asks.client)) c.client first.mail is linked c.calm is_calm (first.receiver ∙ ap client_actor (sym c.calm.me_is)) asked_right
           (more (Deliver number) fine (table c.client (Got first.mail)) got_is got_more) (now (Deliver number) fine (table c.client (Got first.mail)) got_is got_more)) marks_taken (takes_only first.mail c.client)
 
     -- ---- a client starts
 
-    module _ (fine : has_gone rows (client_actor asks.client) ≡ false) where
+    module _ (fine : has_started rows (client_actor asks.client) ≡ false) where
       pub go_is : acted player_table (value player_table (client_seat (route_of begins.first) asks) rows) (input_of {O = OrderLine} (mails rows) Go) ≡ (Client (table c.client GoInput).0, (table c.client GoInput).1)
       go_is = ap (λ p. acted player_table p (Some GoInput)) c.is
 
@@ -171,10 +171,10 @@ module _ (words : ℕ → ℕ → ℕ × ℕ) (scenario : Scenario) (begins : Is
       pub seeks : Seeks (table c.client GoInput)
       seeks = (go_calm set asks (IsBegun scenario (rows ++ row_of player_table (client_seat (route_of begins.first) asks) rows Go ∷ [])) c.client fresh (now Go fine (table c.client GoInput) go_is go_more)).1
 
-      gone_now : has_gone (rows ++ row_of player_table (client_seat (route_of begins.first) asks) rows Go ∷ []) (client_actor asks.client) ≡ true
+      gone_now : has_started (rows ++ row_of player_table (client_seat (route_of begins.first) asks) rows Go ∷ []) (client_actor asks.client) ≡ true
       gone_now =
           list_any-append (λ (r : Row Mail OrderLine). eqb r.who (client_actor asks.client) && is_go r.event) rows (row_of player_table (cseat asks) rows Go ∷ [])
-          ∙ (ap (λ b. has_gone rows (client_actor asks.client) || ((b && true) || false)) (eq-eqb (client_actor asks.client) (client_actor asks.client) refl) ∙ or_right (has_gone rows (client_actor asks.client)) true refl)
+          ∙ (ap (λ b. has_started rows (client_actor asks.client) || ((b && true) || false)) (eq-eqb (client_actor asks.client) (client_actor asks.client) refl) ∙ or_right (has_started rows (client_actor asks.client)) true refl)
 
       client_go : IsAsking words scenario set begins.first (rows ++ row_of player_table (client_seat (route_of begins.first) asks) rows Go ∷ [])
       client_go =

@@ -5,7 +5,7 @@ use Rattle.std.proofs.lemmas.Bool.{cases_eq, both_ways, eq-eqb}
 use Rattle.sc_base.specs.Definitions.{Among, Each, client_actor}
 use Rattle.sc_node_table.specs.Values.{Op, OrderLine, Mail, Seat, Event, Deliver, Go, Got, Row, Node}
 use Rattle.sc_actor.specs.declared.rows.Input.TheVariants.{Go as GoInput}
-use Rattle.sc_actor.specs.Definitions.{mails, value, acted, input_of, System, row_of, has_gone, waiting, kth}
+use Rattle.sc_actor.specs.Definitions.{mails, value, acted, input_of, System, row_of, has_started, waiting, kth}
 use Rattle.sc_actor.proofs.Lemmas.{value-snoc}
 use Rattle.sc_paxos_words.proofs.Lemmas.{Each-weaker, Each-append, Each-filter}
 use Rattle.sc_node_table.specs.Definitions.{NodeState, is_node, node_table}
@@ -188,7 +188,7 @@ module _ (words : ℕ → ℕ → ℕ × ℕ) (scenario : Scenario) (stage : IsS
 
     -- ---- a `go` event at a node does nothing
 
-    node_go : has_gone rows me ≡ false → IsAsking words scenario set stage.first (rows ++ row_of player_table (node_seat as_nodes scenario.groups scenario.policy me) rows Go ∷ [])
+    node_go : has_started rows me ≡ false → IsAsking words scenario set stage.first (rows ++ row_of player_table (node_seat as_nodes scenario.groups scenario.policy me) rows Go ∷ [])
     node_go fine =
         let r = row_of player_table (nseat me) rows Go in
         let acted_go : acted player_table (value player_table (nseat me) rows) (input_of {O = OrderLine} (mails rows) Go) ≡ (Node n.node, []) = ap (λ p. acted player_table p (Some GoInput)) n.is in

@@ -12,7 +12,7 @@ use Rattle.sc_scenario.specs.declared.scenarios.Scenario.{Scenario}
 use Rattle.sc_scenario.specs.Definitions.{ValidScenariosAreBounded}
 use Rattle.sc_sound.specs.Definitions.{player_table, node_seat, route_of, system_of, as_nodes}
 use Rattle.sc_live_orderly.specs.Definitions.{rest, is_born}
-use Rattle.sc_actor.specs.Definitions.{value, has_gone}
+use Rattle.sc_actor.specs.Definitions.{value, has_started}
 use Rattle.sc_live_steps.specs.calm.Definitions.{Ways, View as Replicas, StandsQuiet, IsAnswered}
 use Rattle.sc_live_plain.specs.Definitions.{IsAskingNode, IsAskingClient, IsAsking, NobodyWaits, replicas_after, setting_at, AreFramesOf, DoHintsRise, IsQuietJournal, QuietJournalsAsk, frame_at_rest, StandsPlain, Mark, Asks as AsksFor, Votes, Tells, Other, mark, AreInOrder, IsBelow, View, IsBetween, replica_at, next_in, voters_in, votes_in, view_at, marks_at, IsGroupAt, IsOther, CanBeAsked, IsCalmClient, Setting, IsHome, IsSetting, KnowsBetter, IsCalmNode, IsCalmMail, Frame, IsFrame, IsBegun, Requests, IsPlainAt}
 use Rattle.sc_live_plain.proofs.PlainBeginnings.{IsStage, stage}
@@ -166,8 +166,8 @@ module _ (words : ℕ → ℕ → ℕ × ℕ) (scenario : Scenario) (begins : Is
     asking_client : IsAskingClient scenario (setting_at (replicas_after scenario rows) frames ways) begins.first rows asks
     asking_client =
         let p = q.players asks a in
-        let answered = Each-among (λ (c : Bool × ClientState). IsAnswered c.0 (route_of begins.first) c.1) q.clients (has_gone rows (client_actor asks.client), p.0) q.quiet.answered p.4 in
-        record { client = p.0; is = p.1; calm = calm_by (has_gone rows (client_actor asks.client)) p.0 p.2 p.3 answered }
+        let answered = Each-among (λ (c : Bool × ClientState). IsAnswered c.0 (route_of begins.first) c.1) q.clients (has_started rows (client_actor asks.client), p.0) q.quiet.answered p.4 in
+        record { client = p.0; is = p.1; calm = calm_by (has_started rows (client_actor asks.client)) p.0 p.2 p.3 answered }
 
   still : (gone : Bool) (client : ClientState) → IsAnswered gone (route_of begins.first) client → client.waiting ≡ None
   still false client fresh = ap (λ (x : ClientState). x.waiting) fresh
@@ -177,8 +177,8 @@ module _ (words : ℕ → ℕ → ℕ × ℕ) (scenario : Scenario) (begins : Is
   nobody asks client a e =
       let p = q.players asks a in
       let same : p.0 ≡ client = client_is (sym p.1 ∙ e) in
-      let answered = Each-among (λ (c : Bool × ClientState). IsAnswered c.0 (route_of begins.first) c.1) q.clients (has_gone rows (client_actor asks.client), p.0) q.quiet.answered p.4 in
-      ap (λ (x : ClientState). x.waiting) (sym same) ∙ still (has_gone rows (client_actor asks.client)) p.0 answered
+      let answered = Each-among (λ (c : Bool × ClientState). IsAnswered c.0 (route_of begins.first) c.1) q.clients (has_started rows (client_actor asks.client), p.0) q.quiet.answered p.4 in
+      ap (λ (x : ClientState). x.waiting) (sym same) ∙ still (has_started rows (client_actor asks.client)) p.0 answered
 
   -- ---- a group
 

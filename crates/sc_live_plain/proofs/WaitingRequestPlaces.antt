@@ -39,14 +39,14 @@ filter_among who (m ∷ sent) mail to (inr a) =
 
 -- what a leader does with a queued request: the request stays queued, or its client is answered
 pub does_holds : (begun : Requests) (frame : Frame) (is : IsFrame frame) (me : ℕ) (r : ReplicaState) (from : ℕ) (body : MailBody) (place : Place) → me ≡ frame.lead → Does begun frame is me r from body place → (c n : ℕ) → IsHeld r c n → IsHeld place.0 c n ⊎ IsReportedOf frame place.1 c n
-does_holds begun frame is me r from (Request group client seq op) place lead does c n h = elim (does.1) [
+does_holds begun frame is me r from (Request group client seq op) place lead response c n h = elim (response.1) [
   | inl refused ↦ inl (subst (λ (p : Place). IsHeld p.0 c n) (sym refused.place_is) h)
-  | inr queued ↦ queued.run.leads.calls c n (inl h)
+  | inr queued ↦ queued.run.leads.backlog c n (inl h)
 ]
-does_holds begun frame is me r from (Accept group ballot slot command) place lead does c n h = inl (does.held c n h)
-does_holds begun frame is me r from (Accepted group ballot slot) place lead does c n h = does.1.counted.run.leads.calls c n h
-does_holds begun frame is me r from (Learn group slot command) place lead does c n h = absurd (does.follows lead)
-does_holds begun frame is me r from _ place lead does c n h = absurd does
+does_holds begun frame is me r from (Accept group ballot slot command) place lead response c n h = inl (response.held c n h)
+does_holds begun frame is me r from (Accepted group ballot slot) place lead response c n h = response.1.counted.run.leads.backlog c n h
+does_holds begun frame is me r from (Learn group slot command) place lead response c n h = absurd (response.follows lead)
+does_holds begun frame is me r from _ place lead response c n h = absurd response
 
 module _ (words : ℕ → ℕ → ℕ × ℕ) (scenario : Scenario) where
   abbrev left : Journal → ℕ → List Mail

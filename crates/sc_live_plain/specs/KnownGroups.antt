@@ -3,7 +3,7 @@ use Rattle.std.specs.Prelude.{◌≡◌, ℕ, ◌+◌, ◌^◌, ◌<◌, ◌≤�
 use Rattle.sc_base.specs.Definitions.{Among, Each, IsArc, end_of, holds}
 use Rattle.sc_node_table.specs.Values.{Draw}
 use Rattle.sc_lookup.specs.declared.ways.Way.{Way}
-use Rattle.sc_lookup.specs.Definitions.{KnownGroups, way_to, chosen, preferring, told_not_mine}
+use Rattle.sc_lookup.specs.Definitions.{KnownGroups, way_to, chosen, preferring, learnt_from_not_mine}
 use Rattle.sc_live_plain.specs.Frames.{Frame}
 
 -- the group's successor is the other group, whose arc starts where this group's arc ends
@@ -38,7 +38,7 @@ pub record ClientsLearnInTurn : Type 0 where
   -- by NotMine of the group that it chose, the client learns the next group, which it did not know
   pub not_mine : (frames : List Frame) (reached p : ℕ) (frame : Frame) (known : KnownGroups) → AreRoundRing frames → KnowsFirst frames reached known → Among frame frames
       → chosen p known ≡ Some frame.core.id → holds frame.core.arc p ≡ false
-      → (way_to frame.core.succ.group known ≡ None) × KnowsFirst frames (reached + 1) (told_not_mine frame.core.id frame.core.arc frame.core.succ known)
+      → (way_to frame.core.succ.group known ≡ None) × KnowsFirst frames (reached + 1) (learnt_from_not_mine frame.core.id frame.core.arc frame.core.succ known)
   -- by NotLeader the client learns whom to ask, and knows the same groups
   pub not_leader : (frames : List Frame) (reached node : ℕ) (group : Draw) (known : KnownGroups) → KnowsFirst frames reached known → KnowsFirst frames reached (preferring group node known)
   -- by Gone with a group that stands, the client knows the first of the groups from that one on

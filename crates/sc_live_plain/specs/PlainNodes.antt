@@ -38,7 +38,7 @@ pub record IsPlainLeader (begun : Requests) (frame : Frame) (taken : ℕ) (r : R
   pub ballot_is : r.leader.ballot ≡ frame.ballot
   pub may : (slot : ℕ) → may_offer r (frame.at slot) ≡ true
   pub open_ : (slot : ℕ) → next r ≤ slot → must slot r.leader ≡ Open
-  pub calls : Each (IsPlainCommand begun frame) r.calls
+  pub backlog : Each (IsPlainCommand begun frame) r.backlog
   pub flights : Each (IsPlainFlight begun frame) r.leader.flights
   pub ready : Each (λ entry. IsPlainCommand begun frame entry.1) r.ready
   pub slots : AreTaken r taken
@@ -46,7 +46,7 @@ pub record IsPlainLeader (begun : Requests) (frame : Frame) (taken : ℕ) (r : R
 -- a replica that does not lead: it does not run, and has nothing queued, in flight or ready
 pub record IsPlainFollower (r : ReplicaState) : Type 0 where
   pub stopped : r.running ≡ false
-  pub calls : r.calls ≡ []
+  pub backlog : r.backlog ≡ []
   pub flights : r.leader.flights ≡ []
   pub ready : r.ready ≡ []
 
@@ -75,7 +75,7 @@ pub record IsPlainReplica (begun : Requests) (frame : Frame) (me : ℕ) (r : Rep
 -- a leader at the end of a row: no command at its next slot is ready, and no request is queued unless all open slots are taken
 pub record HasOffered (taken : ℕ) (r : ReplicaState) : Type 0 where
   pub executed : count_by (λ entry. entry.0 == next r) r.ready ≡ 0
-  pub offered : (r.calls ≡ []) ⊎ (taken ≡ slots_ahead)
+  pub offered : (r.backlog ≡ []) ⊎ (taken ≡ slots_ahead)
 
 -- the leading replica at the end of a row: it leads with some number of slots taken, and has executed and offered what it could
 pub record IsLeading (begun : Requests) (frame : Frame) (r : ReplicaState) : Type 0 where

@@ -39,7 +39,7 @@ mail_owes mail = body_owes mail.body
 
 -- what a replica owes: 28 for each queued request, which is sent to at most nine nodes; 10 for each command in flight or ready, which is answered once and learnt by at most eight others; and, where the replica runs, the number of slots that it has executed, so that the potential bounds slots too
 abbrev pub replica_owes : ReplicaState → ℕ
-replica_owes r = 28 * length r.calls + 10 * (length r.leader.flights + length r.ready) + (if r.running then next r - 1 else 0)
+replica_owes r = 28 * length r.backlog + 10 * (length r.leader.flights + length r.ready) + (if r.running then next r - 1 else 0)
 
 -- what the replicas of a node owe together
 abbrev pub node_owes : NodeState → ℕ

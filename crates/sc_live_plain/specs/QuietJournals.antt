@@ -2,7 +2,7 @@
 use Rattle.std.specs.Prelude.{◌≡◌, ℕ, ◌+◌, ◌-◌, ◌≤◌, ◌||◌, is_some, if◌then◌else◌, Bool, true, false, List, [], ◌∷◌, Option, Some, None}
 use Rattle.sc_base.specs.Definitions.{Among, Each, client_actor, least_of}
 use Rattle.sc_node_table.specs.Values.{Draw, Base, Route, OrderLine, Mail, Node, Client, Row}
-use Rattle.sc_actor.specs.Definitions.{value, has_gone}
+use Rattle.sc_actor.specs.Definitions.{value, has_started}
 use Rattle.sc_client_table.specs.Definitions.{Client as ClientState}
 use Rattle.sc_node_table.specs.Definitions.{NodeState, ReplicaState}
 use Rattle.sc_scenario.specs.declared.scenarios.Asks.{Asks}
@@ -64,7 +64,7 @@ pub record IsQuietJournal (words : ℕ → ℕ → ℕ × ℕ) (scenario : Scena
   pub noted : (group : Draw) (stands : StandsQuiet (replicas_after scenario rows) group) → IsPlainGroup (IsBegun scenario rows) (frame_at_rest stands.lead) stands.lead.group
   pub nodes : (me : ℕ) → 1 ≤ me → me ≤ scenario.nodes → (node : NodeState) × (value player_table (node_seat as_nodes scenario.groups scenario.policy me) rows ≡ Node node) × (node.me ≡ me)
   pub players : (asks : Asks) → Among asks scenario.clients → (client : ClientState) × (value player_table (client_seat (route_of first) asks) rows ≡ Client client) × (client.me ≡ asks.client) × (client.requests ≡ asks.ops)
-      × Among (has_gone rows (client_actor asks.client), client) clients
+      × Among (has_started rows (client_actor asks.client), client) clients
   pub reached : HasReplica (replicas_after scenario rows) (route_of first).group (least_of (route_of first).members)
   pub none : (who : ℕ) → is_born (system_of as_nodes words scenario) who ≡ true → rest (system_of as_nodes words scenario) rows who ≡ []
   pub desk : (who : ℕ) → is_born (system_of as_nodes words scenario) who ≡ false → Each (λ mail. (name : Draw) → mark name mail ≡ Other) (rest (system_of as_nodes words scenario) rows who)

@@ -2,7 +2,7 @@
 use Rattle.std.specs.Prelude.{◌≡◌, ℕ, ◌≤◌, true, List, [], ◌∷◌, ◌++◌, length, None}
 use Rattle.sc_base.specs.Definitions.{Among, client_actor, is_member}
 use Rattle.sc_node_table.specs.Values.{Draw, Base, OrderLine, Mail, Client, Row}
-use Rattle.sc_actor.specs.Definitions.{value, has_gone}
+use Rattle.sc_actor.specs.Definitions.{value, has_started}
 use Rattle.sc_client_table.specs.Definitions.{Client as ClientState}
 use Rattle.sc_scenario.specs.declared.scenarios.Asks.{Asks}
 use Rattle.sc_scenario.specs.declared.scenarios.Scenario.{Scenario}
@@ -17,8 +17,8 @@ use Rattle.sc_live_plain.specs.Frames.{Frame}
 -- each of the rows `after` comes in order behind those before it, far from the last slot, with no mail repeated and no actor crashed
 abbrev pub AreRequests : (ℕ → ℕ → ℕ × ℕ) → Scenario → Setting → List (Row Mail OrderLine) → List (Row Mail OrderLine) → Type 0
 AreRequests words scenario set before after =
-    (front back : List (Row Mail OrderLine)) (row : Row Mail OrderLine) → after ≡ front ++ row ∷ back
-    → IsTidy (before ++ front) × AreFarFromLast scenario set (before ++ front) × IsOrderly (system_of as_nodes words scenario) (before ++ front) row
+    (prefix back : List (Row Mail OrderLine)) (row : Row Mail OrderLine) → after ≡ prefix ++ row ∷ back
+    → IsTidy (before ++ prefix) × AreFarFromLast scenario set (before ++ prefix) × IsOrderly (system_of as_nodes words scenario) (before ++ prefix) row
 
 -- after these rows no client waits for an answer
 abbrev pub NobodyWaits : Scenario → Base → List (Row Mail OrderLine) → Type 0
@@ -27,7 +27,7 @@ NobodyWaits scenario first rows = (asks : Asks) (client : ClientState) → Among
 -- after these rows each client that has started has a reply to each of its requests
 abbrev pub HaveAllReplies : Scenario → Base → List (Row Mail OrderLine) → Type 0
 HaveAllReplies scenario first rows =
-    (asks : Asks) (client : ClientState) → Among asks scenario.clients → value player_table (client_seat (route_of first) asks) rows ≡ Client client → has_gone rows (client_actor asks.client) ≡ true
+    (asks : Asks) (client : ClientState) → Among asks scenario.clients → value player_table (client_seat (route_of first) asks) rows ≡ Client client → has_started rows (client_actor asks.client) ≡ true
     → length client.replies ≡ length asks.ops
 
 -- all replicas of the setting, and all nodes that decide slots of its groups, are nodes of the scenario

@@ -2,7 +2,7 @@
 use Rattle.std.specs.Prelude.{◌≡◌, ℕ, ◌+◌, ◌≤◌, true, List, [], ◌∷◌, ◌++◌}
 use Rattle.sc_base.specs.Definitions.{Among, Each, client_actor}
 use Rattle.sc_node_table.specs.Values.{Base, OrderLine, Mail, Node, Client, Row}
-use Rattle.sc_actor.specs.Definitions.{value, has_gone}
+use Rattle.sc_actor.specs.Definitions.{value, has_started}
 use Rattle.sc_client_table.specs.Definitions.{Client as ClientState}
 use Rattle.sc_node_table.specs.Definitions.{NodeState, last_slot, slots_ahead}
 use Rattle.sc_scenario.specs.declared.scenarios.Asks.{Asks}
@@ -27,7 +27,7 @@ pub record IsAskingNode (scenario : Scenario) (set : Setting) (rows : List (Row 
 pub record IsAskingClient (scenario : Scenario) (set : Setting) (first : Base) (rows : List (Row Mail OrderLine)) (asks : Asks) : Type 0 where
   pub client : ClientState
   pub is : value player_table (client_seat (route_of first) asks) rows ≡ Client client
-  pub calm : IsCalmClient set asks (has_gone rows (client_actor asks.client)) client
+  pub calm : IsCalmClient set asks (has_started rows (client_actor asks.client)) client
 
 -- what holds after each row while clients ask alone: of each node, of each client, of all mail that actors have not taken yet, and of each group that stands
 pub record IsAsking (words : ℕ → ℕ → ℕ × ℕ) (scenario : Scenario) (set : Setting) (first : Base) (rows : List (Row Mail OrderLine)) : Type 0 where

@@ -66,4 +66,4 @@ some_learnt group lo members known =
 -- what holds where a call is done holds of a call that is done
 pub of_done : {T E P : Type 0} (result : Result T E) → OnOk result P → IsOk result → P
 of_done (Ok done) ok is = ok
-of_done (Err fault) ok is = absurd (let f : false ≡ true = is in cc)
+of_done (Err error) ok is = absurd (let f : false ≡ true = is in cc)

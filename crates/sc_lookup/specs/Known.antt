@@ -62,9 +62,9 @@ group_learnt group lo members known =
     else known ++ (group, new_way lo members) ∷ []
 
 -- the groups after a group's answer that a key is not its own: its start is set, and its successor starts at the end of its arc
-abbrev pub told_not_mine : Draw → Arc → Link → KnownGroups → KnownGroups
-told_not_mine group arc succ known = group_learnt succ.group (end_of arc) succ.members (starting group arc.lo known)
+abbrev pub learnt_from_not_mine : Draw → Arc → Link → KnownGroups → KnownGroups
+learnt_from_not_mine group arc succ known = group_learnt succ.group (end_of arc) succ.members (starting group arc.lo known)
 
 -- the groups after a group's answer that it was merged into another: it is removed, and the other one is learnt
-abbrev pub told_gone : Draw → Route → KnownGroups → KnownGroups
-told_gone group into known = group_learnt into.group into.lo into.members (remove_entry (same_draw group) known)
+abbrev pub learnt_from_gone : Draw → Route → KnownGroups → KnownGroups
+learnt_from_gone group into known = group_learnt into.group into.lo into.members (remove_entry (same_draw group) known)

@@ -4,7 +4,7 @@ ghost use Rattle.std.specs.Map.{set_value};
 ghost use Rattle.indexmap.specs.IndexMap.{spare};
 ghost use Rattle.sc_base.specs.Same.{same_draw};
 ghost use Rattle.sc_lookup.specs.Ways.{new_way};
-ghost use Rattle.sc_lookup.specs.Known.{way_to, chosen, target_in, next_in, better, preferring, passed_on, starting, group_learnt, told_not_mine, told_gone};
+ghost use Rattle.sc_lookup.specs.Known.{way_to, chosen, target_in, next_in, better, preferring, passed_on, starting, group_learnt, learnt_from_not_mine, learnt_from_gone};
 
 use crate::ways::Way;
 use indexmap::IndexMap;
@@ -104,7 +104,7 @@ impl Routes {
     /// does, and its successor's at the end of `arc`. A successor that was not known is added at
     /// the end of the list. Fails only where the successor was not known.
     pub fn not_mine(&mut self, group: Draw, arc: &RingArc, succ: &Link) -> Result<(), OutOfMemory>
-        ensures routes { OnOk result (self.new ≡ told_not_mine group arc.now succ.now self.old) }
+        ensures routes { OnOk result (self.new ≡ learnt_from_not_mine group arc.now succ.now self.old) }
         ensures known { is_some (way_to succ.now.group self.old) ≡ true → IsOk result }
     {
         start_at(&mut self.known, group, arc.lo());
@@ -115,7 +115,7 @@ impl Routes {
     /// others keep their order. The other group's arc starts at the start of `into`; a group that
     /// was not known is added at the end of the list.
     pub fn gone(&mut self, group: Draw, into: &Route) -> Result<(), OutOfMemory>
-        ensures { OnOk result (self.new ≡ told_gone group into.now self.old) }
+        ensures { OnOk result (self.new ≡ learnt_from_gone group into.now self.old) }
     {
         self.known.reserve(1)?;
         self.known.shift_remove(&group);

@@ -2,9 +2,9 @@
 use Rattle.std.proofs.Common.{◌≡◌, ◌≢◌, ◌≤◌, ◌<◌, ℕ, ◌==◌, ◌||◌, ◌&&◌, not, nat_le, length, Bool, true, false, cond, Option, Some, None, IsTrue, refl, arith}
 use Rattle.std.proofs.lemmas.Bool.{leb-false}
 use Rattle.std.proofs.lemmas.Bool.Decides.{nat_tests}
-use Rattle.sc_base.specs.Definitions.{holds, end_of, add_fault, remove_fault, is_member}
+use Rattle.sc_base.specs.Definitions.{holds, end_of, add_error, remove_error, is_member}
 use Rattle.sc_base.specs.declared.names.Draw.{Draw}
-use Rattle.sc_base.specs.declared.sets.MemberFault.TheVariants.{Present, Full}
+use Rattle.sc_base.specs.declared.sets.MemberError.TheVariants.{Present, Full}
 use Rattle.sc_cmd.specs.declared.bodies.Body.{Body}
 use Rattle.sc_cmd.specs.declared.bodies.Body.TheVariants.{Merge, Repart, Migrate, Split}
 use Rattle.sc_cmd.specs.declared.commands.Command.{Command}
@@ -30,11 +30,11 @@ added false true e = absurd cc
 added true false e = absurd cc
 added false false e = refl
 
-pub can_join : (core : Core) (node : ℕ) → join_refused core node ≡ None → add_fault core.members node ≡ None
+pub can_join : (core : Core) (node : ℕ) → join_refused core node ≡ None → add_error core.members node ≡ None
 can_join core node e = added (length core.members == 9) (is_member core.members node) e
 
 -- one that may leave can be removed
-pub can_leave : (core : Core) (node : ℕ) → leave_refused core node ≡ None → remove_fault core.members node ≡ None
+pub can_leave : (core : Core) (node : ℕ) → leave_refused core node ≡ None → remove_error core.members node ≡ None
 can_leave core node e =
     let there = passed (not (is_member core.members node)) NotMember _ e in
     let other = passed (length core.members == 1) LastMember None there.1 in

@@ -51,16 +51,16 @@ LockLooksThrough (Promised tx offer) vote group = ⊥
 LockLooksThrough (Watching tx watch) vote group = ⊥
 
 -- a command may report out of memory
-abbrev pub MayWantMemory : Group → Command → Type 0
-MayWantMemory group Noop = ⊥
-MayWantMemory group (Call client seq op) = Makes (called group.core.gone group.core.lock group client seq op)
-MayWantMemory group (Join node order) = ⊥
-MayWantMemory group (Leave node order) = ⊥
-MayWantMemory group (Split at child order) = Makes (ordered_by (Some child) (refusal_of group.core (Split at child order)) (split_group group at child order) group)
-MayWantMemory group (Begin tx body order) = ⊥
-MayWantMemory group (Prepared tx offer) = Makes (offer_voted group tx offer)
-MayWantMemory group (RecordVote tx vote by) = Makes (vote_recorded group.core.lock group tx vote by) ⊎ LockLooksThrough group.core.lock vote group
-MayWantMemory group (GiveUp tx) = Makes (given_up group tx)
-MayWantMemory group (Finish tx outcome) = Makes (finished group.core.lock group tx outcome)
-MayWantMemory group (Watched tx watch) = Makes (watched group tx watch)
-MayWantMemory group (RecordWatch tx vote by) = Makes (watch_recorded group.core.lock group tx vote)
+abbrev pub MayRunOutOfMemory : Group → Command → Type 0
+MayRunOutOfMemory group Noop = ⊥
+MayRunOutOfMemory group (Call client seq op) = Makes (called group.core.gone group.core.lock group client seq op)
+MayRunOutOfMemory group (Join node order) = ⊥
+MayRunOutOfMemory group (Leave node order) = ⊥
+MayRunOutOfMemory group (Split at child order) = Makes (ordered_by (Some child) (refusal_of group.core (Split at child order)) (split_group group at child order) group)
+MayRunOutOfMemory group (Begin tx body order) = ⊥
+MayRunOutOfMemory group (Prepared tx offer) = Makes (offer_voted group tx offer)
+MayRunOutOfMemory group (RecordVote tx vote by) = Makes (vote_recorded group.core.lock group tx vote by) ⊎ LockLooksThrough group.core.lock vote group
+MayRunOutOfMemory group (GiveUp tx) = Makes (given_up group tx)
+MayRunOutOfMemory group (Finish tx outcome) = Makes (finished group.core.lock group tx outcome)
+MayRunOutOfMemory group (Watched tx watch) = Makes (watched group tx watch)
+MayRunOutOfMemory group (RecordWatch tx vote by) = Makes (watch_recorded group.core.lock group tx vote)

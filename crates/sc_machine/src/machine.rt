@@ -6,7 +6,7 @@ ghost use Rattle.sc_ideal.specs.Clients.{seen_of};
 ghost use Rattle.sc_machine_table.specs.Group.{Group, base_of, group_of};
 ghost use Rattle.sc_machine_table.specs.Machine.{applied, called, served, served_by_note, done};
 ghost use Rattle.sc_machine_table.specs.Plans.{frozen_of};
-ghost use Rattle.sc_machine.specs.Memory.{Makes, MayWantMemory};
+ghost use Rattle.sc_machine.specs.Memory.{Makes, MayRunOutOfMemory};
 
 use sc_base::{Dup, Op, OutOfMemory, Pairs, RingArc};
 use sc_cmd::{Base, Command, Core, Effect, Frozen};
@@ -114,7 +114,7 @@ impl Machine {
     /// the contract says nothing of the machine, so it may only be dropped.
     pub fn apply(&mut self, command: &Command) -> Result<Effect, OutOfMemory>
         ensures step { IfOk result (λ effect. applied self.old command.now ≡ (self.new, effect)) }
-        ensures memory { OnErr result (MayWantMemory self.old command.now) }
+        ensures memory { OnErr result (MayRunOutOfMemory self.old command.now) }
     {
         match command {
             Command::Noop => Ok(Effect::Idle),

@@ -1,6 +1,6 @@
 -- What the derived `==` of the types of this crate decides.
 use Rattle.sc_base.proofs.Lemmas.{Exact, lists, options, numbers, struct, last, ◌and◌, enum, ◌or◌, no_variant, arc, draw, ballot, op, reply, bytes as members}
-use Rattle.sc_cmd.proofs.Exact.{link, route, offer, watch, vote, past, outcome, base, command, told_result}
+use Rattle.sc_cmd.proofs.Exact.{link, route, offer, watch, vote, past, outcome, base, command, result_reported}
 use Rattle.sc_cmd.specs.contracts.commands.Command as command_type
 use Rattle.sc_paxos_words.specs.contracts.reports.Report as report_type
 use Rattle.sc_mail.specs.contracts.bodies.AnswerBody as answer_type
@@ -33,7 +33,7 @@ body =
     or draw and draw and last (options numbers)
     or draw and last watch
     or draw and draw and draw and last past
-    or numbers and last told_result
+    or numbers and last result_reported
     or no_variant)
 
 pub mail : Exact mail_eq.ghosts.eq

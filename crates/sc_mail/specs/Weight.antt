@@ -39,4 +39,4 @@ body_weight (TxOutcome tx part outcome) = outcome_weight outcome
 body_weight (TxElsewhere tx coord hint) = 0
 body_weight (TxWatch tx watch) = 0
 body_weight (TxWatched tx coord part vote) = 0
-body_weight (Told order told_result) = 0
+body_weight (Told order result_reported) = 0

@@ -6,7 +6,7 @@ use sc_base::{
     Ballot, Boxed, Draw, Dup, MOST_NODES, Op, OutOfMemory, Reply, RingArc, Same, Sequence,
 };
 use sc_cmd::{
-    Base, Command, Link, MemberSets, Offer, Outcome, Past, Route, ToldResult, Vote, Watch,
+    Base, Command, Link, MemberSets, Offer, Outcome, Past, Route, OrderResult, Vote, Watch,
 };
 use sc_paxos_words::Report;
 use std::alloc::Global;
@@ -144,7 +144,7 @@ pub enum MailBody {
     /// The result of an order, to the desk.
     Told {
         order: u32,
-        result: ToldResult,
+        result: OrderResult,
     },
 }
 

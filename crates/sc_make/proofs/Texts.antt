@@ -8,8 +8,8 @@ use Rattle.std.proofs.lemmas.Bool.{le-leb}
 use Rattle.std.proofs.lemmas.List.Folds.{list_all-append}
 use Rattle.sc_base.specs.Limits.{longest_key, longest_value}
 use Rattle.sc_base.specs.Text.{is_visible}
-use Rattle.sc_base.specs.TextFault.{text_fault}
-use Rattle.sc_base.proofs.TextLemmas.{no_fault}
+use Rattle.sc_base.specs.TextErrors.{text_error}
+use Rattle.sc_base.proofs.TextLemmas.{no_error}
 use Rattle.sc_scenario.specs.Made.{made_key, made_value}
 
 -- ---- visible bytes
@@ -30,18 +30,18 @@ digits_seen = decimal_by_steps (λ n ds. list_all is_visible ds ≡ true)
     ∙ ap₂ (λ a b. a && b) rest (let below = mod_below n 10 (omega arith) in one_seen (48 + n % 10) (omega arith) (omega (arith, below))))
 
 -- bytes that are visible, neither none nor too many, have no fault
-visible_pass : (most : ℕ) (bytes : List ℕ) → 1 ≤ length bytes → length bytes ≤ most → list_all is_visible bytes ≡ true → text_fault most bytes ≡ None
-visible_pass most bytes some few all = no_fault most bytes (record { some = some; short = few; visible = all })
+visible_pass : (most : ℕ) (bytes : List ℕ) → 1 ≤ length bytes → length bytes ≤ most → list_all is_visible bytes ≡ true → text_error most bytes ≡ None
+visible_pass most bytes some few all = no_error most bytes (record { some = some; short = few; visible = all })
 
 -- a made key is a key
-pub key_passes : (word client : ℕ) → client < 2 ^ 16 → text_fault longest_key (made_key word client) ≡ None
+pub key_passes : (word client : ℕ) → client < 2 ^ 16 → text_error longest_key (made_key word client) ≡ None
 key_passes word client small =
     let below = mod_below word 94 (omega arith) in
     let short = length-decimal-le 5 client (omega arith) (omega (arith, small)) (omega (arith, small)) in
     visible_pass longest_key (made_key word client) (omega arith) (omega (arith, short)) (more_seen (33 + word % 94) (decimal client) (omega arith) (omega (arith, below)) (digits_seen client (omega (arith, small))))
 
 -- a made value is a value
-pub value_passes : (number : ℕ) → number < 2 ^ 16 → text_fault longest_value (made_value number) ≡ None
+pub value_passes : (number : ℕ) → number < 2 ^ 16 → text_error longest_value (made_value number) ≡ None
 value_passes number small =
     let short = length-decimal-le 5 number (omega arith) (omega (arith, small)) (omega (arith, small)) in
     visible_pass longest_value (made_value number) (omega arith) (omega (arith, short)) (more_seen 118 (decimal number) (omega arith) (omega arith) (digits_seen number (omega (arith, small))))

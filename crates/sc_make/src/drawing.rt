@@ -2,7 +2,7 @@
 ghost use Rattle.std.specs.Prelude.{◌≡◌, ◌≤◌, ◌<◌, ◌+◌, ◌*◌, ◌∷◌, None, IfOk};
 ghost use Rattle.std.specs.Fmt.{decimal};
 ghost use Rattle.sc_base.specs.Limits.{longest_key, longest_value};
-ghost use Rattle.sc_base.specs.TextFault.{text_fault};
+ghost use Rattle.sc_base.specs.TextErrors.{text_error};
 ghost use Rattle.sc_scenario.specs.Made.{made_key, made_value, made_op, made_ops};
 
 use sc_base::{Key, Op, OutOfMemory, Sequence, Value};
@@ -22,7 +22,7 @@ fn numbered(alloc: Global, byte: u8, number: u16) -> Result<Vec<u8>, OutOfMemory
 
 // Returns the key of a text that is one, so that only memory can be missing.
 fn kept_key(alloc: Global, text: &[u8]) -> Result<Key, OutOfMemory>
-    requires { text_fault longest_key text.now ≡ None }
+    requires { text_error longest_key text.now ≡ None }
     ensures { IfOk result (λ key. key ≡ text.now) }
 {
     match Key::try_new(alloc, text) {
@@ -33,7 +33,7 @@ fn kept_key(alloc: Global, text: &[u8]) -> Result<Key, OutOfMemory>
 
 // Returns the value of a text that is one, so that only memory can be missing.
 fn kept_value(alloc: Global, text: &[u8]) -> Result<Value, OutOfMemory>
-    requires { text_fault longest_value text.now ≡ None }
+    requires { text_error longest_value text.now ≡ None }
     ensures { IfOk result (λ value. value ≡ text.now) }
 {
     match Value::try_new(alloc, text) {

@@ -6,12 +6,12 @@ use Rattle.sc_base.specs.Drawing.{Drawer}
 use Rattle.sc_cmd.specs.declared.cores.Base.{Base}
 use Rattle.sc_cmd.specs.declared.orders.OrderLine.{OrderLine}
 use Rattle.sc_cmd.specs.declared.orders.OrderRefusal.TheVariants.{NotLeader}
-use Rattle.sc_cmd.specs.declared.orders.ToldResult.TheVariants.{Refused}
+use Rattle.sc_cmd.specs.declared.orders.OrderResult.TheVariants.{Refused}
 use Rattle.sc_mail.specs.declared.bodies.Mail.{Mail}
 use Rattle.sc_mail.specs.declared.bodies.MailBody.{MailBody}
 use Rattle.sc_node_table.specs.Replica.{ReplicaState, Place}
 use Rattle.sc_node_table.specs.Node.{NodeState, replica_of, with_replica, with_children, taken_by, unknown, group_of_order, ordered_of, on_order}
-use Rattle.sc_node_table.specs.Mails.{told_desk}
+use Rattle.sc_node_table.specs.Mails.{result_sent}
 use Rattle.sc_node_table.specs.Rows.{mailed, tick_row}
 use Rattle.sc_node_table.specs.Policy.{names_after_tick}
 use Rattle.sc_node_table.specs.Ordering.{ordered_row, names_after}
@@ -46,7 +46,7 @@ ordered-at line node n d new more left stands e names =
 
 -- an order for a group of which there is no replica
 pub ordered-nowhere : {E : Type 0} (line : OrderLine) (node : NodeState) (result : Result (List Mail) E) → replica_of (group_of_order line.order) node.replicas ≡ None
-    → IfOk result (λ mails. mails ≡ told_desk node.me line.number (Refused (NotLeader None)) []) → IfOk result (λ mails. on_order line node ≡ (node, mails))
+    → IfOk result (λ mails. mails ≡ result_sent node.me line.number (Refused (NotLeader None)) []) → IfOk result (λ mails. on_order line node ≡ (node, mails))
 ordered-nowhere line node (Ok mails) none e = ap (λ o. ordered_of o line node) none ∙ ap (λ ms. (node, ms)) (sym e)
 ordered-nowhere line node (Err x) none e = e
 

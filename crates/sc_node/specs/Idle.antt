@@ -19,7 +19,7 @@ use Rattle.sc_paxos_words.specs.declared.answers.Counted.TheVariants.{Chosen, No
 use Rattle.sc_paxos_words.specs.Votes.{counted}
 use Rattle.sc_node_table.specs.Slots.{slots_ahead}
 use Rattle.sc_node_table.specs.Replica.{ReplicaState, next, settled, set_at, last_slot}
-use Rattle.sc_node_table.specs.Queues.{call_of}
+use Rattle.sc_node_table.specs.Queues.{queued_number}
 use Rattle.sc_node_table.specs.Rows.{refused_at}
 use Rattle.sc_node_table.specs.Voting.{leads}
 use Rattle.sc_node_table.specs.Transactions.{standing_vote, awaits_vote, awaits_watch, is_bound, noted_outcome, elsewhere_row}
@@ -64,7 +64,7 @@ watcher_asks Cast.Ended outcome = false
 
 -- a mail that a replica passes by: nothing is sent or queued for it, and nothing of it is copied
 abbrev pub IsPassedBy : ℕ → MailBody → ReplicaState → Type 0
-IsPassedBy from (Request group client seq op) r = (refused_at r.group.core.gone op r ≡ None) × IsWaiting (call_of r.calls client) seq
+IsPassedBy from (Request group client seq op) r = (refused_at r.group.core.gone op r ≡ None) × IsWaiting (queued_number r.backlog client) seq
 IsPassedBy from (Prepare group ballot from_slot) r = ⊥
 IsPassedBy from (Promise group ballot reports) r = IsRoundPassedBy (Promise group ballot reports) r
 IsPassedBy from (Accept group ballot slot command) r = ⊥
@@ -112,7 +112,7 @@ IsInputPassedBy Go node = Unit {0}
 pub record IsIdleTick (on : Bool) (r : ReplicaState) : Type 0 where
   pub is_settled : settled r ≡ true
   pub without_policy : on ≡ false
-  pub nothing_told : repeated r [] ≡ []
+  pub nothing_reported : repeated r [] ≡ []
   pub nothing_bound : coordinates r.group.core.lock ≡ false
   pub nobody_reminded : reminders r.group.core.lock r.me r.group [] ≡ []
   pub nothing_offered : pumped (r, []) ≡ (r, [])

@@ -5,7 +5,7 @@ ghost use Rattle.sc_node_table.specs.Replica.{next, last_slot};
 ghost use Rattle.sc_node_table.specs.Execute.{next_ready, executed_one, executed_ready, executed};
 
 use crate::births::bear;
-use crate::speech::tell;
+use crate::speech::announce;
 use sc_base::{OutOfMemory, Sequence};
 use sc_cmd::{Base, Command};
 use sc_mail::Mail;
@@ -28,7 +28,7 @@ fn execute_one(
     let members = replica.machine().core().members;
     let before = before_of(replica.machine().core());
     let effect = replica.enter(command)?;
-    tell(replica, counted, &before, effect, command, out)?;
+    announce(replica, counted, &before, effect, command, out)?;
     replica.teach_members(counted, &members, slot, command, out)?;
     replica.welcome(counted, &members, out)?;
     replica.land(counted, slot, command, out)?;

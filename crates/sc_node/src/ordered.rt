@@ -1,8 +1,8 @@
 //! An order for the replica of its group.
 ghost use Rattle.std.specs.Prelude.{◌≡◌, [], None, IfOk};
-ghost use Rattle.sc_node_table.specs.Mails.{told_desk};
+ghost use Rattle.sc_node_table.specs.Mails.{result_sent};
 ghost use Rattle.sc_node_table.specs.Node.{group_of_order, on_order};
-ghost use Rattle.sc_cmd.specs.declared.orders.ToldResult.TheVariants.{Refused};
+ghost use Rattle.sc_cmd.specs.declared.orders.OrderResult.TheVariants.{Refused};
 ghost use Rattle.sc_cmd.specs.declared.orders.OrderRefusal.TheVariants.{NotLeader};
 ghost use Rattle.sc_node.specs.Places.{StandsAt};
 
@@ -10,7 +10,7 @@ use crate::absent::alone;
 use crate::node::NodeCore;
 use crate::orders::on_order;
 use sc_base::{Draw, OutOfMemory, Sequence};
-use sc_cmd::{Order, OrderLine, OrderRefusal, ToldResult};
+use sc_cmd::{Order, OrderLine, OrderRefusal, OrderResult};
 use sc_mail::{DESK, Mail, MailBody};
 use std::alloc::Global;
 
@@ -30,8 +30,8 @@ fn group_of_order(order: &Order) -> Draw
 
 /// Returns the report to the desk that the node does not lead the group of an order, and knows no
 /// node that does.
-fn tell_unknown(alloc: Global, me: u16, number: u32) -> Result<Sequence<Mail>, OutOfMemory>
-    ensures { IfOk result (λ sent. sent ≡ told_desk me number (Refused (NotLeader None)) []) }
+fn report_no_leader(alloc: Global, me: u16, number: u32) -> Result<Sequence<Mail>, OutOfMemory>
+    ensures { IfOk result (λ sent. sent ≡ result_sent me number (Refused (NotLeader None)) []) }
 {
     let why = OrderRefusal::NotLeader { hint: None };
     alone(
@@ -40,7 +40,7 @@ fn tell_unknown(alloc: Global, me: u16, number: u32) -> Result<Sequence<Mail>, O
         DESK,
         MailBody::Told {
             order: number,
-            result: ToldResult::Refused(why),
+            result: OrderResult::Refused(why),
         },
     )
 }
@@ -56,7 +56,7 @@ impl NodeCore {
         ensures { IfOk result (λ sent. on_order line.now self.old ≡ (self.new, sent)) }
     {
         match self.replica_place(group_of_order(&line.order)) {
-            None => tell_unknown(alloc, self.me, line.number),
+            None => report_no_leader(alloc, self.me, line.number),
             Some(i) => self.take_order_at(alloc, i, line),
         }
     }

@@ -4,15 +4,15 @@ ghost use Rattle.sc_base.specs.Drawing.{next_name, drawn_on};
 ghost use Rattle.sc_txn.specs.Checked.{is_checked};
 ghost use Rattle.sc_machine_table.specs.Orders.{refusal_of};
 ghost use Rattle.sc_node_table.specs.Replica.{settled};
-ghost use Rattle.sc_node_table.specs.Queues.{with_call};
+ghost use Rattle.sc_node_table.specs.Queues.{with_order_queued};
 ghost use Rattle.sc_node_table.specs.Policy.{with_line};
-ghost use Rattle.sc_node_table.specs.Ordering.{ordered_command, takes_name, has_drawn_all, named_refused, first_of_both, untaken, taken_or_told, ordered_row, names_after};
+ghost use Rattle.sc_node_table.specs.Ordering.{ordered_command, takes_name, has_drawn_all, named_refused, first_of_both, untaken, queued_or_refused, ordered_row, names_after};
 
 use sc_base::{Draw, Draws, OutOfMemory, Sequence};
-use sc_cmd::{Body, Command, Core, Order, OrderLine, OrderRefusal, ToldResult};
+use sc_cmd::{Body, Command, Core, Order, OrderLine, OrderRefusal, OrderResult};
 use sc_mail::Mail;
 use sc_replica::Replica;
-use sc_replica_parts::tell_desk;
+use sc_replica_parts::send_result;
 use sc_txn::check;
 
 /// Returns why the command of an order is refused. None where it is not.
@@ -143,7 +143,7 @@ fn put_drawn(replica: &mut Replica, draws: &mut Draws, line: &OrderLine) -> Resu
     requires { (takes_name line.now.order && has_drawn_all draws.old) ≡ false }
     ensures row { OnOk result
         (replica.new
-        ≡ with_call (ordered_command (next_name draws.old) line.now.number line.now.order)
+        ≡ with_order_queued (ordered_command (next_name draws.old) line.now.number line.now.order)
         replica.old) }
     ensures names { draws.new
         ≡ (if takes_name line.now.order then drawn_on draws.old else draws.old) }
@@ -162,7 +162,7 @@ fn queue_order(
     requires { (takes_name line.now.order && has_drawn_all draws.old) ≡ false }
     ensures row { OnOk result
         ((replica.new, out.new)
-        ≡ taken_or_told None line.now.number
+        ≡ queued_or_refused None line.now.number
         (ordered_command (next_name draws.old) line.now.number line.now.order)
         (replica.old, out.old)) }
     ensures names { draws.new
@@ -174,7 +174,7 @@ fn queue_order(
 
 /// Queues an order, unless it is refused. Nothing is reported of it.
 #[tactic(auto, using(crate::proofs::Naming::has_name))]
-pub(crate) fn put_untold(
+pub(crate) fn put_unreported(
     replica: &mut Replica,
     draws: &mut Draws,
     line: &OrderLine,
@@ -204,7 +204,7 @@ pub fn on_order(
     ensures names { OnOk result (draws.new ≡ names_after draws.old line.now replica.old) }
 {
     match untaken(replica, draws, line) {
-        Some(why) => tell_desk(replica.me(), line.number, ToldResult::Refused(why), out),
+        Some(why) => send_result(replica.me(), line.number, OrderResult::Refused(why), out),
         None => queue_order(replica, draws, line, out),
     }
 }

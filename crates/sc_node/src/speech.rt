@@ -1,20 +1,20 @@
 //! What is sent for an executed command: the answer to a request, the report of an order,
 //! and the mails of a transaction.
 ghost use Rattle.std.specs.Prelude.{◌≡◌, [], true, false, OnOk, IsOk};
-ghost use Rattle.sc_node_table.specs.Execute.{order_result, told_effect, announced};
+ghost use Rattle.sc_node_table.specs.Execute.{order_result, effect_reported, announced};
 ghost use Rattle.sc_node_table.specs.Spoken.{spoken};
-ghost use Rattle.sc_replica_parts.specs.Calls.{is_call};
+ghost use Rattle.sc_replica_parts.specs.Requests.{is_request};
 
 use sc_base::{OutOfMemory, Sequence};
-use sc_cmd::{Command, Effect, ToldResult};
+use sc_cmd::{Command, Effect, OrderResult};
 use sc_mail::Mail;
 use sc_node_table::Before;
 use sc_replica::Replica;
 use sc_replica_transactions as transactions;
 
 /// Returns whether a command is a request.
-fn is_call(command: &Command) -> bool
-    ensures { result ≡ is_call command.now }
+fn is_request(command: &Command) -> bool
+    ensures { result ≡ is_request command.now }
 {
     match command {
         Command::Call { .. } => true,
@@ -24,11 +24,11 @@ fn is_call(command: &Command) -> bool
 
 /// Returns the result of a join or a leave that is reported to the desk. None for other commands: splits
 /// and transactions are reported apart.
-fn order_result(command: &Command, effect: &Effect) -> Option<ToldResult>
+fn order_result(command: &Command, effect: &Effect) -> Option<OrderResult>
     ensures { result ≡ order_result command.now effect.now }
 {
     match command {
-        Command::Join { .. } | Command::Leave { .. } => effect.told(),
+        Command::Join { .. } | Command::Leave { .. } => effect.reported(),
         Command::Noop
         | Command::Call { .. }
         | Command::Split { .. }
@@ -43,8 +43,8 @@ fn order_result(command: &Command, effect: &Effect) -> Option<ToldResult>
 }
 
 /// Answers a request whose entry was counted here. Nothing else is sent for it.
-#[tactic(auto, using(crate::proofs::Saying::nothing_of_calls))]
-fn tell_call(
+#[tactic(auto, using(crate::proofs::Saying::nothing_of_requests))]
+fn answer_request(
     replica: &mut Replica,
     counted: bool,
     before: &Before,
@@ -52,14 +52,14 @@ fn tell_call(
     command: &Command,
     out: &mut Sequence<Mail>,
 ) -> Result<(), OutOfMemory>
-    requires { is_call command.now ≡ true }
+    requires { is_request command.now ≡ true }
     ensures row { OnOk result
         ((replica.new, out.new)
         ≡ spoken counted before.now effect command.now
         (announced counted effect command.now (replica.old, out.old))) }
     ensures uncounted { counted ≡ false → IsOk result }
 {
-    replica.tell_counted(counted, effect, command, out)
+    replica.answer_counted(counted, effect, command, out)
 }
 
 /// Sends what a split or a transaction has to say of the command.
@@ -92,7 +92,7 @@ fn speak(
 
 /// Reports a command other than a request to the desk, and sends what its transaction has to say.
 #[tactic(auto, using(crate::proofs::Saying::no_answer_of_others))]
-fn tell_others(
+fn report_others(
     replica: &Replica,
     counted: bool,
     before: &Before,
@@ -100,7 +100,7 @@ fn tell_others(
     command: &Command,
     out: &mut Sequence<Mail>,
 ) -> Result<(), OutOfMemory>
-    requires { is_call command.now ≡ false }
+    requires { is_request command.now ≡ false }
     ensures row { OnOk result
         ((replica.now, out.new)
         ≡ spoken counted before.now effect.now command.now
@@ -108,12 +108,12 @@ fn tell_others(
     ensures none { (spoken counted before.now effect.now command.now
         (announced counted effect.now command.now (replica.now, []))).1 ≡ [] → IsOk result }
 {
-    replica.tell_effect(order_result(command, effect), command, out)?;
+    replica.report_effect(order_result(command, effect), command, out)?;
     speak(replica, counted, before, effect, command, out)
 }
 
 /// Sends what a command causes, counted or learnt, by its effect and the group before it.
-pub(crate) fn tell(
+pub(crate) fn announce(
     replica: &mut Replica,
     counted: bool,
     before: &Before,
@@ -125,13 +125,13 @@ pub(crate) fn tell(
         ((replica.new, out.new)
         ≡ spoken counted before.now effect command.now
         (announced counted effect command.now (replica.old, out.old))) }
-    ensures uncounted { is_call command.now ≡ true → counted ≡ false → IsOk result }
-    ensures none { is_call command.now ≡ false →
+    ensures uncounted { is_request command.now ≡ true → counted ≡ false → IsOk result }
+    ensures none { is_request command.now ≡ false →
         (spoken counted before.now effect command.now
         (announced counted effect command.now (replica.old, []))).1 ≡ [] → IsOk result }
 {
-    if is_call(command) {
-        return tell_call(replica, counted, before, effect, command, out);
+    if is_request(command) {
+        return answer_request(replica, counted, before, effect, command, out);
     }
-    tell_others(replica, counted, before, &effect, command, out)
+    report_others(replica, counted, before, &effect, command, out)
 }

@@ -12,7 +12,7 @@ use sc_replica::Replica;
 use sc_replica_choices::record_of;
 use sc_replica_transactions::{
     ask_next, awaits_vote, awaits_watch, is_bound, noted_outcome, pass_on, standing_vote,
-    tell_outcome, tell_vote, tell_watch,
+    send_outcome, report_vote, report_watch,
 };
 
 /// Queues the vote on an offer where the replica runs, and names the leader that it knows
@@ -48,7 +48,7 @@ pub(crate) fn on_offer(
     ensures ended { standing_vote replica.old.group.core tx ≡ Some Ended → IsOk result }
 {
     match standing_vote(replica.machine().core(), tx) {
-        Some(vote) => tell_vote(
+        Some(vote) => report_vote(
             replica.alloc(),
             replica.machine(),
             replica.me(),
@@ -95,7 +95,7 @@ pub(crate) fn on_watch(
     ensures ended { standing_vote replica.old.group.core tx ≡ Some Ended → IsOk result }
 {
     match standing_vote(replica.machine().core(), tx) {
-        Some(vote) => tell_watch(replica.me(), from, tx, watch, vote, out),
+        Some(vote) => report_watch(replica.me(), from, tx, watch, vote, out),
         None => take_watch(replica, from, tx, watch, out),
     }
 }
@@ -140,7 +140,7 @@ pub(crate) fn on_party_vote(
     match vote {
         Vote::Yes(_) => match noted_outcome(replica.machine().core(), tx) {
             Some(outcome) => {
-                tell_outcome(replica.alloc(), replica.me(), from, tx, part, outcome, out)
+                send_outcome(replica.alloc(), replica.me(), from, tx, part, outcome, out)
             }
             None => take_vote(replica, from, tx, vote, out),
         },
@@ -187,7 +187,7 @@ pub(crate) fn on_watched(
     match vote {
         Past::Yes => match noted_outcome(replica.machine().core(), tx) {
             Some(outcome) => {
-                tell_outcome(replica.alloc(), replica.me(), from, tx, part, outcome, out)
+                send_outcome(replica.alloc(), replica.me(), from, tx, part, outcome, out)
             }
             None => take_watched(replica, from, tx, Past::Yes, out),
         },

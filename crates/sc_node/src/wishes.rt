@@ -2,7 +2,7 @@
 ghost use Rattle.std.specs.Prelude.{◌≡◌, false, IfOk, OnOk, IsOk, Some};
 ghost use Rattle.sc_node_table.specs.Policy.{is_at_rest, wished_line, with_line, names_with};
 
-use crate::orders::put_untold;
+use crate::orders::put_unreported;
 use sc_base::{Draws, OutOfMemory};
 use sc_cmd::OrderLine;
 use sc_policy::wished_order;
@@ -40,7 +40,7 @@ pub(crate) fn wish(
         (draws.new ≡ names_with draws.old (wished_line policy replica.old) replica.old) }
 {
     match wished_line(replica, policy)? {
-        Some(line) => put_untold(replica, draws, &line),
+        Some(line) => put_unreported(replica, draws, &line),
         None => Ok(()),
     }
 }

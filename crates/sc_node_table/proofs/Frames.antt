@@ -5,22 +5,22 @@ use Rattle.sc_cmd.specs.declared.commands.Command.{Command}
 use Rattle.sc_paxos_words.specs.declared.answers.Must.{Must}
 use Rattle.sc_paxos_words.specs.declared.answers.Must.TheVariants.{Value, Gap, Free}
 use Rattle.sc_paxos_words.specs.Definitions.{must}
-use Rattle.sc_node_table.specs.Definitions.{ReplicaState, Place, next, settled, may_offer, taken_at, under_way, is_idle, Found, is_act, from_calls, from_acts, from_queues, found_by, found_for, offered, pumped_from, StaysSettled}
+use Rattle.sc_node_table.specs.Definitions.{ReplicaState, Place, next, settled, may_offer, taken_at, under_way, is_idle, Found, is_act, from_backlog, from_acts, from_queues, found_by, found_for, offered, pumped_from, StaysSettled}
 
 -- a replica but for what is in flight and the queues
 abbrev pub frame : ReplicaState → ReplicaState
-frame r = record r { leader = record r.leader { flights = [] }; acts = []; calls = [] }
+frame r = record r { leader = record r.leader { flights = [] }; acts = []; backlog = [] }
 
-calls-frame : (place : Place) → frame (from_calls place).1.0 ≡ frame place.0
-unfolding from_calls
-calls-frame place = refl
+backlog-frame : (place : Place) → frame (from_backlog place).1.0 ≡ frame place.0
+unfolding from_backlog
+backlog-frame place = refl
 
 either-frame : (b : Bool) (x y : Found) (r : ReplicaState) → frame x.1.0 ≡ frame r → frame y.1.0 ≡ frame r → frame (if b then x else y).1.0 ≡ frame r
 either-frame true x y r p q = p
 either-frame false x y r p q = q
 
 acts-frame : (acts : List Command) (place : Place) → frame (from_acts acts place).1.0 ≡ frame place.0
-acts-frame [] place = calls-frame place
+acts-frame [] place = backlog-frame place
 acts-frame (act ∷ acts) place = either-frame (is_idle place.0) _ _ place.0 refl refl
 
 queues-frame : (place : Place) → frame (from_queues place).1.0 ≡ frame place.0

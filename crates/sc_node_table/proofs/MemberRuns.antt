@@ -7,12 +7,12 @@ use Rattle.sc_cmd.specs.declared.orders.Order.{Order}
 use Rattle.sc_cmd.specs.declared.orders.Order.TheVariants as An
 use Rattle.sc_cmd.specs.declared.orders.OrderLine.{OrderLine}
 use Rattle.sc_cmd.specs.declared.orders.OrderRefusal.TheVariants.{NotLeader, LastMember}
-use Rattle.sc_cmd.specs.declared.orders.ToldResult.TheVariants.{Done, Refused}
+use Rattle.sc_cmd.specs.declared.orders.OrderResult.TheVariants.{Done, Refused}
 use Rattle.sc_mail.specs.declared.bodies.AnswerBody.TheVariants as Says
 use Rattle.sc_mail.specs.declared.bodies.MailBody.TheVariants.{Request, Answer, Accept, Accepted, Learn, Ask, Install, Told as ToldMail}
 use Rattle.sc_node_table.specs.declared.ReplicaInput.TheVariants.{Got, Told}
 use Rattle.sc_machine_table.specs.Definitions.{group_of, base_of}
-use Rattle.sc_node_table.specs.Definitions.{born_replica, forgotten, sent_all, sent_others, answered, answered_all, told_order, dismissed, dismissed_all, install_to, welcomed_all, jumped, put_back, nodes_to, elected, ended, saw, next_call, from_calls, from_queues, found_for, offered, pumped_from, pumped, entered, announced, told_call, told_effect, learnt_to, welcomed, landed, left, looked, executed_one, executed_ready, executed, promised, prepare_row, took, accept_row, promise_row, readied, accepted_row, nack_row, spoken, spoken_mails, told_begun, went_on, reminded, wishing, ordered_row, act_queued, offer_row, watch_row, vote_row, watched_row, elsewhere_row, outcome_row, queued, requested, request_row, learn_row, taught, ask_row, asked_again, told_last, tick_row, looked_up, took_over, install_row, mailed, stepped}
+use Rattle.sc_node_table.specs.Definitions.{born_replica, forgotten, sent_all, sent_others, answered, answered_all, order_reported, dismissed, dismissed_all, install_to, welcomed_all, jumped, put_back, nodes_to, elected, ended, saw, next_queued, from_backlog, from_queues, found_for, offered, pumped_from, pumped, entered, announced, answered_or_put_back, effect_reported, learnt_to, welcomed, landed, left, looked, executed_one, executed_ready, executed, promised, prepare_row, took, accept_row, promise_row, readied, accepted_row, nack_row, spoken, spoken_mails, begun_reported, went_on, reminded, wishing, ordered_row, act_queued, offer_row, watch_row, vote_row, watched_row, elsewhere_row, outcome_row, queued, requested, request_row, learn_row, taught, ask_row, asked_again, last_entry_sent, tick_row, looked_up, took_over, install_row, mailed, stepped}
 use Rattle.sc_node_table.proofs.Runs.{g, b, mail, core, base, run}
 
 abbrev line : ℕ → Order → OrderLine
@@ -37,18 +37,18 @@ joins :
     ∷ mail 1 0 (ToldMail 1 Done)
     ∷ mail 1 2 (Install g 1 (base_of (group_of joined)) sets)
     ∷ mail 1 2 (Install g 1 (base_of (group_of joined)) sets) ∷ []
-unfolding stepped mailed request_row requested queued learn_row taught ask_row asked_again told_last tick_row prepare_row promised accept_row took promise_row accepted_row readied nack_row pumped pumped_from found_for from_queues from_calls next_call offered sent_all sent_others answered answered_all nodes_to elected ended saw entered announced told_call learnt_to landed left looked executed_one executed_ready executed put_back forgotten told_effect told_order welcomed welcomed_all dismissed dismissed_all install_to looked_up took_over install_row jumped spoken spoken_mails told_begun went_on reminded wishing ordered_row offer_row watch_row vote_row watched_row elsewhere_row outcome_row act_queued
+unfolding stepped mailed request_row requested queued learn_row taught ask_row asked_again last_entry_sent tick_row prepare_row promised accept_row took promise_row accepted_row readied nack_row pumped pumped_from found_for from_queues from_backlog next_queued offered sent_all sent_others answered answered_all nodes_to elected ended saw entered announced answered_or_put_back learnt_to landed left looked executed_one executed_ready executed put_back forgotten effect_reported order_reported welcomed welcomed_all dismissed dismissed_all install_to looked_up took_over install_row jumped spoken spoken_mails begun_reported went_on reminded wishing ordered_row offer_row watch_row vote_row watched_row elsewhere_row outcome_row act_queued
 joins = refl
 
 -- the last member does not leave, and one that does not lead takes no order
 refused :
     (run (born_replica 4 1 (base (1 ∷ [])), []) (Told (line 7 (An.Leave 1 g)) ∷ [])).1 ≡ mail 1 0 (ToldMail 7 (Refused LastMember)) ∷ []
-unfolding stepped mailed request_row requested queued learn_row taught ask_row asked_again told_last tick_row prepare_row promised accept_row took promise_row accepted_row readied nack_row pumped pumped_from found_for from_queues from_calls next_call offered sent_all sent_others answered answered_all nodes_to elected ended saw entered announced told_call learnt_to landed left looked executed_one executed_ready executed put_back forgotten told_effect told_order welcomed welcomed_all dismissed dismissed_all install_to looked_up took_over install_row jumped spoken spoken_mails told_begun went_on reminded wishing ordered_row offer_row watch_row vote_row watched_row elsewhere_row outcome_row act_queued
+unfolding stepped mailed request_row requested queued learn_row taught ask_row asked_again last_entry_sent tick_row prepare_row promised accept_row took promise_row accepted_row readied nack_row pumped pumped_from found_for from_queues from_backlog next_queued offered sent_all sent_others answered answered_all nodes_to elected ended saw entered announced answered_or_put_back learnt_to landed left looked executed_one executed_ready executed put_back forgotten effect_reported order_reported welcomed welcomed_all dismissed dismissed_all install_to looked_up took_over install_row jumped spoken spoken_mails begun_reported went_on reminded wishing ordered_row offer_row watch_row vote_row watched_row elsewhere_row outcome_row act_queued
 refused = refl
 
 elsewhere :
     (run (born_replica 4 2 (base (1 ∷ 2 ∷ [])), []) (Told (line 8 (An.Leave 1 g)) ∷ [])).1 ≡ mail 2 0 (ToldMail 8 (Refused (NotLeader (Some 1)))) ∷ []
-unfolding stepped mailed request_row requested queued learn_row taught ask_row asked_again told_last tick_row prepare_row promised accept_row took promise_row accepted_row readied nack_row pumped pumped_from found_for from_queues from_calls next_call offered sent_all sent_others answered answered_all nodes_to elected ended saw entered announced told_call learnt_to landed left looked executed_one executed_ready executed put_back forgotten told_effect told_order welcomed welcomed_all dismissed dismissed_all install_to looked_up took_over install_row jumped spoken spoken_mails told_begun went_on reminded wishing ordered_row offer_row watch_row vote_row watched_row elsewhere_row outcome_row act_queued
+unfolding stepped mailed request_row requested queued learn_row taught ask_row asked_again last_entry_sent tick_row prepare_row promised accept_row took promise_row accepted_row readied nack_row pumped pumped_from found_for from_queues from_backlog next_queued offered sent_all sent_others answered answered_all nodes_to elected ended saw entered announced answered_or_put_back learnt_to landed left looked executed_one executed_ready executed put_back forgotten effect_reported order_reported welcomed welcomed_all dismissed dismissed_all install_to looked_up took_over install_row jumped spoken spoken_mails begun_reported went_on reminded wishing ordered_row offer_row watch_row vote_row watched_row elsewhere_row outcome_row act_queued
 elsewhere = refl
 
 -- a leader that leaves is no leader any more
@@ -63,7 +63,7 @@ leaves :
     ∷ mail 1 0 (ToldMail 1 Done)
     ∷ mail 1 2 (Learn g 1 (Leave 1 1))
     ∷ mail 1 33 (Answer g 1 (Says.NotLeader (Some 2))) ∷ []
-unfolding stepped mailed request_row requested queued learn_row taught ask_row asked_again told_last tick_row prepare_row promised accept_row took promise_row accepted_row readied nack_row pumped pumped_from found_for from_queues from_calls next_call offered sent_all sent_others answered answered_all nodes_to elected ended saw entered announced told_call learnt_to landed left looked executed_one executed_ready executed put_back forgotten told_effect told_order welcomed welcomed_all dismissed dismissed_all install_to looked_up took_over install_row jumped spoken spoken_mails told_begun went_on reminded wishing ordered_row offer_row watch_row vote_row watched_row elsewhere_row outcome_row act_queued
+unfolding stepped mailed request_row requested queued learn_row taught ask_row asked_again last_entry_sent tick_row prepare_row promised accept_row took promise_row accepted_row readied nack_row pumped pumped_from found_for from_queues from_backlog next_queued offered sent_all sent_others answered answered_all nodes_to elected ended saw entered announced answered_or_put_back learnt_to landed left looked executed_one executed_ready executed put_back forgotten effect_reported order_reported welcomed welcomed_all dismissed dismissed_all install_to looked_up took_over install_row jumped spoken spoken_mails begun_reported went_on reminded wishing ordered_row offer_row watch_row vote_row watched_row elsewhere_row outcome_row act_queued
 leaves = refl
 
 -- one that runs stops where it is sent a later state: its calls and orders are answered, the one in flight and those that wait
@@ -79,7 +79,7 @@ overtaken :
     ∷ mail 1 33 (Answer g 1 (Says.NotLeader (Some 2)))
     ∷ mail 1 0 (ToldMail 1 (Refused (NotLeader (Some 2))))
     ∷ mail 1 3 (Install g 3 (base_of (group_of (base (1 ∷ 2 ∷ 3 ∷ [])))) (replicate 4 (1 ∷ 2 ∷ 3 ∷ []))) ∷ []
-unfolding stepped mailed request_row requested queued learn_row taught ask_row asked_again told_last tick_row prepare_row promised accept_row took promise_row accepted_row readied nack_row pumped pumped_from found_for from_queues from_calls next_call offered sent_all sent_others answered answered_all nodes_to elected ended saw entered announced told_call learnt_to landed left looked executed_one executed_ready executed put_back forgotten told_effect told_order welcomed welcomed_all dismissed dismissed_all install_to looked_up took_over install_row jumped spoken spoken_mails told_begun went_on reminded wishing ordered_row offer_row watch_row vote_row watched_row elsewhere_row outcome_row act_queued
+unfolding stepped mailed request_row requested queued learn_row taught ask_row asked_again last_entry_sent tick_row prepare_row promised accept_row took promise_row accepted_row readied nack_row pumped pumped_from found_for from_queues from_backlog next_queued offered sent_all sent_others answered answered_all nodes_to elected ended saw entered announced answered_or_put_back learnt_to landed left looked executed_one executed_ready executed put_back forgotten effect_reported order_reported welcomed welcomed_all dismissed dismissed_all install_to looked_up took_over install_row jumped spoken spoken_mails begun_reported went_on reminded wishing ordered_row offer_row watch_row vote_row watched_row elsewhere_row outcome_row act_queued
 overtaken = refl
 
 -- an older state, and one without the members of four slots, is not taken
@@ -89,5 +89,5 @@ older :
     ∷ Got (mail 1 2 (Install g 0 (base (1 ∷ [])) (replicate 4 (1 ∷ []))))
     ∷ Got (mail 1 2 (Install g 5 (base (1 ∷ [])) (replicate 3 (1 ∷ []))))
     ∷ Got (mail 1 2 (Ask g 1)) ∷ [])).1 ≡ mail 2 1 (Learn g 1 Noop) ∷ []
-unfolding stepped mailed request_row requested queued learn_row taught ask_row asked_again told_last tick_row prepare_row promised accept_row took promise_row accepted_row readied nack_row pumped pumped_from found_for from_queues from_calls next_call offered sent_all sent_others answered answered_all nodes_to elected ended saw entered announced told_call learnt_to landed left looked executed_one executed_ready executed put_back forgotten told_effect told_order welcomed welcomed_all dismissed dismissed_all install_to looked_up took_over install_row jumped spoken spoken_mails told_begun went_on reminded wishing ordered_row offer_row watch_row vote_row watched_row elsewhere_row outcome_row act_queued
+unfolding stepped mailed request_row requested queued learn_row taught ask_row asked_again last_entry_sent tick_row prepare_row promised accept_row took promise_row accepted_row readied nack_row pumped pumped_from found_for from_queues from_backlog next_queued offered sent_all sent_others answered answered_all nodes_to elected ended saw entered announced answered_or_put_back learnt_to landed left looked executed_one executed_ready executed put_back forgotten effect_reported order_reported welcomed welcomed_all dismissed dismissed_all install_to looked_up took_over install_row jumped spoken spoken_mails begun_reported went_on reminded wishing ordered_row offer_row watch_row vote_row watched_row elsewhere_row outcome_row act_queued
 older = refl

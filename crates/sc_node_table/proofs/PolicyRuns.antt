@@ -7,7 +7,7 @@ use Rattle.sc_cmd.specs.declared.cores.Base.{Base}
 use Rattle.sc_cmd.specs.declared.cores.Lock.TheVariants.{Free, Watching}
 use Rattle.sc_mail.specs.declared.bodies.MailBody.TheVariants.{Accept}
 use Rattle.sc_mail.specs.declared.bodies.Mail.{Mail}
-use Rattle.sc_node_table.specs.Definitions.{sent_all, sent_others, answered, next_call, from_calls, from_queues, found_for, offered, pumped_from, pumped, reminded, wishing, asked_again, told_last, tick_row, NodeState, born_node, ticked, names_after_ticks, on_tick}
+use Rattle.sc_node_table.specs.Definitions.{sent_all, sent_others, answered, next_queued, from_backlog, from_queues, found_for, offered, pumped_from, pumped, reminded, wishing, asked_again, last_entry_sent, tick_row, NodeState, born_node, ticked, names_after_ticks, on_tick}
 use Rattle.sc_node_table.proofs.Runs.{g, b, mail, base}
 use Rattle.sc_node_table.proofs.TransactionRuns.{h, tx, left_core, right_core, bare, watch}
 
@@ -31,7 +31,7 @@ abbrev asks_eight : ℕ → Mail
 asks_eight to = mail 1 to (Accept g (b 1 1) 1 (Split 2147483648 tx 0))
 
 splits : tells (node true 0 (base eight ∷ [])) ≡ asks_eight 1 ∷ asks_eight 2 ∷ asks_eight 3 ∷ asks_eight 4 ∷ asks_eight 5 ∷ asks_eight 6 ∷ asks_eight 7 ∷ asks_eight 8 ∷ []
-unfolding ticked tick_row told_last asked_again sent_others reminded wishing pumped pumped_from found_for from_queues from_calls next_call offered sent_all answered
+unfolding ticked tick_row last_entry_sent asked_again sent_others reminded wishing pumped pumped_from found_for from_queues from_backlog next_queued offered sent_all answered
 splits = refl
 
 -- a split draws the child's name
@@ -41,7 +41,7 @@ draws_split = refl
 
 -- one member is too few: the group takes over its successor
 merges : tells (node true 0 (bare (left_core (1 ∷ []) Free []) ∷ [])) ≡ mail 1 1 (Accept g (b 1 1) 1 (Begin tx Merge 0)) ∷ []
-unfolding ticked tick_row told_last asked_again sent_others reminded wishing pumped pumped_from found_for from_queues from_calls next_call offered sent_all answered
+unfolding ticked tick_row last_entry_sent asked_again sent_others reminded wishing pumped pumped_from found_for from_queues from_backlog next_queued offered sent_all answered
 merges = refl
 
 -- of two groups on one node each takes its own name
@@ -50,7 +50,7 @@ two = bare (left_core (1 ∷ []) Free []) ∷ bare (record (right_core Free []) 
 
 both : tells (node true 0 two)
     ≡ mail 1 1 (Accept g (b 1 1) 1 (Begin tx Merge 0)) ∷ mail 1 1 (Accept h (b 1 1) 1 (Begin (record { node = 1; count = 2 }) Merge 0)) ∷ []
-unfolding ticked tick_row told_last asked_again sent_others reminded wishing pumped pumped_from found_for from_queues from_calls next_call offered sent_all answered
+unfolding ticked tick_row last_entry_sent asked_again sent_others reminded wishing pumped pumped_from found_for from_queues from_backlog next_queued offered sent_all answered
 both = refl
 
 draws_both : draws_on (node true 0 two) ≡ record { node = 1; next = 3 }
@@ -59,7 +59,7 @@ draws_both = refl
 
 -- nothing is ordered and nothing is reported where the policy is off, where a watcher is bound, where no name is left, and where the order would be refused
 off : tells (node false 0 two) ≡ []
-unfolding ticked tick_row told_last asked_again sent_others reminded wishing pumped pumped_from found_for from_queues from_calls next_call offered sent_all answered
+unfolding ticked tick_row last_entry_sent asked_again sent_others reminded wishing pumped pumped_from found_for from_queues from_backlog next_queued offered sent_all answered
 off = refl
 
 bound : draws_on (node true 0 (bare (left_core (1 ∷ []) (Watching tx watch) []) ∷ [])) ≡ record { node = 1; next = 1 }
@@ -67,9 +67,9 @@ unfolding names_after_ticks
 bound = refl
 
 spent : tells (node true (2 ^ 32 - 2) two) ≡ []
-unfolding ticked tick_row told_last asked_again sent_others reminded wishing pumped pumped_from found_for from_queues from_calls next_call offered sent_all answered
+unfolding ticked tick_row last_entry_sent asked_again sent_others reminded wishing pumped pumped_from found_for from_queues from_backlog next_queued offered sent_all answered
 spent = refl
 
 refused : tells (node true 0 (bare (record (left_core (1 ∷ []) Free []) { begun = 256 }) ∷ [])) ≡ []
-unfolding ticked tick_row told_last asked_again sent_others reminded wishing pumped pumped_from found_for from_queues from_calls next_call offered sent_all answered
+unfolding ticked tick_row last_entry_sent asked_again sent_others reminded wishing pumped pumped_from found_for from_queues from_backlog next_queued offered sent_all answered
 refused = refl

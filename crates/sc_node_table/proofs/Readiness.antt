@@ -4,12 +4,12 @@ use Rattle.sc_cmd.specs.declared.links.Route.{Route}
 use Rattle.sc_cmd.specs.declared.commands.Command.{Command}
 use Rattle.sc_cmd.specs.declared.commands.Command.TheVariants.{Noop, Call, Join, Leave, Split, Begin, Prepared, RecordVote, GiveUp, Finish, Watched, RecordWatch}
 use Rattle.sc_cmd.specs.declared.effects.Effect.{Effect}
-use Rattle.sc_cmd.specs.declared.orders.ToldResult.{ToldResult}
+use Rattle.sc_cmd.specs.declared.orders.OrderResult.{OrderResult}
 use Rattle.sc_mail.specs.declared.bodies.AnswerBody.{AnswerBody}
 use Rattle.sc_mail.specs.declared.bodies.Mail.{Mail}
 use Rattle.sc_base.specs.Definitions.{is_member, least_of}
 use Rattle.sc_machine_table.specs.Definitions.{applied}
-use Rattle.sc_node_table.specs.Definitions.{at_slot, without_slot, ReplicaState, Place, childless, next, members, flying, forgotten, install_to, asked_to_promise, welcomed_all, put_back, same_command, elected, ended, before_of, spoken, entered, answer_of, announced, told_call, told_effect, order_result, learnt_to, welcomed, slot_lost, landed, left, left_gone, is_among, looked, looked_for, executed_one, next_child, has_room, next_ready, ending, executed_ready}
+use Rattle.sc_node_table.specs.Definitions.{at_slot, without_slot, ReplicaState, Place, childless, next, members, flying, forgotten, install_to, asked_to_promise, welcomed_all, put_back, same_command, elected, ended, before_of, spoken, entered, answer_of, announced, answered_or_put_back, effect_reported, order_result, learnt_to, welcomed, slot_lost, landed, left, left_gone, is_among, looked, looked_for, executed_one, next_child, has_room, next_ready, ending, executed_ready}
 use Rattle.sc_node_table.specs.declared.Before.{Before}
 
 -- taking a slot out makes the list shorter
@@ -43,8 +43,8 @@ put_back-ready (Finish tx outcome) r = refl
 put_back-ready (Watched tx watch) r = refl
 put_back-ready (RecordWatch tx vote by) r = refl
 
-call-ready : (answer : Option AnswerBody) (command : Command) (place : Place) → (told_call answer command place).0.ready ≡ place.0.ready
-unfolding told_call
+call-ready : (answer : Option AnswerBody) (command : Command) (place : Place) → (answered_or_put_back answer command place).0.ready ≡ place.0.ready
+unfolding answered_or_put_back
 call-ready (Some answer) Noop place = refl
 call-ready (Some answer) (Call client seq op) place = refl
 call-ready (Some answer) (Join node order) place = refl
@@ -70,19 +70,19 @@ call-ready None (Finish tx outcome) place = refl
 call-ready None (Watched tx watch) place = refl
 call-ready None (RecordWatch tx vote by) place = refl
 
-effect-ready : (result : Option ToldResult) (command : Command) (place : Place) → (told_effect result command place).0.ready ≡ place.0.ready
-unfolding told_effect
+effect-ready : (result : Option OrderResult) (command : Command) (place : Place) → (effect_reported result command place).0.ready ≡ place.0.ready
+unfolding effect_reported
 effect-ready None command place = refl
 effect-ready (Some result) command place = refl
 
-counted-ready : (counted : Bool) (answer : Option AnswerBody) (command : Command) (place : Place) → (if counted then told_call answer command place else place).0.ready ≡ place.0.ready
+counted-ready : (counted : Bool) (answer : Option AnswerBody) (command : Command) (place : Place) → (if counted then answered_or_put_back answer command place else place).0.ready ≡ place.0.ready
 counted-ready true answer command place = call-ready answer command place
 counted-ready false answer command place = refl
 
 announced-ready : (counted : Bool) (effect : Effect) (command : Command) (place : Place) → (announced counted effect command place).0.ready ≡ place.0.ready
 unfolding announced
 announced-ready counted effect command place =
-    effect-ready (order_result command effect) command (if counted then told_call (answer_of effect) command place else place)
+    effect-ready (order_result command effect) command (if counted then answered_or_put_back (answer_of effect) command place else place)
     ∙ counted-ready counted (answer_of effect) command place
 
 -- the members that are added get mails, and no more

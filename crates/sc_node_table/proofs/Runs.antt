@@ -14,7 +14,7 @@ use Rattle.sc_mail.specs.declared.bodies.MailBody.TheVariants.{Request, Answer, 
 use Rattle.sc_mail.specs.declared.bodies.Mail.{Mail}
 use Rattle.sc_node_table.specs.declared.ReplicaInput.{ReplicaInput}
 use Rattle.sc_node_table.specs.declared.ReplicaInput.TheVariants.{Got, Tick}
-use Rattle.sc_node_table.specs.Definitions.{numbers_from, ReplicaState, Place, born_replica, forgotten, sent_all, sent_others, answered, answered_all, told_order, dismissed, dismissed_all, install_to, welcomed_all, put_back, nodes_to, elected, ended, saw, next_call, from_calls, from_queues, found_for, offered, pumped_from, pumped, entered, announced, told_call, told_effect, learnt_to, welcomed, landed, left, looked, executed_one, executed_ready, executed, promised, prepare_row, took, accept_row, promise_row, readied, accepted_row, nack_row, spoken, spoken_mails, told_begun, went_on, reminded, wishing, ordered_row, act_queued, offer_row, watch_row, vote_row, watched_row, elsewhere_row, outcome_row, queued, requested, request_row, learn_row, taught, ask_row, asked_again, told_last, tick_row, mailed, stepped}
+use Rattle.sc_node_table.specs.Definitions.{numbers_from, ReplicaState, Place, born_replica, forgotten, sent_all, sent_others, answered, answered_all, order_reported, dismissed, dismissed_all, install_to, welcomed_all, put_back, nodes_to, elected, ended, saw, next_queued, from_backlog, from_queues, found_for, offered, pumped_from, pumped, entered, announced, answered_or_put_back, effect_reported, learnt_to, welcomed, landed, left, looked, executed_one, executed_ready, executed, promised, prepare_row, took, accept_row, promise_row, readied, accepted_row, nack_row, spoken, spoken_mails, begun_reported, went_on, reminded, wishing, ordered_row, act_queued, offer_row, watch_row, vote_row, watched_row, elsewhere_row, outcome_row, queued, requested, request_row, learn_row, taught, ask_row, asked_again, last_entry_sent, tick_row, mailed, stepped}
 use Rattle.sc_paxos_words.specs.Definitions.{first_leader}
 
 -- the name of the group in these runs
@@ -77,7 +77,7 @@ fifth_waits :
     ∷ mail 1 1 (Accept g (b 1 1) 3 (Call 3 1 (Put (99 ∷ []) (120 ∷ []))))
     ∷ mail 1 1 (Accept g (b 1 1) 4 (Call 4 1 (Put (100 ∷ []) (120 ∷ []))))
     ∷ mail 1 1 (Accepted g (b 1 1) 1) ∷ []
-unfolding stepped mailed request_row requested queued learn_row taught ask_row asked_again told_last tick_row prepare_row promised accept_row took promise_row accepted_row readied nack_row pumped pumped_from found_for from_queues from_calls next_call offered sent_all sent_others answered answered_all nodes_to elected ended saw entered announced told_call learnt_to landed left looked executed_one executed_ready executed put_back forgotten told_effect told_order welcomed welcomed_all dismissed dismissed_all install_to spoken spoken_mails told_begun went_on reminded wishing ordered_row offer_row watch_row vote_row watched_row elsewhere_row outcome_row act_queued
+unfolding stepped mailed request_row requested queued learn_row taught ask_row asked_again last_entry_sent tick_row prepare_row promised accept_row took promise_row accepted_row readied nack_row pumped pumped_from found_for from_queues from_backlog next_queued offered sent_all sent_others answered answered_all nodes_to elected ended saw entered announced answered_or_put_back learnt_to landed left looked executed_one executed_ready executed put_back forgotten effect_reported order_reported welcomed welcomed_all dismissed dismissed_all install_to spoken spoken_mails begun_reported went_on reminded wishing ordered_row offer_row watch_row vote_row watched_row elsewhere_row outcome_row act_queued
 fifth_waits = refl
 
 -- one that is elected offers a Noop below a slot that was reported, and there the value that was reported; the Noop is counted and executed
@@ -107,7 +107,7 @@ gap :
     ∷ mail 2 2 (Accepted g (b 2 2) 2)
     ∷ mail 2 1 (Learn g 1 Noop)
     ∷ mail 2 3 (Learn g 1 Noop) ∷ []
-unfolding stepped mailed request_row requested queued learn_row taught ask_row asked_again told_last tick_row prepare_row promised accept_row took promise_row accepted_row readied nack_row pumped pumped_from found_for from_queues from_calls next_call offered sent_all sent_others answered answered_all nodes_to elected ended saw entered announced told_call learnt_to landed left looked executed_one executed_ready executed put_back forgotten told_effect told_order welcomed welcomed_all dismissed dismissed_all install_to spoken spoken_mails told_begun went_on reminded wishing ordered_row offer_row watch_row vote_row watched_row elsewhere_row outcome_row act_queued
+unfolding stepped mailed request_row requested queued learn_row taught ask_row asked_again last_entry_sent tick_row prepare_row promised accept_row took promise_row accepted_row readied nack_row pumped pumped_from found_for from_queues from_backlog next_queued offered sent_all sent_others answered answered_all nodes_to elected ended saw entered announced answered_or_put_back learnt_to landed left looked executed_one executed_ready executed put_back forgotten effect_reported order_reported welcomed welcomed_all dismissed dismissed_all install_to spoken spoken_mails begun_reported went_on reminded wishing ordered_row offer_row watch_row vote_row watched_row elsewhere_row outcome_row act_queued
 gap = refl
 
 -- a leader that sees a higher ballot answers what is in flight and what waits, and then promises
@@ -137,7 +137,7 @@ stop :
     ∷ mail 1 36 (Answer g 1 (Says.NotLeader (Some 2)))
     ∷ mail 1 37 (Answer g 1 (Says.NotLeader (Some 2)))
     ∷ mail 1 2 (Promise g (b 2 2) []) ∷ []
-unfolding stepped mailed request_row requested queued learn_row taught ask_row asked_again told_last tick_row prepare_row promised accept_row took promise_row accepted_row readied nack_row pumped pumped_from found_for from_queues from_calls next_call offered sent_all sent_others answered answered_all nodes_to elected ended saw entered announced told_call learnt_to landed left looked executed_one executed_ready executed put_back forgotten told_effect told_order welcomed welcomed_all dismissed dismissed_all install_to spoken spoken_mails told_begun went_on reminded wishing ordered_row offer_row watch_row vote_row watched_row elsewhere_row outcome_row act_queued
+unfolding stepped mailed request_row requested queued learn_row taught ask_row asked_again last_entry_sent tick_row prepare_row promised accept_row took promise_row accepted_row readied nack_row pumped pumped_from found_for from_queues from_backlog next_queued offered sent_all sent_others answered answered_all nodes_to elected ended saw entered announced answered_or_put_back learnt_to landed left looked executed_one executed_ready executed put_back forgotten effect_reported order_reported welcomed welcomed_all dismissed dismissed_all install_to spoken spoken_mails begun_reported went_on reminded wishing ordered_row offer_row watch_row vote_row watched_row elsewhere_row outcome_row act_queued
 stop = refl
 
 -- a call whose slot went to a learnt Noop is offered again at the next free slot
@@ -155,7 +155,7 @@ lost_slot :
     ∷ mail 1 1 (Accept g (b 1 1) 3 (Call 1 1 (Put (97 ∷ []) (120 ∷ []))))
     ∷ mail 1 2 (Accept g (b 1 1) 3 (Call 1 1 (Put (97 ∷ []) (120 ∷ []))))
     ∷ mail 1 3 (Accept g (b 1 1) 3 (Call 1 1 (Put (97 ∷ []) (120 ∷ [])))) ∷ []
-unfolding stepped mailed request_row requested queued learn_row taught ask_row asked_again told_last tick_row prepare_row promised accept_row took promise_row accepted_row readied nack_row pumped pumped_from found_for from_queues from_calls next_call offered sent_all sent_others answered answered_all nodes_to elected ended saw entered announced told_call learnt_to landed left looked executed_one executed_ready executed put_back forgotten told_effect told_order welcomed welcomed_all dismissed dismissed_all install_to spoken spoken_mails told_begun went_on reminded wishing ordered_row offer_row watch_row vote_row watched_row elsewhere_row outcome_row act_queued
+unfolding stepped mailed request_row requested queued learn_row taught ask_row asked_again last_entry_sent tick_row prepare_row promised accept_row took promise_row accepted_row readied nack_row pumped pumped_from found_for from_queues from_backlog next_queued offered sent_all sent_others answered answered_all nodes_to elected ended saw entered announced answered_or_put_back learnt_to landed left looked executed_one executed_ready executed put_back forgotten effect_reported order_reported welcomed welcomed_all dismissed dismissed_all install_to spoken spoken_mails begun_reported went_on reminded wishing ordered_row offer_row watch_row vote_row watched_row elsewhere_row outcome_row act_queued
 lost_slot = refl
 
 -- one that promised a higher ballot ignores an accept of a lower one
@@ -167,7 +167,7 @@ follower :
     ≡ mail 3 2 (Promise g (b 2 2) [])
     ∷ mail 3 2 (Accepted g (b 2 2) 1)
     ∷ mail 3 1 (Nack g (b 2 2)) ∷ []
-unfolding stepped mailed request_row requested queued learn_row taught ask_row asked_again told_last tick_row prepare_row promised accept_row took promise_row accepted_row readied nack_row pumped pumped_from found_for from_queues from_calls next_call offered sent_all sent_others answered answered_all nodes_to elected ended saw entered announced told_call learnt_to landed left looked executed_one executed_ready executed put_back forgotten told_effect told_order welcomed welcomed_all dismissed dismissed_all install_to spoken spoken_mails told_begun went_on reminded wishing ordered_row offer_row watch_row vote_row watched_row elsewhere_row outcome_row act_queued
+unfolding stepped mailed request_row requested queued learn_row taught ask_row asked_again last_entry_sent tick_row prepare_row promised accept_row took promise_row accepted_row readied nack_row pumped pumped_from found_for from_queues from_backlog next_queued offered sent_all sent_others answered answered_all nodes_to elected ended saw entered announced answered_or_put_back learnt_to landed left looked executed_one executed_ready executed put_back forgotten effect_reported order_reported welcomed welcomed_all dismissed dismissed_all install_to spoken spoken_mails begun_reported went_on reminded wishing ordered_row offer_row watch_row vote_row watched_row elsewhere_row outcome_row act_queued
 follower = refl
 
 -- a Nack stops a leader, and its next ballot is above the one in the Nack
@@ -183,7 +183,7 @@ nack :
     ∷ mail 1 1 (Prepare g (b 3 1) 1)
     ∷ mail 1 2 (Prepare g (b 3 1) 1)
     ∷ mail 1 3 (Prepare g (b 3 1) 1) ∷ []
-unfolding stepped mailed request_row requested queued learn_row taught ask_row asked_again told_last tick_row prepare_row promised accept_row took promise_row accepted_row readied nack_row pumped pumped_from found_for from_queues from_calls next_call offered sent_all sent_others answered answered_all nodes_to elected ended saw entered announced told_call learnt_to landed left looked executed_one executed_ready executed put_back forgotten told_effect told_order welcomed welcomed_all dismissed dismissed_all install_to spoken spoken_mails told_begun went_on reminded wishing ordered_row offer_row watch_row vote_row watched_row elsewhere_row outcome_row act_queued
+unfolding stepped mailed request_row requested queued learn_row taught ask_row asked_again last_entry_sent tick_row prepare_row promised accept_row took promise_row accepted_row readied nack_row pumped pumped_from found_for from_queues from_backlog next_queued offered sent_all sent_others answered answered_all nodes_to elected ended saw entered announced answered_or_put_back learnt_to landed left looked executed_one executed_ready executed put_back forgotten effect_reported order_reported welcomed welcomed_all dismissed dismissed_all install_to spoken spoken_mails begun_reported went_on reminded wishing ordered_row offer_row watch_row vote_row watched_row elsewhere_row outcome_row act_queued
 nack = refl
 
 -- a Noop that lost its slot to a learnt call is dropped
@@ -206,7 +206,7 @@ noop_lost :
     ∷ mail 2 1 (Accept g (b 2 2) 2 (Call 2 1 (Put (97 ∷ []) (121 ∷ []))))
     ∷ mail 2 2 (Accept g (b 2 2) 2 (Call 2 1 (Put (97 ∷ []) (121 ∷ []))))
     ∷ mail 2 3 (Accept g (b 2 2) 2 (Call 2 1 (Put (97 ∷ []) (121 ∷ [])))) ∷ []
-unfolding stepped mailed request_row requested queued learn_row taught ask_row asked_again told_last tick_row prepare_row promised accept_row took promise_row accepted_row readied nack_row pumped pumped_from found_for from_queues from_calls next_call offered sent_all sent_others answered answered_all nodes_to elected ended saw entered announced told_call learnt_to landed left looked executed_one executed_ready executed put_back forgotten told_effect told_order welcomed welcomed_all dismissed dismissed_all install_to spoken spoken_mails told_begun went_on reminded wishing ordered_row offer_row watch_row vote_row watched_row elsewhere_row outcome_row act_queued
+unfolding stepped mailed request_row requested queued learn_row taught ask_row asked_again last_entry_sent tick_row prepare_row promised accept_row took promise_row accepted_row readied nack_row pumped pumped_from found_for from_queues from_backlog next_queued offered sent_all sent_others answered answered_all nodes_to elected ended saw entered announced answered_or_put_back learnt_to landed left looked executed_one executed_ready executed put_back forgotten effect_reported order_reported welcomed welcomed_all dismissed dismissed_all install_to spoken spoken_mails begun_reported went_on reminded wishing ordered_row offer_row watch_row vote_row watched_row elsewhere_row outcome_row act_queued
 noop_lost = refl
 
 -- a tick asks again each member whose vote was not counted
@@ -225,7 +225,7 @@ tick :
     ∷ mail 1 3 (Accept g (b 1 1) 1 (Call 1 1 (Put (97 ∷ []) (120 ∷ []))))
     ∷ mail 1 2 (Accept g (b 1 1) 1 (Call 1 1 (Put (97 ∷ []) (120 ∷ []))))
     ∷ mail 1 3 (Accept g (b 1 1) 1 (Call 1 1 (Put (97 ∷ []) (120 ∷ [])))) ∷ []
-unfolding stepped mailed request_row requested queued learn_row taught ask_row asked_again told_last tick_row prepare_row promised accept_row took promise_row accepted_row readied nack_row pumped pumped_from found_for from_queues from_calls next_call offered sent_all sent_others answered answered_all nodes_to elected ended saw entered announced told_call learnt_to landed left looked executed_one executed_ready executed put_back forgotten told_effect told_order welcomed welcomed_all dismissed dismissed_all install_to spoken spoken_mails told_begun went_on reminded wishing ordered_row offer_row watch_row vote_row watched_row elsewhere_row outcome_row act_queued
+unfolding stepped mailed request_row requested queued learn_row taught ask_row asked_again last_entry_sent tick_row prepare_row promised accept_row took promise_row accepted_row readied nack_row pumped pumped_from found_for from_queues from_backlog next_queued offered sent_all sent_others answered answered_all nodes_to elected ended saw entered announced answered_or_put_back learnt_to landed left looked executed_one executed_ready executed put_back forgotten effect_reported order_reported welcomed welcomed_all dismissed dismissed_all install_to spoken spoken_mails begun_reported went_on reminded wishing ordered_row offer_row watch_row vote_row watched_row elsewhere_row outcome_row act_queued
 tick = refl
 
 -- two commands in flight, of which the second has its majority first: it is executed after the first. The group no longer holds their keys
@@ -243,7 +243,7 @@ elsewhere to = mail 1 to (Answer g 1 (Says.NotMine (record { lo = 0; len = 1 }) 
 second_first :
     (run (two_in_flight, []) (Got (mail 1 1 (Accepted g (b 1 1) 2)) ∷ Got (mail 1 1 (Accepted g (b 1 1) 1)) ∷ [])).1
     ≡ elsewhere 33 ∷ elsewhere 34 ∷ []
-unfolding stepped mailed request_row requested queued learn_row taught ask_row asked_again told_last tick_row prepare_row promised accept_row took promise_row accepted_row readied nack_row pumped pumped_from found_for from_queues from_calls next_call offered sent_all sent_others answered answered_all nodes_to elected ended saw entered announced told_call learnt_to landed left looked executed_one executed_ready executed put_back forgotten told_effect told_order welcomed welcomed_all dismissed dismissed_all install_to spoken spoken_mails told_begun went_on reminded wishing ordered_row offer_row watch_row vote_row watched_row elsewhere_row outcome_row act_queued
+unfolding stepped mailed request_row requested queued learn_row taught ask_row asked_again last_entry_sent tick_row prepare_row promised accept_row took promise_row accepted_row readied nack_row pumped pumped_from found_for from_queues from_backlog next_queued offered sent_all sent_others answered answered_all nodes_to elected ended saw entered announced answered_or_put_back learnt_to landed left looked executed_one executed_ready executed put_back forgotten effect_reported order_reported welcomed welcomed_all dismissed dismissed_all install_to spoken spoken_mails begun_reported went_on reminded wishing ordered_row offer_row watch_row vote_row watched_row elsewhere_row outcome_row act_queued
 second_first = refl
 
 -- an Ask is answered by at most 32 entries
@@ -251,10 +251,10 @@ abbrev long : ReplicaState
 long = record (born_replica 4 1 (base (1 ∷ 2 ∷ 3 ∷ []))) { log = record { base = 0; entries = replicate 40 Noop } }
 
 asked : (run (long, []) (Got (mail 2 1 (Ask g 3)) ∷ [])).1 ≡ map (λ slot. mail 1 2 (Learn g slot Noop)) (numbers_from 3 32)
-unfolding stepped mailed ask_row taught spoken spoken_mails told_begun went_on reminded wishing ordered_row offer_row watch_row vote_row watched_row elsewhere_row outcome_row act_queued
+unfolding stepped mailed ask_row taught spoken spoken_mails begun_reported went_on reminded wishing ordered_row offer_row watch_row vote_row watched_row elsewhere_row outcome_row act_queued
 asked = refl
 
 -- a tick of a settled leader with nothing in flight tells the others its last entry
 told_again : (run (long, []) (Tick ∷ [])).1 ≡ mail 1 2 (Learn g 40 Noop) ∷ mail 1 3 (Learn g 40 Noop) ∷ []
-unfolding stepped mailed request_row requested queued learn_row taught ask_row asked_again told_last tick_row prepare_row promised accept_row took promise_row accepted_row readied nack_row pumped pumped_from found_for from_queues from_calls next_call offered sent_all sent_others answered answered_all nodes_to elected ended saw entered announced told_call learnt_to landed left looked executed_one executed_ready executed put_back forgotten told_effect told_order welcomed welcomed_all dismissed dismissed_all install_to spoken spoken_mails told_begun went_on reminded wishing ordered_row offer_row watch_row vote_row watched_row elsewhere_row outcome_row act_queued
+unfolding stepped mailed request_row requested queued learn_row taught ask_row asked_again last_entry_sent tick_row prepare_row promised accept_row took promise_row accepted_row readied nack_row pumped pumped_from found_for from_queues from_backlog next_queued offered sent_all sent_others answered answered_all nodes_to elected ended saw entered announced answered_or_put_back learnt_to landed left looked executed_one executed_ready executed put_back forgotten effect_reported order_reported welcomed welcomed_all dismissed dismissed_all install_to spoken spoken_mails begun_reported went_on reminded wishing ordered_row offer_row watch_row vote_row watched_row elsewhere_row outcome_row act_queued
 told_again = refl

@@ -224,8 +224,8 @@ outcomes = both same_outcome outcome_read outcome_itself
 
 -- ---- commands
 
-calls : (c d n m : ℕ) (a b : Op) → Decides ((c == d) && ((n == m) && same_op a b)) ((c ≡ d) × ((n ≡ m) × (a ≡ b)))
-calls c d n m a b = Decides-and _ _ (Decides-eqb c d) (Decides-and _ _ (Decides-eqb n m) (ops a b))
+backlog : (c d n m : ℕ) (a b : Op) → Decides ((c == d) && ((n == m) && same_op a b)) ((c ≡ d) × ((n ≡ m) × (a ≡ b)))
+backlog c d n m a b = Decides-and _ _ (Decides-eqb c d) (Decides-and _ _ (Decides-eqb n m) (ops a b))
 
 twos : (a b n m : ℕ) → Decides ((a == b) && (n == m)) ((a ≡ b) × (n ≡ m))
 twos a b n m = Decides-and _ _ (Decides-eqb a b) (Decides-eqb n m)
@@ -241,7 +241,7 @@ by_node same tells t u a b n m = Decides-and _ _ (draws t u) (Decides-and _ _ (t
 
 command_read : (a b : Command) → same_command a b ≡ true → a ≡ b
 command_read Noop Noop e = refl
-command_read (Call c n a) (Call d m b) e = let q = (calls c d n m a b).0 e in λ i. Call (q.0 i) (q.1.0 i) (q.1.1 i)
+command_read (Call c n a) (Call d m b) e = let q = (backlog c d n m a b).0 e in λ i. Call (q.0 i) (q.1.0 i) (q.1.1 i)
 command_read (Join a n) (Join b m) e = let q = (twos a b n m).0 e in λ i. Join (q.0 i) (q.1 i)
 command_read (Leave a n) (Leave b m) e = let q = (twos a b n m).0 e in λ i. Leave (q.0 i) (q.1 i)
 command_read (Split a c n) (Split b d m) e = let q = (splits a b n m c d).0 e in λ i. Split (q.0 i) (q.1.0 i) (q.1.1 i)
@@ -256,7 +256,7 @@ command_read a b e = no_way e
 
 command_itself : (a : Command) → same_command a a ≡ true
 command_itself Noop = refl
-command_itself (Call c n a) = (calls c c n n a a).1 (refl, (refl, refl))
+command_itself (Call c n a) = (backlog c c n n a a).1 (refl, (refl, refl))
 command_itself (Join a n) = (twos a a n n).1 (refl, refl)
 command_itself (Leave a n) = (twos a a n n).1 (refl, refl)
 command_itself (Split a c n) = (splits a a n n c c).1 (refl, (refl, refl))

@@ -17,7 +17,7 @@ use Rattle.sc_cmd.specs.declared.orders.Order.{Order}
 use Rattle.sc_cmd.specs.declared.orders.Order.TheVariants as An
 use Rattle.sc_cmd.specs.declared.orders.OrderLine.{OrderLine}
 use Rattle.sc_cmd.specs.declared.orders.OrderRefusal.TheVariants.{NotLeader, LastMember}
-use Rattle.sc_cmd.specs.declared.orders.ToldResult.TheVariants.{Committed, Aborted, Refused}
+use Rattle.sc_cmd.specs.declared.orders.OrderResult.TheVariants.{Committed, Aborted, Refused}
 use Rattle.sc_cmd.specs.declared.votes.Frozen.{Frozen}
 use Rattle.sc_cmd.specs.declared.votes.Heard.{Heard}
 use Rattle.sc_cmd.specs.declared.votes.No.TheVariants as Why
@@ -28,7 +28,7 @@ use Rattle.sc_cmd.specs.declared.votes.Past.TheVariants as Cast
 use Rattle.sc_cmd.specs.declared.votes.Vote.TheVariants as Says
 use Rattle.sc_mail.specs.declared.bodies.MailBody.TheVariants.{Accept, TxPrepare, TxVote, TxOutcome, TxElsewhere, TxWatch, TxWatched, Told}
 use Rattle.sc_machine_table.specs.Definitions.{group_of, frozen_of}
-use Rattle.sc_node_table.specs.Definitions.{Place, born_replica, sent_all, answered, told_order, next_call, from_calls, from_queues, found_for, offered, pumped_from, pumped, act_queued, offer_row, vote_row, watched_row, elsewhere_row, outcome_row, reminded, ordered_row, names_after, before_of, told_begun, went_on, spoken_mails, spoken}
+use Rattle.sc_node_table.specs.Definitions.{Place, born_replica, sent_all, answered, order_reported, next_queued, from_backlog, from_queues, found_for, offered, pumped_from, pumped, act_queued, offer_row, vote_row, watched_row, elsewhere_row, outcome_row, reminded, ordered_row, names_after, before_of, begun_reported, went_on, spoken_mails, spoken}
 use Rattle.sc_node_table.proofs.Runs.{g, b, mail}
 
 -- the participant's name, and the transaction's
@@ -103,12 +103,12 @@ merging = Coordinating tx Merge 1 None
 
 -- an offer goes into the log, and a second one of that transaction does not
 offered_once : (offer_row 1 tx offer (offer_row 1 tx offer (at 2 (right_core Free [])))).1 ≡ mail 2 2 (Accept h (b 1 2) 1 (Prepared tx offer)) ∷ []
-unfolding offer_row act_queued pumped pumped_from found_for from_queues from_calls next_call offered sent_all answered
+unfolding offer_row act_queued pumped pumped_from found_for from_queues from_backlog next_queued offered sent_all answered
 offered_once = refl
 
 -- one that does not lead names the leader
 passed : (offer_row 1 tx offer (at 3 (right_core Free []))).1 ≡ mail 3 1 (TxElsewhere tx g (Some 2)) ∷ []
-unfolding offer_row act_queued pumped pumped_from found_for from_queues from_calls next_call offered sent_all answered
+unfolding offer_row act_queued pumped pumped_from found_for from_queues from_backlog next_queued offered sent_all answered
 passed = refl
 
 -- a No that was noted is said again, by any replica; so is a Yes under whose lock the group is; of what has ended nothing is said
@@ -131,7 +131,7 @@ said_gone = refl
 
 -- the outcome goes into the log of a group that is bound, once; into no other
 finishes : (outcome_row tx Abort (outcome_row tx (Merged into) (at 2 (right_core (Promised tx offer) ((tx, Cast.Yes) ∷ []))))).1 ≡ mail 2 2 (Accept h (b 1 2) 1 (Finish tx (Merged into))) ∷ []
-unfolding outcome_row act_queued pumped pumped_from found_for from_queues from_calls next_call offered sent_all answered
+unfolding outcome_row act_queued pumped pumped_from found_for from_queues from_backlog next_queued offered sent_all answered
 finishes = refl
 
 free_stays : (outcome_row tx Abort (at 2 (right_core Free []))).1 ≡ []
@@ -142,12 +142,12 @@ free_stays = refl
 
 -- its question when it has begun, and when a node did not lead
 begins : (spoken true (before_of (left_core (1 ∷ []) Free [])) Changed (Begin tx Merge 1) (at 1 (left_core (1 ∷ []) merging []))).1 ≡ mail 1 2 (TxPrepare tx offer) ∷ []
-unfolding spoken spoken_mails told_begun went_on told_order sent_all
+unfolding spoken spoken_mails begun_reported went_on order_reported sent_all
 begins = refl
 
 -- a Begin of a split, which is in no lawful journal, sends an offer too
 begins_split : (spoken true (before_of (left_core (1 ∷ []) Free [])) Changed (Begin tx (Divide 7 tx) 1) (at 1 (left_core (1 ∷ []) (Coordinating tx (Divide 7 tx) 1 None) []))).1 ≡ mail 1 2 (TxPrepare tx (record offer { body = Divide 7 tx })) ∷ []
-unfolding spoken spoken_mails told_begun went_on told_order sent_all
+unfolding spoken spoken_mails begun_reported went_on order_reported sent_all
 begins_split = refl
 
 asks_again : (elsewhere_row 2 tx (Some 5) (elsewhere_row 2 tx None (at 1 (left_core (1 ∷ []) merging [])))).1 ≡ mail 1 2 (TxPrepare tx offer) ∷ mail 1 5 (TxPrepare tx offer) ∷ []
@@ -157,7 +157,7 @@ asks_again = refl
 -- a vote goes into the log, once; a watcher's vote does not while the participant is asked
 votes : (watched_row 2 tx h Cast.Yes (vote_row 2 tx h (Says.Yes frozen) (vote_row 2 tx h (Says.Yes frozen) (at 1 (left_core (1 ∷ []) merging []))))).1
     ≡ mail 1 1 (Accept g (b 1 1) 1 (RecordVote tx (Says.Yes frozen) 2)) ∷ []
-unfolding vote_row watched_row act_queued pumped pumped_from found_for from_queues from_calls next_call offered sent_all answered
+unfolding vote_row watched_row act_queued pumped pumped_from found_for from_queues from_backlog next_queued offered sent_all answered
 votes = refl
 
 -- a Yes that comes after the decision is answered with it; a No is not
@@ -168,11 +168,11 @@ too_late = refl
 -- what a Yes decides is reported to the desk by each replica, and sent to the node that sent the Yes
 decides : (spoken true (before_of (left_core (1 ∷ []) merging [])) (Decided (Merged into)) (RecordVote tx (Says.Yes frozen) 2) (at 1 (left_core (1 ∷ 2 ∷ []) Free []))).1
     ≡ mail 1 0 (Told 1 Committed) ∷ mail 1 2 (TxOutcome tx h (Merged into)) ∷ []
-unfolding spoken spoken_mails told_begun went_on told_order sent_all
+unfolding spoken spoken_mails begun_reported went_on order_reported sent_all
 decides = refl
 
 learns : (spoken false (before_of (left_core (1 ∷ []) merging [])) (Decided Abort) (GiveUp tx) (at 3 (left_core (1 ∷ []) Free []))).1 ≡ mail 3 0 (Told 1 Aborted) ∷ []
-unfolding spoken spoken_mails told_begun went_on told_order sent_all
+unfolding spoken spoken_mails begun_reported went_on order_reported sent_all
 learns = refl
 
 -- one that gives up tells the participant, and the watcher where one was asked: here group 0.3 of node 3
@@ -184,7 +184,7 @@ heard = record { frozen = record frozen { succ = link w (3 ∷ []) }; by = 2 }
 
 gives_up : (spoken true (before_of (left_core (1 ∷ []) (Coordinating tx Merge 1 (Some heard)) [])) (Decided Abort) (GiveUp tx) (at 1 (left_core (1 ∷ []) Free []))).1
     ≡ mail 1 0 (Told 1 Aborted) ∷ mail 1 2 (TxOutcome tx h Abort) ∷ mail 1 3 (TxOutcome tx w Abort) ∷ []
-unfolding spoken spoken_mails told_begun went_on told_order sent_all
+unfolding spoken spoken_mails begun_reported went_on order_reported sent_all
 gives_up = refl
 
 -- after a participant with another successor the watcher is asked to take the group with the members of both for its predecessor
@@ -193,19 +193,19 @@ watch = record { coord = g; members = 1 ∷ []; part = w; old = h; next = link g
 
 hears : (spoken true (before_of (left_core (1 ∷ []) merging [])) Changed (RecordVote tx (Says.Yes heard.frozen) 2) (at 1 (left_core (1 ∷ []) (Coordinating tx Merge 1 (Some heard)) []))).1
     ≡ mail 1 3 (TxWatch tx watch) ∷ []
-unfolding spoken spoken_mails told_begun went_on told_order sent_all
+unfolding spoken spoken_mails begun_reported went_on order_reported sent_all
 hears = refl
 
 -- what a watcher's Yes decides is sent to the participant, and then to the watcher
 releases : (spoken true (before_of (left_core (1 ∷ []) (Coordinating tx Merge 1 (Some heard)) [])) (Decided (Merged into)) (RecordWatch tx Cast.Yes 3) (at 1 (left_core (1 ∷ 2 ∷ []) Free []))).1
     ≡ mail 1 0 (Told 1 Committed) ∷ mail 1 2 (TxOutcome tx h (Merged into)) ∷ mail 1 3 (TxOutcome tx w (Merged into)) ∷ []
-unfolding spoken spoken_mails told_begun went_on told_order sent_all
+unfolding spoken spoken_mails begun_reported went_on order_reported sent_all
 releases = refl
 
 -- a split that only locks asks the successor, which stands behind the child then, and tells nothing; the child has the greater half
 splits : (spoken true (before_of (left_core (1 ∷ 4 ∷ 5 ∷ []) Free [])) Changed (Split 7 tx 2) (at 1 (left_core (1 ∷ 4 ∷ 5 ∷ []) (Coordinating tx (Divide 7 tx) 2 None) []))).1
     ≡ mail 1 2 (TxWatch tx (record { coord = g; members = 1 ∷ 4 ∷ 5 ∷ []; part = h; old = g; next = link tx (5 ∷ []); by = 1 })) ∷ []
-unfolding spoken spoken_mails told_begun went_on told_order sent_all
+unfolding spoken spoken_mails begun_reported went_on order_reported sent_all
 splits = refl
 
 -- ---- ticks and orders
@@ -243,14 +243,14 @@ abbrev pub drawer : ℕ → Drawer
 drawer next = record { node = 1; next = next }
 
 ordered : (ordered_row (drawer 1) (line (An.Merge g)) (at 1 (left_core (1 ∷ []) Free []))).1 ≡ mail 1 1 (Accept g (b 1 1) 1 (Begin tx Merge 1)) ∷ []
-unfolding ordered_row pumped pumped_from found_for from_queues from_calls next_call offered sent_all answered
+unfolding ordered_row pumped pumped_from found_for from_queues from_backlog next_queued offered sent_all answered
 ordered = refl
 
 drawn : names_after (drawer 1) (line (An.Merge g)) (at 1 (left_core (1 ∷ []) Free [])).0 ≡ drawer 2
 drawn = refl
 
 spent : (ordered_row (drawer (2 ^ 32 - 1)) (line (An.Merge g)) (at 1 (left_core (1 ∷ []) Free []))).1 ≡ mail 1 0 (Told 1 (Refused (NotLeader (Some 1)))) ∷ []
-unfolding ordered_row pumped pumped_from found_for from_queues from_calls next_call offered sent_all answered
+unfolding ordered_row pumped pumped_from found_for from_queues from_backlog next_queued offered sent_all answered
 spent = refl
 
 kept : names_after (drawer (2 ^ 32 - 1)) (line (An.Merge g)) (at 1 (left_core (1 ∷ []) Free [])).0 ≡ drawer (2 ^ 32 - 1)
@@ -258,7 +258,7 @@ kept = refl
 
 -- a refused order draws no name: a group of one member is not split
 refused : (ordered_row (drawer 1) (line (An.Split g 5)) (at 1 (left_core (1 ∷ []) Free []))).1 ≡ mail 1 0 (Told 1 (Refused LastMember)) ∷ []
-unfolding ordered_row pumped pumped_from found_for from_queues from_calls next_call offered sent_all answered
+unfolding ordered_row pumped pumped_from found_for from_queues from_backlog next_queued offered sent_all answered
 refused = refl
 
 undrawn : names_after (drawer 1) (line (An.Split g 5)) (at 1 (left_core (1 ∷ []) Free [])).0 ≡ drawer 1

@@ -40,8 +40,8 @@ elected (r, mails) =
 -- the replica stops running: the client of each request in flight, ready or queued gets this answer, and of each queued order it is reported to the desk that this node does not lead
 unfoldable pub ended : Option ℕ → AnswerBody → Place → Place
 ended hint answer (r, mails) = (
-  record r { running = false; leader = new_leader r.leader.ballot (next r); ready = []; acts = []; calls = []; hint = hint },
-  dismissed_all r.me (name_of r) hint answer r.calls (answered_all r.me (name_of r) answer (under_way r) mails),
+  record r { running = false; leader = new_leader r.leader.ballot (next r); ready = []; acts = []; backlog = []; hint = hint },
+  dismissed_all r.me (name_of r) hint answer r.backlog (answered_all r.me (name_of r) answer (under_way r) mails),
 )
 
 -- the replica stops running, and takes this node for the leader

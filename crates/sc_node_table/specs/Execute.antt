@@ -9,14 +9,14 @@ use Rattle.sc_cmd.specs.declared.effects.Effect.TheVariants as Was
 use Rattle.sc_mail.specs.declared.bodies.AnswerBody.{AnswerBody}
 use Rattle.sc_mail.specs.declared.bodies.AnswerBody.TheVariants as Says
 use Rattle.sc_mail.specs.declared.bodies.MailBody.TheVariants.{Learn}
-use Rattle.sc_cmd.specs.declared.orders.ToldResult.{ToldResult}
+use Rattle.sc_cmd.specs.declared.orders.OrderResult.{OrderResult}
 use Rattle.sc_cmd.specs.Definitions.{result_of}
 use Rattle.sc_base.specs.Definitions.{is_member, least_of}
 use Rattle.sc_paxos_words.specs.Definitions.{LogState, learnt, next_of, without_flight_at}
 use Rattle.sc_machine_table.specs.Definitions.{child_by, applied}
 use Rattle.sc_node_table.specs.Slots.{rest_of, at_slot, without_slot}
 use Rattle.sc_node_table.specs.Replica.{ReplicaState, Place, Executed, childless, name_of, next, members, flying, last_slot, forgotten, waits_in}
-use Rattle.sc_node_table.specs.Mails.{answer_to, sent_others, order_number, told_order}
+use Rattle.sc_node_table.specs.Mails.{answer_to, sent_others, order_number, order_reported}
 use Rattle.sc_node_table.specs.Queues.{put_back}
 use Rattle.sc_node_table.specs.Sameness.{same_command}
 use Rattle.sc_node_table.specs.Election.{elected, ended, stopped}
@@ -49,13 +49,13 @@ answer_of (Was.Decided outcome) = None
 answer_of (Was.Refused why) = None
 
 -- the client of a counted request gets the answer, or the request is queued again where there is none
-unfoldable pub told_call : Option AnswerBody → Command → Place → Place
-told_call (Some answer) (Call client seq op) (r, mails) = (r, answer_to r.me (name_of r) client seq answer mails)
-told_call None (Call client seq op) (r, mails) = (put_back (Call client seq op) r, mails)
-told_call answer command place = place
+unfoldable pub answered_or_put_back : Option AnswerBody → Command → Place → Place
+answered_or_put_back (Some answer) (Call client seq op) (r, mails) = (r, answer_to r.me (name_of r) client seq answer mails)
+answered_or_put_back None (Call client seq op) (r, mails) = (put_back (Call client seq op) r, mails)
+answered_or_put_back answer command place = place
 
 -- the result of a join or a leave by its effect, which each replica that executes it reports; splits and transactions are reported elsewhere
-abbrev pub order_result : Command → Effect → Option ToldResult
+abbrev pub order_result : Command → Effect → Option OrderResult
 order_result (Join node order) effect = result_of effect
 order_result (Leave node order) effect = result_of effect
 order_result Noop effect = None
@@ -70,14 +70,14 @@ order_result (Watched tx watch) effect = None
 order_result (RecordWatch tx vote by) effect = None
 
 -- the result, if there is one, is reported to the desk
-unfoldable pub told_effect : Option ToldResult → Command → Place → Place
-told_effect None command place = place
-told_effect (Some result) command (r, mails) = (r, told_order r.me (order_number command) result mails)
+unfoldable pub effect_reported : Option OrderResult → Command → Place → Place
+effect_reported None command place = place
+effect_reported (Some result) command (r, mails) = (r, order_reported r.me (order_number command) result mails)
 
 -- the answer to a counted request and the result of an order are sent
 unfoldable pub announced : Bool → Effect → Command → Place → Place
 announced counted effect command place =
-    told_effect (order_result command effect) command (if counted then told_call (answer_of effect) command place else place)
+    effect_reported (order_result command effect) command (if counted then answered_or_put_back (answer_of effect) command place else place)
 
 -- the members before a counted command learn the command
 unfoldable pub learnt_to : Bool → List ℕ → ℕ → Command → Place → Place

@@ -5,13 +5,13 @@ use Rattle.sc_base.specs.declared.names.Draw.{Draw}
 use Rattle.sc_cmd.specs.declared.commands.Command.{Command}
 use Rattle.sc_cmd.specs.declared.commands.Command.TheVariants.{Noop, Call, Join, Leave, Split, Begin, Prepared, RecordVote, GiveUp, Finish, Watched, RecordWatch}
 use Rattle.sc_cmd.specs.declared.orders.OrderRefusal.TheVariants.{NotLeader}
-use Rattle.sc_cmd.specs.declared.orders.ToldResult.{ToldResult}
-use Rattle.sc_cmd.specs.declared.orders.ToldResult.TheVariants.{Refused}
+use Rattle.sc_cmd.specs.declared.orders.OrderResult.{OrderResult}
+use Rattle.sc_cmd.specs.declared.orders.OrderResult.TheVariants.{Refused}
 use Rattle.sc_mail.specs.declared.bodies.AnswerBody.{AnswerBody}
 use Rattle.sc_mail.specs.declared.bodies.MailBody.{MailBody}
 use Rattle.sc_mail.specs.declared.bodies.MailBody.TheVariants.{Answer, Told}
 use Rattle.sc_mail.specs.declared.bodies.Mail.{Mail}
-use Rattle.sc_policy.specs.Definitions.{is_told}
+use Rattle.sc_policy.specs.Definitions.{is_reported}
 
 -- one mail more
 abbrev pub sent : ℕ → ℕ → MailBody → List Mail → List Mail
@@ -42,8 +42,8 @@ answered_all me group answer [] mails = mails
 answered_all me group answer (command ∷ commands) mails = answered_all me group answer commands (answered me group answer command mails)
 
 -- the result of an order is reported to the desk
-abbrev pub told_desk : ℕ → ℕ → ToldResult → List Mail → List Mail
-told_desk me number result mails = sent me 0 (Told number result) mails
+abbrev pub result_sent : ℕ → ℕ → OrderResult → List Mail → List Mail
+result_sent me number result mails = sent me 0 (Told number result) mails
 
 -- the number of the order that a command comes from, or 0 where a policy ordered it or it comes from none
 abbrev pub order_number : Command → ℕ
@@ -61,13 +61,13 @@ order_number (Watched tx watch) = 0
 order_number (RecordWatch tx vote by) = 0
 
 -- the result of an order is reported to the desk, unless its number is 0
-unfoldable pub told_order : ℕ → ℕ → ToldResult → List Mail → List Mail
-told_order me number result mails = if is_told number then told_desk me number result mails else mails
+unfoldable pub order_reported : ℕ → ℕ → OrderResult → List Mail → List Mail
+order_reported me number result mails = if is_reported number then result_sent me number result mails else mails
 
 -- the client of a queued request gets this answer; of a queued order it is reported that this node, which takes `hint` for the leader, does not lead
 unfoldable pub dismissed : ℕ → Draw → Option ℕ → AnswerBody → Command → List Mail → List Mail
 dismissed me group hint answer (Call client seq op) mails = answer_to me group client seq answer mails
-dismissed me group hint answer command mails = told_order me (order_number command) (Refused (NotLeader hint)) mails
+dismissed me group hint answer command mails = order_reported me (order_number command) (Refused (NotLeader hint)) mails
 
 -- each of these queued commands is answered or reported, in their order
 unfoldable pub dismissed_all : ℕ → Draw → Option ℕ → AnswerBody → List Command → List Mail → List Mail

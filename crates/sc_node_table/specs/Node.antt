@@ -10,14 +10,14 @@ use Rattle.sc_cmd.specs.declared.orders.Order.{Order}
 use Rattle.sc_cmd.specs.declared.orders.Order.TheVariants as An
 use Rattle.sc_cmd.specs.declared.orders.OrderLine.{OrderLine}
 use Rattle.sc_cmd.specs.declared.orders.OrderRefusal.TheVariants.{NotLeader}
-use Rattle.sc_cmd.specs.declared.orders.ToldResult.TheVariants.{Refused}
+use Rattle.sc_cmd.specs.declared.orders.OrderResult.TheVariants.{Refused}
 use Rattle.sc_mail.specs.declared.bodies.AnswerBody.TheVariants as Says
 use Rattle.sc_mail.specs.declared.bodies.MailBody.{MailBody}
 use Rattle.sc_mail.specs.declared.bodies.MailBody.TheVariants.{Request, Answer, Prepare, Promise, Accept, Accepted, Nack, Learn, Ask, Install, TxPrepare, TxVote, TxOutcome, TxElsewhere, TxWatch, TxWatched, Told as ToldMail}
 use Rattle.sc_mail.specs.declared.bodies.Mail.{Mail}
 use Rattle.sc_node_table.specs.Slots.{slots_ahead}
 use Rattle.sc_node_table.specs.Replica.{ReplicaState, Place, name_of, born_replica, last_slot}
-use Rattle.sc_node_table.specs.Mails.{sent, answer_to, told_desk}
+use Rattle.sc_node_table.specs.Mails.{sent, answer_to, result_sent}
 use Rattle.sc_node_table.specs.Rows.{mailed, tick_row, made_by}
 use Rattle.sc_node_table.specs.Ordering.{ordered_row, names_after}
 use Rattle.sc_node_table.specs.Policy.{names_after_tick}
@@ -178,7 +178,7 @@ group_of_order (An.Migrate group node) = group
 
 -- what a node does with an order, by its replica of the order's group; without one it refuses the order
 abbrev pub ordered_of : Option ReplicaState → OrderLine → NodeState → NodeState × List Mail
-ordered_of None line node = (node, told_desk node.me line.number (Refused (NotLeader None)) [])
+ordered_of None line node = (node, result_sent node.me line.number (Refused (NotLeader None)) [])
 ordered_of (Some r) line node =
     let after = ordered_row node.draws line (r, []) in
     (record node { draws = names_after node.draws line r; replicas = with_replica (group_of_order line.order) after.0 node.replicas }, after.1)

@@ -10,11 +10,11 @@ use Rattle.sc_cmd.specs.declared.orders.Order.TheVariants as An
 use Rattle.sc_cmd.specs.declared.orders.OrderLine.{OrderLine}
 use Rattle.sc_cmd.specs.declared.orders.OrderRefusal.{OrderRefusal}
 use Rattle.sc_cmd.specs.declared.orders.OrderRefusal.TheVariants.{NotLeader}
-use Rattle.sc_cmd.specs.declared.orders.ToldResult.TheVariants.{Refused}
+use Rattle.sc_cmd.specs.declared.orders.OrderResult.TheVariants.{Refused}
 use Rattle.sc_machine_table.specs.Definitions.{refusal_of}
 use Rattle.sc_node_table.specs.Replica.{ReplicaState, Place, settled}
-use Rattle.sc_node_table.specs.Mails.{told_desk}
-use Rattle.sc_node_table.specs.Queues.{with_call}
+use Rattle.sc_node_table.specs.Mails.{result_sent}
+use Rattle.sc_node_table.specs.Queues.{with_order_queued}
 use Rattle.sc_node_table.specs.Pump.{pumped}
 
 -- the command of an order, with this name for its child or its transaction
@@ -55,14 +55,14 @@ untaken drawer line r =
     else first_of_both (refusal_of r.group.core (ordered_command (next_name drawer) line.number line.order)) (named_refused drawer line.order r)
 
 -- an order that is accepted is queued last, and the pump is tried; a refusal is reported to the desk
-abbrev pub taken_or_told : Option OrderRefusal → ℕ → Command → Place → Place
-taken_or_told (Some why) number command (r, mails) = (r, told_desk r.me number (Refused why) mails)
-taken_or_told None number command (r, mails) = pumped (with_call command r, mails)
+abbrev pub queued_or_refused : Option OrderRefusal → ℕ → Command → Place → Place
+queued_or_refused (Some why) number command (r, mails) = (r, result_sent r.me number (Refused why) mails)
+queued_or_refused None number command (r, mails) = pumped (with_order_queued command r, mails)
 
 -- what a replica does with an order
 unfoldable pub ordered_row : Drawer → OrderLine → Place → Place
 ordered_row drawer line (r, mails) =
-    taken_or_told (untaken drawer line r) line.number (ordered_command (next_name drawer) line.number line.order) (r, mails)
+    queued_or_refused (untaken drawer line r) line.number (ordered_command (next_name drawer) line.number line.order) (r, mails)
 
 -- the names that are left after an order: an accepted order takes one, if its kind takes any
 abbrev pub names_after : Drawer → OrderLine → ReplicaState → Drawer

@@ -11,7 +11,7 @@ use Rattle.sc_cmd.specs.declared.orders.OrderLine.{OrderLine}
 use Rattle.sc_cmd.specs.declared.orders.OrderRefusal.{OrderRefusal}
 use Rattle.sc_policy.specs.Definitions.{wished_order}
 use Rattle.sc_node_table.specs.Replica.{ReplicaState, Place, members, settled, is_idle}
-use Rattle.sc_node_table.specs.Queues.{with_call}
+use Rattle.sc_node_table.specs.Queues.{with_order_queued}
 use Rattle.sc_node_table.specs.Reminders.{waited_in}
 use Rattle.sc_node_table.specs.Ordering.{ordered_command, untaken, names_after}
 
@@ -24,7 +24,7 @@ is_free (Watching tx watch) = false
 
 -- whether a replica is at rest: nothing is in flight or ready, nothing is queued, and its group is in no transaction
 abbrev pub is_at_rest : ReplicaState → Bool
-is_at_rest r = is_idle r && (length r.acts == 0) && (length r.calls == 0) && is_free r.group.core.lock
+is_at_rest r = is_idle r && (length r.acts == 0) && (length r.backlog == 0) && is_free r.group.core.lock
 
 -- the order of a policy, whose number is 0
 abbrev pub policy_line : Order → OrderLine
@@ -38,7 +38,7 @@ wished_line on r =
 -- the replica with a command queued last, unless it is refused
 abbrev pub with_command : Option OrderRefusal → Command → ReplicaState → ReplicaState
 with_command (Some why) command r = r
-with_command None command r = with_call command r
+with_command None command r = with_order_queued command r
 
 -- the replica with an order of a policy queued, if it is accepted; a refusal is not reported
 abbrev pub with_line : Drawer → Option OrderLine → ReplicaState → ReplicaState

@@ -39,26 +39,26 @@ is_act (Watched tx watch) = true
 is_act (RecordWatch tx vote by) = true
 
 -- whether a group with this lock serves requests
-abbrev pub serves_calls : Lock → Bool
-serves_calls Free = true
-serves_calls (Watching tx watch) = true
-serves_calls (Coordinating tx body order heard) = false
-serves_calls (Promised tx offer) = false
+abbrev pub admits_requests : Lock → Bool
+admits_requests Free = true
+admits_requests (Watching tx watch) = true
+admits_requests (Coordinating tx body order heard) = false
+admits_requests (Promised tx offer) = false
 
--- whether the command at the head of the queue `calls` must wait: every one for the lock, and an order also until nothing is under way
+-- whether the command at the head of the queue `backlog` must wait: every one for the lock, and an order also until nothing is under way
 abbrev pub waits : Bool → Lock → Command → Bool
-waits idle lock (Call client seq op) = not (serves_calls lock)
-waits idle lock Noop = not (serves_calls lock) || not idle
-waits idle lock (Join node order) = not (serves_calls lock) || not idle
-waits idle lock (Leave node order) = not (serves_calls lock) || not idle
-waits idle lock (Split at child order) = not (serves_calls lock) || not idle
-waits idle lock (Begin tx body order) = not (serves_calls lock) || not idle
-waits idle lock (Prepared tx offer) = not (serves_calls lock) || not idle
-waits idle lock (RecordVote tx vote by) = not (serves_calls lock) || not idle
-waits idle lock (GiveUp tx) = not (serves_calls lock) || not idle
-waits idle lock (Finish tx outcome) = not (serves_calls lock) || not idle
-waits idle lock (Watched tx watch) = not (serves_calls lock) || not idle
-waits idle lock (RecordWatch tx vote by) = not (serves_calls lock) || not idle
+waits idle lock (Call client seq op) = not (admits_requests lock)
+waits idle lock Noop = not (admits_requests lock) || not idle
+waits idle lock (Join node order) = not (admits_requests lock) || not idle
+waits idle lock (Leave node order) = not (admits_requests lock) || not idle
+waits idle lock (Split at child order) = not (admits_requests lock) || not idle
+waits idle lock (Begin tx body order) = not (admits_requests lock) || not idle
+waits idle lock (Prepared tx offer) = not (admits_requests lock) || not idle
+waits idle lock (RecordVote tx vote by) = not (admits_requests lock) || not idle
+waits idle lock (GiveUp tx) = not (admits_requests lock) || not idle
+waits idle lock (Finish tx outcome) = not (admits_requests lock) || not idle
+waits idle lock (Watched tx watch) = not (admits_requests lock) || not idle
+waits idle lock (RecordWatch tx vote by) = not (admits_requests lock) || not idle
 
 -- the answer to a request that the group does not serve, or None where it serves it
 abbrev pub refused_by : Option Route → Core → Op → Option AnswerBody
@@ -80,22 +80,22 @@ turned_down core (Finish tx outcome) = None
 turned_down core (Watched tx watch) = None
 turned_down core (RecordWatch tx vote by) = None
 
--- the command at the head of the queue `calls` that may get a slot, if there is one, with the rest of the queue and the mail; the requests before it that the group does not serve are answered without a slot
-unfoldable pub next_call : ℕ → Bool → Core → List Command → List Mail → Option Command × List Command × List Mail
-next_call me idle core [] mails = (None, [], mails)
-next_call me idle core (command ∷ calls) mails =
-    if waits idle core.lock command then (None, command ∷ calls, mails)
-    else elim (turned_down core command) [ None ↦ (Some command, calls, mails) | Some answer ↦ next_call me idle core calls (answered me core.id answer command mails) ]
+-- the command at the head of the queue `backlog` that may get a slot, if there is one, with the rest of the queue and the mail; the requests before it that the group does not serve are answered without a slot
+unfoldable pub next_queued : ℕ → Bool → Core → List Command → List Mail → Option Command × List Command × List Mail
+next_queued me idle core [] mails = (None, [], mails)
+next_queued me idle core (command ∷ backlog) mails =
+    if waits idle core.lock command then (None, command ∷ backlog, mails)
+    else elim (turned_down core command) [ None ↦ (Some command, backlog, mails) | Some answer ↦ next_queued me idle core backlog (answered me core.id answer command mails) ]
 
--- what is found in the queue `calls`, from which the requests answered without a slot are removed
-unfoldable pub from_calls : Place → Found
-from_calls (r, mails) =
-    let found = next_call r.me (is_idle r) r.group.core r.calls mails in
-    (found.0, (record r { calls = found.1 }, found.2))
+-- what is found in the queue `backlog`, from which the requests answered without a slot are removed
+unfoldable pub from_backlog : Place → Found
+from_backlog (r, mails) =
+    let found = next_queued r.me (is_idle r) r.group.core r.backlog mails in
+    (found.0, (record r { backlog = found.1 }, found.2))
 
--- what is found in the queues: the head of `acts`, but only while nothing is under way, and where `acts` is empty what is found in `calls`
+-- what is found in the queues: the head of `acts`, but only while nothing is under way, and where `acts` is empty what is found in `backlog`
 abbrev pub from_acts : List Command → Place → Found
-from_acts [] place = from_calls place
+from_acts [] place = from_backlog place
 from_acts (act ∷ acts) (r, mails) = if is_idle r then (Some act, (record r { acts = acts }, mails)) else (None, (r, mails))
 
 -- what is found in the queues, unless a command other than a request and a Noop is under way

@@ -13,7 +13,7 @@ use Rattle.sc_paxos_words.specs.Definitions.{LogState, empty_log, next_of, insta
 use Rattle.sc_machine_table.specs.Definitions.{Group, group_of}
 use Rattle.sc_node_table.specs.Slots.{at_slot, numbers_from}
 
--- the state of a replica: `me` the node's number; `group` the executed state and `log` the executed entries; `acceptor`; `hint` the node that it takes for the leader; `top` the greatest ballot seen; `running` whether it runs as candidate or leader, and `leader` its state as such, which counts only then; `ready` the commands that a majority has accepted and that are not executed yet, by slot; `sets` the members of the open slots, from the next slot on; `acts` the queued commands of transactions, and `calls` the queued requests and orders; `waits` how many ticks a transaction has waited
+-- the state of a replica: `me` the node's number; `group` the executed state and `log` the executed entries; `acceptor`; `hint` the node that it takes for the leader; `top` the greatest ballot seen; `running` whether it runs as candidate or leader, and `leader` its state as such, which counts only then; `ready` the commands that a majority has accepted and that are not executed yet, by slot; `sets` the members of the open slots, from the next slot on; `acts` the queued commands of transactions, and `backlog` the queued requests and orders; `waits` how many ticks a transaction has waited
 pub record ReplicaState : Type 0 where
   pub me : ℕ
   pub group : Group
@@ -26,7 +26,7 @@ pub record ReplicaState : Type 0 where
   pub ready : List (ℕ × Command)
   pub sets : List (List ℕ)
   pub acts : List Command
-  pub calls : List Command
+  pub backlog : List Command
   pub waits : ℕ
 
 -- a replica and the mails that its step has sent so far: each part of the table maps one place to the next, and adds its mails at the end
@@ -59,7 +59,7 @@ born_replica ahead me base = record {
   ready = [];
   sets = replicate ahead base.core.members;
   acts = [];
-  calls = [];
+  backlog = [];
   waits = 0;
 }
 
@@ -96,7 +96,7 @@ installed_replica me slot base sets = forgotten slot (record {
   ready = [];
   sets = sets;
   acts = [];
-  calls = [];
+  backlog = [];
   waits = 0;
 })
 

@@ -19,11 +19,11 @@ use Rattle.sc_node_table.specs.declared.ReplicaInput.{ReplicaInput}
 use Rattle.sc_node_table.specs.declared.ReplicaInput.TheVariants as Given
 use Rattle.sc_node_table.specs.Replica.{ReplicaState, Place, Executed, childless, name_of, next, members, settled, flying, is_idle, last_slot, installed_replica}
 use Rattle.sc_node_table.specs.Mails.{sent, sent_all, sent_others, answer_to}
-use Rattle.sc_node_table.specs.Queues.{call_of, without_call}
+use Rattle.sc_node_table.specs.Queues.{queued_number, without_request}
 use Rattle.sc_node_table.specs.Election.{elected, stopped}
 use Rattle.sc_node_table.specs.Execute.{executed, looked}
 use Rattle.sc_node_table.specs.Install.{install_to, named, jumped}
-use Rattle.sc_node_table.specs.Pump.{pumped, serves_calls}
+use Rattle.sc_node_table.specs.Pump.{pumped, admits_requests}
 use Rattle.sc_node_table.specs.Transactions.{offer_row, watch_row, vote_row, watched_row, elsewhere_row, outcome_row}
 use Rattle.sc_node_table.specs.Reminders.{reminded}
 use Rattle.sc_node_table.specs.Ordering.{ordered_row, names_after}
@@ -31,28 +31,28 @@ use Rattle.sc_node_table.specs.Policy.{wishing, names_after_tick}
 use Rattle.sc_node_table.specs.Voting.{prepare_row, promise_row, accept_row, accepted_row, nack_row}
 
 -- why a request is not queued, if so: the first that holds of a group that is gone, a replica that does not run, and a key of another group
-abbrev pub call_refusal : Option Route → Core → Bool → Option ℕ → Op → Option AnswerBody
-call_refusal (Some into) core running hint op = Some (Says.Gone into)
-call_refusal None core running hint op =
+abbrev pub request_refusal : Option Route → Core → Bool → Option ℕ → Op → Option AnswerBody
+request_refusal (Some into) core running hint op = Some (Says.Gone into)
+request_refusal None core running hint op =
     if not running then Some (Says.NotLeader hint)
-    else if serves_calls core.lock && not (holds_key core.arc (key_of op)) then Some (Says.NotMine core.arc core.succ)
+    else if admits_requests core.lock && not (holds_key core.arc (key_of op)) then Some (Says.NotMine core.arc core.succ)
     else None
 
 -- why a request is not queued at a replica, if so
 abbrev pub refused_at : Option Route → Op → ReplicaState → Option AnswerBody
-refused_at gone op r = call_refusal gone r.group.core r.running r.hint op
+refused_at gone op r = request_refusal gone r.group.core r.running r.hint op
 
 -- a request is queued last, and the pump is tried, unless the same or a later request of its client is queued; an earlier one is removed
 unfoldable pub queued : Option ℕ → ℕ → ℕ → Op → Place → Place
-queued None client seq op (r, mails) = pumped (record r { calls = r.calls ++ Call client seq op ∷ [] }, mails)
+queued None client seq op (r, mails) = pumped (record r { backlog = r.backlog ++ Call client seq op ∷ [] }, mails)
 queued (Some other) client seq op (r, mails) =
     if nat_le seq other then (r, mails)
-    else pumped (record r { calls = without_call r.calls client ++ Call client seq op ∷ [] }, mails)
+    else pumped (record r { backlog = without_request r.backlog client ++ Call client seq op ∷ [] }, mails)
 
 -- a request is queued, or its client gets the reason why not
 unfoldable pub requested : Option AnswerBody → ℕ → ℕ → Op → Place → Place
 requested (Some answer) client seq op (r, mails) = (r, answer_to r.me (name_of r) client seq answer mails)
-requested None client seq op (r, mails) = queued (call_of r.calls client) client seq op (r, mails)
+requested None client seq op (r, mails) = queued (queued_number r.backlog client) client seq op (r, mails)
 
 -- what a replica does with a Request
 unfoldable pub request_row : ℕ → ℕ → Op → Place → Place
@@ -119,16 +119,16 @@ asked_again r slot (set ∷ sets) mails =
     ]
 
 -- the last entry, if the log holds it, is sent by Learn to each other member
-unfoldable pub told_last : Option Command → ReplicaState → List Mail → List Mail
-told_last None r mails = mails
-told_last (Some command) r mails = sent_others r.me (members r) (Learn (name_of r) (next r - 1) command) mails
+unfoldable pub last_entry_sent : Option Command → ReplicaState → List Mail → List Mail
+last_entry_sent None r mails = mails
+last_entry_sent (Some command) r mails = sent_others r.me (members r) (Learn (name_of r) (next r - 1) command) mails
 
 -- what a replica does at a tick: one that is not settled runs for leader; a settled one sends again what is not answered, or the last entry where nothing is under way, reminds the parties of a transaction, queues what a policy wishes, and tries the pump. One whose group is gone, or whose node is no member, does nothing
 unfoldable pub tick_row : Bool → Drawer → Place → Place
 tick_row on drawer (r, mails) =
     if is_some r.group.core.gone || not (is_member (members r) r.me) then (r, mails)
     else if not (settled r) then elected (r, mails)
-    else if is_idle r then pumped (wishing on drawer (reminded (r, told_last (entry_at (next r - 1) r.log) r mails)))
+    else if is_idle r then pumped (wishing on drawer (reminded (r, last_entry_sent (entry_at (next r - 1) r.log) r mails)))
     else pumped (wishing on drawer (reminded (r, asked_again r (next r) r.sets mails)))
 
 -- what a replica does with a mail; a mail of any other body changes nothing. Only a counted vote and a learnt command execute entries

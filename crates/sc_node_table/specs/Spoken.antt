@@ -14,8 +14,8 @@ use Rattle.sc_cmd.specs.declared.cores.Lock.TheVariants.{Free, Coordinating, Pro
 use Rattle.sc_cmd.specs.declared.effects.Effect.{Effect}
 use Rattle.sc_cmd.specs.Definitions.{result_of, refused_result, decided_in, cast_in, is_changed, is_alone}
 use Rattle.sc_cmd.specs.declared.links.Link.{Link}
-use Rattle.sc_cmd.specs.declared.orders.ToldResult.{ToldResult}
-use Rattle.sc_cmd.specs.declared.orders.ToldResult.TheVariants as Tells
+use Rattle.sc_cmd.specs.declared.orders.OrderResult.{OrderResult}
+use Rattle.sc_cmd.specs.declared.orders.OrderResult.TheVariants as Tells
 use Rattle.sc_cmd.specs.declared.votes.Heard.{Heard}
 use Rattle.sc_cmd.specs.declared.votes.Outcome.{Outcome}
 use Rattle.sc_cmd.specs.declared.votes.Outcome.TheVariants as Is
@@ -28,10 +28,10 @@ use Rattle.sc_mail.specs.declared.bodies.MailBody.TheVariants.{TxPrepare, TxOutc
 use Rattle.sc_base.specs.Definitions.{least_of}
 use Rattle.sc_machine_table.specs.Definitions.{Group}
 use Rattle.sc_node_table.specs.Replica.{Place}
-use Rattle.sc_node_table.specs.Mails.{sent, sent_all, told_order}
+use Rattle.sc_node_table.specs.Mails.{sent, sent_all, order_reported}
 use Rattle.sc_node_table.specs.declared.Before.{Before}
 use Rattle.sc_node_table.specs.Questions.{offer_of, asked_first}
-use Rattle.sc_node_table.specs.Transactions.{voted_to, watched_to, told_outcome}
+use Rattle.sc_node_table.specs.Transactions.{voted_to, watched_to, outcome_sent}
 
 -- ---- the group before an entry, as far as its mails need it
 
@@ -65,7 +65,7 @@ before_of core = before_in core.lock core
 -- ---- what is reported to the desk
 
 -- the result of an order, by the outcome of its transaction
-abbrev pub outcome_result : Outcome → ToldResult
+abbrev pub outcome_result : Outcome → OrderResult
 outcome_result Is.Abort = Tells.Aborted
 outcome_result (Is.Merged into) = Tells.Committed
 outcome_result (Is.Moved at gift) = Tells.Committed
@@ -73,11 +73,11 @@ outcome_result (Is.Migrated node) = Tells.Committed
 outcome_result Is.Divided = Tells.Committed
 
 -- the result of an order, where the entry has decided its transaction
-abbrev pub decided_result : Effect → Option ToldResult
+abbrev pub decided_result : Effect → Option OrderResult
 decided_result effect = option_map outcome_result (decided_in effect)
 
 -- the result of the order of a split or a transaction, if the entry ends it: the split of a group that is alone, a refusal, or a decision
-abbrev pub begun_result : Bool → Effect → Command → Option ToldResult
+abbrev pub begun_result : Bool → Effect → Command → Option OrderResult
 begun_result alone effect (Split at child order) = if alone then result_of effect else refused_result effect
 begun_result alone effect (Begin tx body order) = refused_result effect
 begun_result alone effect (RecordVote tx vote by) = decided_result effect
@@ -107,13 +107,13 @@ spoken_number begun (Finish tx outcome) = 0
 spoken_number begun (Watched tx watch) = 0
 
 -- the result of an order, if there is one, is reported to the desk
-abbrev pub told_result : ℕ → Option ToldResult → ℕ → List Mail → List Mail
-told_result me None number mails = mails
-told_result me (Some result) number mails = told_order me number result mails
+abbrev pub result_reported : ℕ → Option OrderResult → ℕ → List Mail → List Mail
+result_reported me None number mails = mails
+result_reported me (Some result) number mails = order_reported me number result mails
 
 -- each replica that executes the entry reports the result of the order that it ends, if it ends one
-unfoldable pub told_begun : ℕ → Before → Effect → Command → List Mail → List Mail
-told_begun me before effect command mails = told_result me (begun_result before.alone effect command) (spoken_number before.order command) mails
+unfoldable pub begun_reported : ℕ → Before → Effect → Command → List Mail → List Mail
+begun_reported me before effect command mails = result_reported me (begun_result before.alone effect command) (spoken_number before.order command) mails
 
 -- ---- how a transaction goes on
 
@@ -153,13 +153,13 @@ given_up_by (Some outcome) me before tx mails = aborted_watcher me tx before.hea
 -- what a participant's Yes has decided is sent to the node that sent the Yes
 abbrev pub vote_answered : Option Outcome → Vote → ℕ → Before → Draw → ℕ → List Mail → List Mail
 vote_answered None vote me before tx by mails = mails
-vote_answered (Some outcome) (Says.Yes frozen) me before tx by mails = told_outcome me by tx before.succ.group outcome mails
+vote_answered (Some outcome) (Says.Yes frozen) me before tx by mails = outcome_sent me by tx before.succ.group outcome mails
 vote_answered (Some outcome) (Says.No why) me before tx by mails = mails
 
 -- what a watcher's Yes has decided is sent to the node that sent the participant's Yes, and then to the one that sent the watcher's; of a split the successor is the watcher, and there is no participant
 abbrev pub released_to : Option (ℕ × Link) → ℕ → Link → Draw → ℕ → Outcome → List Mail → List Mail
-released_to None me succ tx by outcome mails = told_outcome me by tx succ.group outcome mails
-released_to (Some heard) me succ tx by outcome mails = told_outcome me by tx heard.1.group outcome (told_outcome me heard.0 tx succ.group outcome mails)
+released_to None me succ tx by outcome mails = outcome_sent me by tx succ.group outcome mails
+released_to (Some heard) me succ tx by outcome mails = outcome_sent me by tx heard.1.group outcome (outcome_sent me heard.0 tx succ.group outcome mails)
 
 -- what a watcher's vote has decided is sent: of its No to a merge, an abort to the participant
 abbrev pub watch_answered_by : Option Outcome → Past → ℕ → Before → Draw → ℕ → List Mail → List Mail
@@ -186,7 +186,7 @@ went_on me group before effect (Leave node order) mails = mails
 -- each replica that executes the entry reports, and the one that has counted its votes makes the transaction go on
 unfoldable pub spoken_mails : Bool → ℕ → Group → Before → Effect → Command → List Mail → List Mail
 spoken_mails counted me group before effect command mails =
-    let told = told_begun me before effect command mails in
+    let told = begun_reported me before effect command mails in
     if counted then went_on me group before effect command told else told
 
 -- the mails that report and continue splits and transactions are sent; the replica does not change

@@ -103,8 +103,8 @@ awaits_watch (Promised locked offer) tx = false
 awaits_watch (Watching locked watch) tx = false
 
 -- an outcome is sent to a node of a party
-abbrev pub told_outcome : ℕ → ℕ → Draw → Draw → Outcome → List Mail → List Mail
-told_outcome me node tx part outcome mails = sent me node (TxOutcome tx part outcome) mails
+abbrev pub outcome_sent : ℕ → ℕ → Draw → Draw → Outcome → List Mail → List Mail
+outcome_sent me node tx part outcome mails = sent me node (TxOutcome tx part outcome) mails
 
 -- a participant's vote is queued to be recorded, where the replica runs and its group waits for it
 abbrev pub vote_queued : ℕ → Draw → Vote → Place → Place
@@ -112,7 +112,7 @@ vote_queued from tx vote (r, mails) = if r.running && awaits_vote r.group.core.l
 
 -- a participant's Yes is answered with the outcome, if it is decided; any other vote is queued to be recorded
 abbrev pub vote_met : Vote → Option Outcome → ℕ → Draw → Draw → Place → Place
-vote_met (Says.Yes frozen) (Some outcome) from tx part (r, mails) = (r, told_outcome r.me from tx part outcome mails)
+vote_met (Says.Yes frozen) (Some outcome) from tx part (r, mails) = (r, outcome_sent r.me from tx part outcome mails)
 vote_met (Says.Yes frozen) None from tx part place = vote_queued from tx (Says.Yes frozen) place
 vote_met (Says.No why) outcome from tx part place = vote_queued from tx (Says.No why) place
 
@@ -126,7 +126,7 @@ watch_queued from tx vote (r, mails) = if r.running && awaits_watch r.group.core
 
 -- a watcher's Yes is answered with the outcome, if it is decided; any other vote is queued to be recorded
 abbrev pub watch_met : Past → Option Outcome → ℕ → Draw → Draw → Place → Place
-watch_met Cast.Yes (Some outcome) from tx part (r, mails) = (r, told_outcome r.me from tx part outcome mails)
+watch_met Cast.Yes (Some outcome) from tx part (r, mails) = (r, outcome_sent r.me from tx part outcome mails)
 watch_met Cast.Yes None from tx part place = watch_queued from tx Cast.Yes place
 watch_met (Cast.No why) outcome from tx part place = watch_queued from tx (Cast.No why) place
 watch_met Cast.Ended outcome from tx part place = watch_queued from tx Cast.Ended place

@@ -35,8 +35,8 @@ pub use Rattle.sc_cmd.specs.declared.orders.Order.TheVariants.{Merge, Repart, Mi
 pub use Rattle.sc_cmd.specs.declared.orders.OrderLine.{OrderLine}
 pub use Rattle.sc_cmd.specs.declared.orders.OrderRefusal.{OrderRefusal}
 pub use Rattle.sc_cmd.specs.declared.orders.OrderRefusal.TheVariants.{LastMember, TooManyMembers, NotMember, IsMember, BadBoundary}
-pub use Rattle.sc_cmd.specs.declared.orders.ToldResult.{ToldResult}
-pub use Rattle.sc_cmd.specs.declared.orders.ToldResult.TheVariants.{Refused, Done}
+pub use Rattle.sc_cmd.specs.declared.orders.OrderResult.{OrderResult}
+pub use Rattle.sc_cmd.specs.declared.orders.OrderResult.TheVariants.{Refused, Done}
 pub use Rattle.sc_cmd.specs.declared.votes.Frozen.{Frozen}
 pub use Rattle.sc_cmd.specs.declared.votes.Gift.{Gift}
 pub use Rattle.sc_cmd.specs.declared.votes.Heard.{Heard}

@@ -248,9 +248,9 @@ pub log_of-longest : {V : Type 0} (rule : Rule V) (first : Ballot) (h : List (St
 log_of-longest rule first h l = longer_longest rule first h l (top_slot h) [] (λ k v e. cc) (omega arith)
 
 -- each log is a prefix of the decided one
-pub front_of_log : {V : Type 0} (rule : Rule V) (first : Ballot) (h : List (Step V)) → IsLawfulHistory rule first h → (other : List V) → IsLog rule h other
+pub prefix_of_log : {V : Type 0} (rule : Rule V) (first : Ballot) (h : List (Step V)) → IsLawfulHistory rule first h → (other : List V) → IsLog rule h other
     → (length other ≤ length (log_of rule h)) × (take (length other) (log_of rule h) ≡ other)
-front_of_log rule first h l other b =
+prefix_of_log rule first h l other b =
     let longest = log_of-longest rule first h l in
     let le = longest.1 other b in
     (le, logs_agree rule first h l (length other) (log_of rule h) other longest.0 b le (omega arith) ∙ take_all (length other) other (omega arith))
@@ -270,4 +270,4 @@ older_lawful rule first (s ∷ newer) h l = older_lawful rule first newer h l.1
 pub log_grows : {V : Type 0} (rule : Rule V) (first : Ballot) (newer h : List (Step V)) → IsLawfulHistory rule first (newer ++ h)
     → (length (log_of rule h) ≤ length (log_of rule (newer ++ h))) × (take (length (log_of rule h)) (log_of rule (newer ++ h)) ≡ log_of rule h)
 log_grows rule first newer h l =
-    front_of_log rule first (newer ++ h) l (log_of rule h) (later_logs rule newer h (log_of rule h) (log_of-longest rule first h (older_lawful rule first newer h l)).0)
+    prefix_of_log rule first (newer ++ h) l (log_of rule h) (later_logs rule newer h (log_of rule h) (log_of-longest rule first h (older_lawful rule first newer h l)).0)

@@ -13,7 +13,7 @@ use Rattle.std.proofs.Math.Nat.{add-mod_left, mod-eq_of_lt}
 use Rattle.sc_base.specs.Definitions.{IsAscending, longest_key, IsText, pos_of}
 use Rattle.sc_base.proofs.Lemmas.{is_less, AllPairs-head, AllPairs-tail}
 use Rattle.sc_policy.specs.Definitions.{positions, far_from, KeysRiseFromTheStart}
-use Rattle.sc_policy.proofs.Fronts.{are_bytes, pos_le, pos_small}
+use Rattle.sc_policy.proofs.Prefixes.{are_bytes, pos_le, pos_small}
 
 abbrev HasKey : List ℕ × List ℕ → Type 0
 HasKey pair = IsText longest_key pair.0

@@ -64,8 +64,8 @@ wished core pairs =
     else None
 
 -- whether the result of the order with this number is reported to the desk: a policy's orders have the number 0, and theirs is not
-abbrev pub is_told : ℕ → Bool
-is_told number = nat_lt 0 number
+abbrev pub is_reported : ℕ → Bool
+is_reported number = nat_lt 0 number
 
 -- the order to the group with this name that carries out a wish
 abbrev pub order_of : Draw → Body0 → Order

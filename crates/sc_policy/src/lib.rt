@@ -11,5 +11,5 @@ mod wishes;
 
 pub use bodies::Body0;
 pub use laws::keys_rise_from_the_start;
-pub use orders::is_told;
+pub use orders::is_reported;
 pub use wishes::{wish, wished_order};

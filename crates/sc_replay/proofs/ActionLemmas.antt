@@ -10,7 +10,7 @@ use Rattle.sc_actor.specs.declared.rows.Event.TheVariants.{Deliver, Tick, Go, To
 use Rattle.sc_actor.specs.declared.schedules.Line.{Line}
 use Rattle.sc_actor.specs.declared.schedules.Line.TheVariants.{Go as GoLine, Deliver as DeliverLine, Drop as DropLine, Again as AgainLine, Tick as TickLine, Crash as CrashLine, Told as ToldLine, Settle, Free, Storm}
 use Rattle.sc_actor.specs.Mail.{mails, numbered, has_crashed, may_get, pending}
-use Rattle.sc_actor.specs.System.{System, system, no_words, numbers_of, row_of, acts, network, waiting, kth, has_gone}
+use Rattle.sc_actor.specs.System.{System, system, no_words, numbers_of, row_of, acts, network, waiting, kth, has_started}
 use Rattle.sc_actor.specs.Walk.{line_row, delivery, lowest}
 use Rattle.sc_actor.proofs.PendingLemmas.{waiting_one, waiting_any}
 use Rattle.sc_replay.specs.declared.stages.Action.{Action}
@@ -72,7 +72,7 @@ module _ {A M O : Type 0} (s : System A M O) (rows : List (Row M O)) where
 
   -- a line makes the row of its action
   pub line_row-action : (line : Line O) → line_row s rows line ≡ option_and_then (row_made s rows) (line_action s.receiver (numbers_of s.births) rows line)
-  line_row-action (GoLine who) = acts_unless who Go refl (is_number (numbers_of s.births) who) (has_gone rows who) refl
+  line_row-action (GoLine who) = acts_unless who Go refl (is_number (numbers_of s.births) who) (has_started rows who) refl
   line_row-action (DeliverLine who k) = of_delivery who (kth (waiting s rows (Some who)) k)
   line_row-action (DropLine who k) = of_drop (kth (waiting s rows (Some who)) k)
   line_row-action (AgainLine mail) = of_again mail (numbered (mails rows) mail)
@@ -117,7 +117,7 @@ module _ {A M O : Type 0} (receiver : M → ℕ) (seats : List (Seat A)) (rows :
   -- a line's action can be done
   pub line_action-can : (line : Line O) (d : Action O) → line_action receiver (numbers_of seats) rows line ≡ Some d → can_act (numbers_of seats) d ≡ true
   line_action-can (GoLine who) d e =
-      when-can (is_number (numbers_of seats) who && not (has_gone rows who)) who Go d (λ t. (and_parts (is_number (numbers_of seats) who) (not (has_gone rows who)) t).0) e
+      when-can (is_number (numbers_of seats) who && not (has_started rows who)) who Go d (λ t. (and_parts (is_number (numbers_of seats) who) (not (has_started rows who)) t).0) e
   line_action-can (DeliverLine who k) d e =
       map-can who Deliver (kth (pending receiver (numbers_of seats) rows (Some who)) k) d
       (λ mail is. let under = waiting_one any_system rows who k mail is in own who (subst (λ w. may_get (numbers_of seats) rows w ≡ true) under.2 under.1.may)) e

@@ -10,7 +10,7 @@ use Rattle.sc_actor.specs.declared.actors.Seat.{Seat}
 use Rattle.sc_actor.specs.declared.schedules.Line.{Line}
 use Rattle.std.specs.List.{list_any}
 use Rattle.sc_actor.specs.Mail.{mails, has_crashed}
-use Rattle.sc_actor.specs.System.{System, acts, numbers_of, waiting, kth, network, has_gone}
+use Rattle.sc_actor.specs.System.{System, acts, numbers_of, waiting, kth, network, has_started}
 use Rattle.sc_actor.specs.Walk.{Task, Once, WalkPlace, Allows, IsLawful, IsNext, is_over, is_quiet, rest_of_task, line_row, first_of}
 use Rattle.sc_actor.proofs.ReplayLemmas.{mails-append}
 use Rattle.sc_actor.proofs.WalkLemmas.{Stands-at, Stands-allows, Stands-ended, Stands-whole, lawful-last}
@@ -237,7 +237,7 @@ pub record SameKept {A M O : Type 0} (old new : Stage A M O) : Type 0 where
   pub seats : new.seats.items ≡ old.seats.items
   pub mails : new.mails.items ≡ old.mails.items
   pub pending : new.pending.items ≡ old.pending.items
-  pub gone : new.gone.items ≡ old.gone.items
+  pub started : new.started.items ≡ old.started.items
   pub crashed : new.crashed.items ≡ old.crashed.items
 
 pub taking_same : {A M O : Type 0} (receiver : M → ℕ) (old new : Stage A M O) (rows : List (Row M O)) → SameKept old new → IsTaking receiver old rows → IsTaking receiver new rows
@@ -250,7 +250,7 @@ taking_same receiver old new rows same taking =
             ∙ taking.kept.all_pending
             ∙ ap (λ seats. opens_of receiver (numbers_of seats) old.rows) (sym same.seats)
             ∙ ap (opens_of receiver (numbers_of new.seats.items)) (sym same.rows);
-        all_gone = λ who. ap (list_any (λ number. eqb number who)) same.gone ∙ taking.kept.all_gone who ∙ ap (λ xs. has_gone xs who) (sym same.rows);
+        all_started = λ who. ap (list_any (λ number. eqb number who)) same.started ∙ taking.kept.all_started who ∙ ap (λ xs. has_started xs who) (sym same.rows);
         all_crashed = λ who. ap (list_any (λ number. eqb number who)) same.crashed ∙ taking.kept.all_crashed who ∙ ap (λ xs. has_crashed xs who) (sym same.rows);
         few_rows = subst (λ xs. length xs < 2 ^ 31) (sym same.rows) taking.kept.few_rows;
         few_mails = subst (λ xs. length (mails xs) < 2 ^ 31) (sym same.rows) taking.kept.few_mails;
@@ -275,13 +275,13 @@ pub next_row : {M O : Type 0} (taken rows : List (Row M O)) (row : Row M O) (at 
 next_row taken rows row at e lt is = record { more = subst (λ n. n < length rows) e lt; is = subst (λ n. row ≡ get_or rows n row) e is }
 
 -- a stage begins with no row taken
-pub taking_begin : {A M O : Type 0} (receiver : M → ℕ) (stage : Stage A M O) (rows : List (Row M O)) → stage.rows ≡ [] → stage.mails.items ≡ [] → stage.pending.items ≡ [] → stage.gone.items ≡ [] → stage.crashed.items ≡ [] → length rows < 2 ^ 31 → length (mails rows) < 2 ^ 31 → IsTaking receiver stage rows
+pub taking_begin : {A M O : Type 0} (receiver : M → ℕ) (stage : Stage A M O) (rows : List (Row M O)) → stage.rows ≡ [] → stage.mails.items ≡ [] → stage.pending.items ≡ [] → stage.started.items ≡ [] → stage.crashed.items ≡ [] → length rows < 2 ^ 31 → length (mails rows) < 2 ^ 31 → IsTaking receiver stage rows
 taking_begin receiver stage rows none no_mails no_copies no_gone no_crashed few_rows few_mails =
     record {
       kept = record {
         all_mails = rw none no_mails;
         all_pending = rw none no_copies;
-        all_gone = λ who. rw (none, no_gone) refl;
+        all_started = λ who. rw (none, no_gone) refl;
         all_crashed = λ who. rw (none, no_crashed) refl;
         few_rows = rw none (omega arith);
         few_mails = rw none (omega arith);

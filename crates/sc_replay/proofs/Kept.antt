@@ -10,7 +10,7 @@ use Rattle.sc_actor.specs.declared.rows.Row.{Row}
 use Rattle.sc_actor.specs.declared.rows.Event.{Event}
 use Rattle.sc_actor.specs.declared.rows.Event.TheVariants.{Deliver, Tick, Go, Told, Crash, Drop, Again}
 use Rattle.sc_actor.specs.Mail.{mails, copies, numbered, has_crashed, is_crash, is_for, may_get, pending, counts_at}
-use Rattle.sc_actor.specs.System.{kth, has_gone, is_go, numbers_of}
+use Rattle.sc_actor.specs.System.{kth, has_started, is_go, numbers_of}
 use Rattle.sc_actor.proofs.CountLemmas.{counted, length-counts_at}
 use Rattle.sc_actor.proofs.PendingLemmas.{pending_sound}
 use Rattle.sc_actor.proofs.ReplayLemmas.{mails-snoc, copies-snoc}
@@ -55,10 +55,10 @@ module _ {M O : Type 0} (rows : List (Row M O)) (row : Row M O) where
       ∙ ap (λ b. has_crashed rows who || b) (or_false (eqb row.who who && is_crash row.event))
 
   -- who has gone after one more row
-  pub gone-snoc : (who : ℕ) → has_gone (rows ++ row ∷ []) who ≡ (has_gone rows who || (eqb row.who who && is_go row.event))
-  gone-snoc who =
+  pub started-snoc : (who : ℕ) → has_started (rows ++ row ∷ []) who ≡ (has_started rows who || (eqb row.who who && is_go row.event))
+  started-snoc who =
       list_any-append (λ (r : Row M O). eqb r.who who && is_go r.event) rows (row ∷ [])
-      ∙ ap (λ b. has_gone rows who || b) (or_false (eqb row.who who && is_go row.event))
+      ∙ ap (λ b. has_started rows who || b) (or_false (eqb row.who who && is_go row.event))
 
 not_or : (a b c : Bool) → (a && not (b || c)) ≡ ((a && not b) && not c)
 not_or false b c = refl
@@ -157,13 +157,13 @@ open_next receiver test found xs all first i sent mail lt is next e =
 module _ {A M O : Type 0} (receiver : M → ℕ) (old new : Stage A M O) (row : Row M O) where
   -- what a stage keeps stays up to date as a row joins
   pub kept-next : IsUpToDate receiver old → new.rows ≡ old.rows ++ row ∷ [] → new.seats.items ≡ old.seats.items → new.mails.items ≡ old.mails.items ++ row.sent →
-      ((n : ℕ) → list_any (λ number. eqb number n) new.gone.items ≡ (list_any (λ number. eqb number n) old.gone.items || (eqb row.who n && is_go row.event))) →
+      ((n : ℕ) → list_any (λ number. eqb number n) new.started.items ≡ (list_any (λ number. eqb number n) old.started.items || (eqb row.who n && is_go row.event))) →
       ((n : ℕ) → list_any (λ number. eqb number n) new.crashed.items ≡ (list_any (λ number. eqb number n) old.crashed.items || (eqb row.who n && is_crash row.event))) →
       (first : ℕ) → first ≡ length (mails old.rows) + 1 →
       (middle : List OpenCopy) → middle ≡ opened receiver (runs (numbers_of old.seats.items) old.crashed.items) old.mails.items old.pending.items row.who row.event →
       new.pending.items ≡ middle ++ opens receiver (runs (numbers_of old.seats.items) new.crashed.items) first row.sent (replicate (length row.sent) 1) →
       length old.rows + 1 < 2 ^ 31 → length (mails old.rows) + length row.sent < 2 ^ 31 → IsUpToDate receiver new
-  kept-next kept rows seats sent gone crashed first first_is middle middle_is pending_is few_rows few_mails =
+  kept-next kept rows seats sent started crashed first first_is middle middle_is pending_is few_rows few_mails =
       let actors = numbers_of old.seats.items in
       let ones : List ℕ = replicate (length row.sent) 1 in
       let now = old.rows ++ row ∷ [] in
@@ -182,7 +182,7 @@ module _ {A M O : Type 0} (receiver : M → ℕ) (old new : Stage A M O) (row : 
             ∙ sym (opens-snoc receiver actors old.rows row first first_is)
             ∙ ap (opens_of receiver actors) (sym rows)
             ∙ ap (λ all. opens_of receiver (numbers_of all) new.rows) (sym seats);
-        all_gone = λ who. gone who ∙ ap (λ b. b || (eqb row.who who && is_go row.event)) (kept.all_gone who) ∙ sym (gone-snoc old.rows row who) ∙ ap (λ xs. has_gone xs who) (sym rows);
+        all_started = λ who. started who ∙ ap (λ b. b || (eqb row.who who && is_go row.event)) (kept.all_started who) ∙ sym (started-snoc old.rows row who) ∙ ap (λ xs. has_started xs who) (sym rows);
         all_crashed = λ who. crashed_now who ∙ ap (λ xs. has_crashed xs who) (sym rows);
         few_rows = let many : length new.rows ≡ length old.rows + 1 = ap length rows ∙ length-append old.rows (row ∷ []) in omega (arith, many, few_rows);
         few_mails = let many : length (mails new.rows) ≡ length (mails old.rows) + length row.sent = ap (λ xs. length (mails xs)) rows ∙ ap length (mails-snoc old.rows row) ∙ length-append (mails old.rows) row.sent in omega (arith, many, few_mails);

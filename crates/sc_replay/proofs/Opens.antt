@@ -183,15 +183,15 @@ module _ {M : Type 0} (receiver : M → ℕ) (test : ℕ → Bool) where
   opens-agree other agree n (m ∷ ms) (c ∷ cs) = rw (agree (receiver m), opens-agree other agree (suc n) ms cs) refl
 
   -- after a crash there are none for its actor
-  pub opens-crash : (other : ℕ → Bool) (gone : ℕ) → ((who : ℕ) → other who ≡ (test who && not (eqb who gone))) → (n : ℕ) (ms : List M) (cs : List ℕ) → opens receiver other n ms cs ≡ without_to (opens receiver test n ms cs) gone
-  opens-crash other gone agree n [] cs = refl
-  opens-crash other gone agree n (m ∷ ms) [] = refl
-  opens-crash other gone agree n (m ∷ ms) (c ∷ cs) =
-      rw (agree (receiver m), opens-crash other gone agree (suc n) ms cs)
-      (sym (filter-append (λ copy. not (eqb copy.to gone)) (cond (test (receiver m)) (replicate c (copy_of n (receiver m))) []) (opens receiver test (suc n) ms cs)
-      ∙ ap (λ zs. zs ++ without_to (opens receiver test (suc n) ms cs) gone) (by (test (receiver m)) (eqb (receiver m) gone) refl c)))
+  pub opens-crash : (other : ℕ → Bool) (started : ℕ) → ((who : ℕ) → other who ≡ (test who && not (eqb who started))) → (n : ℕ) (ms : List M) (cs : List ℕ) → opens receiver other n ms cs ≡ without_to (opens receiver test n ms cs) started
+  opens-crash other started agree n [] cs = refl
+  opens-crash other started agree n (m ∷ ms) [] = refl
+  opens-crash other started agree n (m ∷ ms) (c ∷ cs) =
+      rw (agree (receiver m), opens-crash other started agree (suc n) ms cs)
+      (sym (filter-append (λ copy. not (eqb copy.to started)) (cond (test (receiver m)) (replicate c (copy_of n (receiver m))) []) (opens receiver test (suc n) ms cs)
+      ∙ ap (λ zs. zs ++ without_to (opens receiver test (suc n) ms cs) started) (by (test (receiver m)) (eqb (receiver m) started) refl c)))
     where
-      by : (b d : Bool) → eqb (receiver m) gone ≡ d → (c : ℕ) → filter (λ copy. not (eqb copy.to gone)) (cond b (replicate c (copy_of n (receiver m))) []) ≡ cond (b && not (eqb (receiver m) gone)) (replicate c (copy_of n (receiver m))) []
+      by : (b d : Bool) → eqb (receiver m) started ≡ d → (c : ℕ) → filter (λ copy. not (eqb copy.to started)) (cond b (replicate c (copy_of n (receiver m))) []) ≡ cond (b && not (eqb (receiver m) started)) (replicate c (copy_of n (receiver m))) []
       by false d t c = refl
       by true true t zero = rw t refl
       by true false t zero = rw t refl
@@ -228,16 +228,16 @@ module _ {M : Type 0} (receiver : M → ℕ) (test : ℕ → Bool) where
       kept zero t = refl
       kept (suc c) t = rw t (ap (λ zs. copy_of n (receiver m) ∷ zs) (kept c t))
 
-      gone : (c : ℕ) → eqb (receiver m) who ≡ false → filter (λ copy. eqb copy.to who) (replicate c (copy_of n (receiver m))) ≡ []
-      gone zero t = refl
-      gone (suc c) t = rw t (gone c t)
+      started : (c : ℕ) → eqb (receiver m) who ≡ false → filter (λ copy. eqb copy.to who) (replicate c (copy_of n (receiver m))) ≡ []
+      started zero t = refl
+      started (suc c) t = rw t (started c t)
 
       own : (d : Bool) → eqb (receiver m) who ≡ true → map (λ copy. copy.number) (filter (λ copy. eqb copy.to who) (cond d (replicate c (copy_of n (receiver m))) [])) ≡ cond d (replicate c n) []
       own true t = ap (map (λ copy. copy.number)) (kept c t) ∙ map-replicate c n (receiver m)
       own false t = refl
 
       others : (d : Bool) → eqb (receiver m) who ≡ false → map (λ copy. copy.number) (filter (λ copy. eqb copy.to who) (cond d (replicate c (copy_of n (receiver m))) [])) ≡ []
-      others true t = ap (map (λ copy. copy.number)) (gone c t)
+      others true t = ap (map (λ copy. copy.number)) (started c t)
       others false t = refl
 
       by : (b : Bool) → eqb (receiver m) who ≡ b → map (λ copy. copy.number) (filter (λ copy. eqb copy.to who) (cond (test (receiver m)) (replicate c (copy_of n (receiver m))) [])) ≡ cond (eqb (receiver m) who && test who) (replicate c n) []

@@ -8,7 +8,7 @@ use Rattle.sc_actor.specs.declared.rows.Event.TheVariants.{Deliver, Tick, Go, To
 use Rattle.sc_actor.specs.declared.schedules.Line.{Line}
 use Rattle.sc_actor.specs.declared.schedules.Line.TheVariants.{Go as GoLine, Deliver as DeliverLine, Drop as DropLine, Again as AgainLine, Tick as TickLine, Crash as CrashLine, Told as ToldLine, Settle, Free, Storm}
 use Rattle.sc_actor.specs.Mail.{mails, numbered, may_get, pending}
-use Rattle.sc_actor.specs.System.{System, acts, network, kth, has_gone}
+use Rattle.sc_actor.specs.System.{System, acts, network, kth, has_started}
 use Rattle.sc_replay.specs.declared.stages.Action.{Action}
 
 -- Whether the event is one of the network: a drop or a repeat.
@@ -52,7 +52,7 @@ when b x = if b then Some x else None
 
 -- The action of a line of one row after these rows, or none where the line makes no row or is one of many.
 abbrev pub line_action : {M O : Type 0} → (M → ℕ) → List ℕ → List (Row M O) → Line O → Option (Action O)
-line_action receiver numbers rows (GoLine who) = when (is_number numbers who && not (has_gone rows who)) (action who Go)
+line_action receiver numbers rows (GoLine who) = when (is_number numbers who && not (has_started rows who)) (action who Go)
 line_action receiver numbers rows (DeliverLine who k) = option_map (λ mail. action who (Deliver mail)) (kth (pending receiver numbers rows (Some who)) k)
 line_action receiver numbers rows (DropLine who k) = option_map (λ mail. action 0 (Drop mail)) (kth (pending receiver numbers rows (Some who)) k)
 line_action receiver numbers rows (AgainLine mail) = when (may_come_again receiver numbers rows mail) (action 0 (Again mail))

@@ -7,7 +7,7 @@ use Rattle.sc_actor.specs.declared.actors.Seat.{Seat}
 use Rattle.sc_actor.specs.declared.rows.Event.{Event}
 use Rattle.sc_actor.specs.Mail.{mails, has_crashed}
 use Rattle.sc_actor.specs.Replay.{Table, input_of, acted}
-use Rattle.sc_actor.specs.System.{network, numbers_of, has_gone}
+use Rattle.sc_actor.specs.System.{network, numbers_of, has_started}
 use Rattle.sc_replay.specs.declared.stages.Stage.{Stage}
 use Rattle.sc_replay.specs.declared.stages.Action.{Action}
 use Rattle.sc_replay.specs.Actions.{is_of_network}
@@ -17,7 +17,7 @@ use Rattle.sc_replay.specs.Opens.{opens_of}
 pub record IsUpToDate {A M O : Type 0} (receiver : M → ℕ) (stage : Stage A M O) : Type 0 where
   pub all_mails : stage.mails.items ≡ mails stage.rows
   pub all_pending : stage.pending.items ≡ opens_of receiver (numbers_of stage.seats.items) stage.rows
-  pub all_gone : (who : ℕ) → list_any (λ number. number == who) stage.gone.items ≡ has_gone stage.rows who
+  pub all_started : (who : ℕ) → list_any (λ number. number == who) stage.started.items ≡ has_started stage.rows who
   pub all_crashed : (who : ℕ) → list_any (λ number. number == who) stage.crashed.items ≡ has_crashed stage.rows who
   pub few_rows : length stage.rows < 2 ^ 31
   pub few_mails : length (mails stage.rows) < 2 ^ 31

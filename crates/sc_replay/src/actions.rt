@@ -4,7 +4,7 @@ ghost use Rattle.sc_actor.specs.System.{numbers_of};
 ghost use Rattle.sc_replay.specs.Actions.{line_action, lowest_action, may_come_again, when, can_act, storm_action};
 ghost use Rattle.sc_replay.specs.Stages.{IsUpToDate};
 
-use crate::pending::{has_gone, is_actor, may_get, picked, waiting};
+use crate::pending::{has_started, is_actor, may_get, picked, waiting};
 use crate::stages::{Action, Stage};
 use sc_actor::{Event, Line, Parcel};
 use sc_base::{Dup, OutOfMemory};
@@ -39,7 +39,7 @@ fn go<A, M: Parcel, O: Drop>(stage: &Stage<A, M, O>, who: u32) -> Option<Action<
     ensures { result
         ≡ line_action M.receiver (numbers_of stage.now.seats.items) stage.now.rows (Line.Go who) }
 {
-    let may = is_actor(&stage.seats, who) && !has_gone(stage, who);
+    let may = is_actor(&stage.seats, who) && !has_started(stage, who);
     when_may(may, who, Event::Go)
 }
 

@@ -106,14 +106,14 @@ fn note_event<A, M: Parcel, O>(
 }
 
 // Adds the actor of a Go to those that have started.
-fn note_go<O>(gone: &mut Vec<u32>, who: u32, event: &Event<O>) -> Result<(), OutOfMemory>
-    ensures gone { OnOk result
-        ((number : ℕ) → list_any (λ n. n == number) gone.new.items
-        ≡ (list_any (λ n. n == number) gone.old.items || (who == number && is_go event.now))) }
+fn note_go<O>(started: &mut Vec<u32>, who: u32, event: &Event<O>) -> Result<(), OutOfMemory>
+    ensures started { OnOk result
+        ((number : ℕ) → list_any (λ n. n == number) started.new.items
+        ≡ (list_any (λ n. n == number) started.old.items || (who == number && is_go event.now))) }
     ensures none { is_go event.now ≡ false → IsOk result }
 {
     if is_go(event) {
-        gone.push(who)?;
+        started.push(who)?;
     }
     Ok(())
 }
@@ -199,7 +199,7 @@ pub(crate) fn append<A, M: Parcel + Drop, O: Drop>(
         row.who,
         &row.event,
     )?;
-    note_go(&mut stage.gone, row.who, &row.event)?;
+    note_go(&mut stage.started, row.who, &row.event)?;
     note_crash(&mut stage.crashed, row.who, &row.event)?;
     add_open(
         &stage.seats,

@@ -64,7 +64,7 @@ fn begun<A, M, O>(alloc: Global, seats: Vec<Seat<A>>) -> Stage<A, M, O>
     ensures rows { result.rows ≡ [] }
     ensures mails { result.mails.items ≡ [] }
     ensures pending { result.pending.items ≡ [] }
-    ensures gone { result.gone.items ≡ [] }
+    ensures started { result.started.items ≡ [] }
     ensures crashed { result.crashed.items ≡ [] }
     ensures skipped { result.skipped ≡ 0 }
     ensures unsettled { result.unsettled ≡ false }
@@ -74,7 +74,7 @@ fn begun<A, M, O>(alloc: Global, seats: Vec<Seat<A>>) -> Stage<A, M, O>
         rows: Journal::new(alloc),
         mails: Vec::new(alloc),
         pending: Vec::new(alloc),
-        gone: Vec::new(alloc),
+        started: Vec::new(alloc),
         crashed: Vec::new(alloc),
         skipped: 0,
         unsettled: false,

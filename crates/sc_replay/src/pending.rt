@@ -2,7 +2,7 @@
 ghost use Rattle.std.specs.Prelude.{◌≡◌, ◌<◌, ◌%◌, ◌==◌, length, map, filter, is_none, None, IfSome, IsSomeAnd, true};
 ghost use Rattle.std.specs.List.{list_any};
 ghost use Rattle.sc_actor.specs.Mail.{numbered, may_get, is_crash, is_for, pending};
-ghost use Rattle.sc_actor.specs.System.{kth, numbers_of, has_gone, is_go};
+ghost use Rattle.sc_actor.specs.System.{kth, numbers_of, has_started, is_go};
 ghost use Rattle.sc_replay.specs.Actions.{is_number, picked_mail};
 ghost use Rattle.sc_replay.specs.Opens.{runs};
 ghost use Rattle.sc_replay.specs.Stages.{IsUpToDate};
@@ -58,11 +58,11 @@ pub(crate) fn runs<A>(seats: &[Seat<A>], crashed: &[u32], who: u32) -> bool
 }
 
 /// Returns whether the actor has a Go row.
-pub(crate) fn has_gone<A, M: Parcel, O>(stage: &Stage<A, M, O>, who: u32) -> bool
+pub(crate) fn has_started<A, M: Parcel, O>(stage: &Stage<A, M, O>, who: u32) -> bool
     requires { IsUpToDate M.receiver stage.now }
-    ensures { result ≡ has_gone stage.now.rows who }
+    ensures { result ≡ has_started stage.now.rows who }
 {
-    is_among(&stage.gone, who)
+    is_among(&stage.started, who)
 }
 
 /// Returns whether there is an actor with this number that has not crashed.

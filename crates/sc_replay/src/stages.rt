@@ -18,7 +18,7 @@ pub(crate) struct Stage<A, M, O> {
     pub rows: Journal<M, O>,
     pub mails: Vec<M>,
     pub pending: Vec<OpenCopy>,
-    pub gone: Vec<u32>,
+    pub started: Vec<u32>,
     pub crashed: Vec<u32>,
     pub skipped: u64,
     pub unsettled: bool,

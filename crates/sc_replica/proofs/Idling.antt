@@ -13,36 +13,36 @@ use Rattle.sc_paxos_words.specs.declared.answers.Must.TheVariants.{Value, Gap, F
 use Rattle.sc_paxos_words.specs.Leaders.{must, must_without}
 use Rattle.sc_node_table.specs.Mails.{answered}
 use Rattle.sc_node_table.specs.Replica.{ReplicaState, Place, may_offer, taken_at, under_way, is_idle}
-use Rattle.sc_node_table.specs.Pump.{Found, is_act, waits, turned_down, next_call, from_calls, from_acts, from_queues, found_by, found_for, offered, pumped_from}
+use Rattle.sc_node_table.specs.Pump.{Found, is_act, waits, turned_down, next_queued, from_backlog, from_acts, from_queues, found_by, found_for, offered, pumped_from}
 use Rattle.sc_replica_parts.proofs.Silence.{answered-before, sent_all-before}
 
 -- ---- mails are only appended
 
-call-before : (b : Bool) (down : Option AnswerBody) (waiting : Option Command × List Command × List Mail) (command : Command) (calls : List Command) (mails : List Mail) (on : AnswerBody → Option Command × List Command × List Mail)
+call-before : (b : Bool) (down : Option AnswerBody) (waiting : Option Command × List Command × List Mail) (command : Command) (backlog : List Command) (mails : List Mail) (on : AnswerBody → Option Command × List Command × List Mail)
     → waiting.2 ≡ mails → ((answer : AnswerBody) → (on answer).2 ≡ [] → mails ≡ [])
-    → (if b then waiting else elim down [ None ↦ (Some command, calls, mails) | Some answer ↦ on answer ]).2 ≡ [] → mails ≡ []
-call-before true down waiting command calls mails on same rest e = sym same ∙ e
-call-before false None waiting command calls mails on same rest e = e
-call-before false (Some answer) waiting command calls mails on same rest e = rest answer e
+    → (if b then waiting else elim down [ None ↦ (Some command, backlog, mails) | Some answer ↦ on answer ]).2 ≡ [] → mails ≡ []
+call-before true down waiting command backlog mails on same rest e = sym same ∙ e
+call-before false None waiting command backlog mails on same rest e = e
+call-before false (Some answer) waiting command backlog mails on same rest e = rest answer e
 
-pub next_call-before : (me : ℕ) (idle : Bool) (core : Core) (calls : List Command) (mails : List Mail) → (next_call me idle core calls mails).2 ≡ [] → mails ≡ []
-unfolding next_call
-next_call-before me idle core [] mails e = e
-next_call-before me idle core (command ∷ calls) mails e =
-    call-before (waits idle core.lock command) (turned_down core command) (None, command ∷ calls, mails) command calls mails
-    (λ answer. next_call me idle core calls (answered me core.id answer command mails)) refl
-    (λ answer h. answered-before me core.id answer command mails (next_call-before me idle core calls _ h)) e
+pub next_queued-before : (me : ℕ) (idle : Bool) (core : Core) (backlog : List Command) (mails : List Mail) → (next_queued me idle core backlog mails).2 ≡ [] → mails ≡ []
+unfolding next_queued
+next_queued-before me idle core [] mails e = e
+next_queued-before me idle core (command ∷ backlog) mails e =
+    call-before (waits idle core.lock command) (turned_down core command) (None, command ∷ backlog, mails) command backlog mails
+    (λ answer. next_queued me idle core backlog (answered me core.id answer command mails)) refl
+    (λ answer h. answered-before me core.id answer command mails (next_queued-before me idle core backlog _ h)) e
 
-calls-before : (place : Place) → (from_calls place).1.1 ≡ [] → place.1 ≡ []
-unfolding from_calls
-calls-before place e = next_call-before place.0.me (is_idle place.0) place.0.group.core place.0.calls place.1 e
+backlog-before : (place : Place) → (from_backlog place).1.1 ≡ [] → place.1 ≡ []
+unfolding from_backlog
+backlog-before place e = next_queued-before place.0.me (is_idle place.0) place.0.group.core place.0.backlog place.1 e
 
 found-before : (b : Bool) (x y : Found) (mails : List Mail) → (x.1.1 ≡ [] → mails ≡ []) → (y.1.1 ≡ [] → mails ≡ []) → (if b then x else y).1.1 ≡ [] → mails ≡ []
 found-before true x y mails p q e = p e
 found-before false x y mails p q e = q e
 
 acts-before : (acts : List Command) (place : Place) → (from_acts acts place).1.1 ≡ [] → place.1 ≡ []
-acts-before [] place e = calls-before place e
+acts-before [] place e = backlog-before place e
 acts-before (act ∷ acts) place e = found-before (is_idle place.0) _ _ place.1 (λ h. h) (λ h. h) e
 
 queues-before : (place : Place) → (from_queues place).1.1 ≡ [] → place.1 ≡ []
@@ -90,12 +90,12 @@ either-count : (b : Bool) (x y : Found) (n : ℕ) → flying_count x.1 ≡ n →
 either-count true x y n p q = p
 either-count false x y n p q = q
 
-calls-count : (place : Place) → flying_count (from_calls place).1 ≡ flying_count place
-unfolding from_calls
-calls-count place = refl
+backlog-count : (place : Place) → flying_count (from_backlog place).1 ≡ flying_count place
+unfolding from_backlog
+backlog-count place = refl
 
 acts-count : (acts : List Command) (place : Place) → flying_count (from_acts acts place).1 ≡ flying_count place
-acts-count [] place = calls-count place
+acts-count [] place = backlog-count place
 acts-count (act ∷ acts) place = either-count (is_idle place.0) _ _ (flying_count place) refl refl
 
 queues-count : (place : Place) → flying_count (from_queues place).1 ≡ flying_count place
@@ -167,31 +167,31 @@ found_for-none slot place e = unmet (names_above slot place.0.leader.reports) (c
 
 -- ---- what is found does not depend on the mails that are there
 
-call-unread : (b : Bool) (down : Option AnswerBody) (x y : Option Command × List Command × List Mail) (command : Command) (calls : List Command) (mails more : List Mail)
+call-unread : (b : Bool) (down : Option AnswerBody) (x y : Option Command × List Command × List Mail) (command : Command) (backlog : List Command) (mails more : List Mail)
     (on by : AnswerBody → Option Command × List Command × List Mail) → x.0 ≡ y.0 → ((answer : AnswerBody) → (on answer).0 ≡ (by answer).0)
-    → (if b then x else elim down [ None ↦ (Some command, calls, mails) | Some answer ↦ on answer ]).0 ≡ (if b then y else elim down [ None ↦ (Some command, calls, more) | Some answer ↦ by answer ]).0
-call-unread true down x y command calls mails more on by same rest = same
-call-unread false None x y command calls mails more on by same rest = refl
-call-unread false (Some answer) x y command calls mails more on by same rest = rest answer
+    → (if b then x else elim down [ None ↦ (Some command, backlog, mails) | Some answer ↦ on answer ]).0 ≡ (if b then y else elim down [ None ↦ (Some command, backlog, more) | Some answer ↦ by answer ]).0
+call-unread true down x y command backlog mails more on by same rest = same
+call-unread false None x y command backlog mails more on by same rest = refl
+call-unread false (Some answer) x y command backlog mails more on by same rest = rest answer
 
-next_call-unread : (me : ℕ) (idle : Bool) (core : Core) (calls : List Command) (mails more : List Mail) → (next_call me idle core calls mails).0 ≡ (next_call me idle core calls more).0
-unfolding next_call
-next_call-unread me idle core [] mails more = refl
-next_call-unread me idle core (command ∷ calls) mails more =
-    call-unread (waits idle core.lock command) (turned_down core command) (None, command ∷ calls, mails) (None, command ∷ calls, more) command calls mails more
-    (λ answer. next_call me idle core calls (answered me core.id answer command mails)) (λ answer. next_call me idle core calls (answered me core.id answer command more)) refl
-    (λ answer. next_call-unread me idle core calls _ _)
+next_queued-unread : (me : ℕ) (idle : Bool) (core : Core) (backlog : List Command) (mails more : List Mail) → (next_queued me idle core backlog mails).0 ≡ (next_queued me idle core backlog more).0
+unfolding next_queued
+next_queued-unread me idle core [] mails more = refl
+next_queued-unread me idle core (command ∷ backlog) mails more =
+    call-unread (waits idle core.lock command) (turned_down core command) (None, command ∷ backlog, mails) (None, command ∷ backlog, more) command backlog mails more
+    (λ answer. next_queued me idle core backlog (answered me core.id answer command mails)) (λ answer. next_queued me idle core backlog (answered me core.id answer command more)) refl
+    (λ answer. next_queued-unread me idle core backlog _ _)
 
-calls-unread : (r : ReplicaState) (mails more : List Mail) → (from_calls (r, mails)).0 ≡ (from_calls (r, more)).0
-unfolding from_calls
-calls-unread r mails more = next_call-unread r.me (is_idle r) r.group.core r.calls mails more
+backlog-unread : (r : ReplicaState) (mails more : List Mail) → (from_backlog (r, mails)).0 ≡ (from_backlog (r, more)).0
+unfolding from_backlog
+backlog-unread r mails more = next_queued-unread r.me (is_idle r) r.group.core r.backlog mails more
 
 either-unread : (b : Bool) (x y v w : Found) → x.0 ≡ v.0 → y.0 ≡ w.0 → (if b then x else y).0 ≡ (if b then v else w).0
 either-unread true x y v w p q = p
 either-unread false x y v w p q = q
 
 acts-unread : (acts : List Command) (r : ReplicaState) (mails more : List Mail) → (from_acts acts (r, mails)).0 ≡ (from_acts acts (r, more)).0
-acts-unread [] r mails more = calls-unread r mails more
+acts-unread [] r mails more = backlog-unread r mails more
 acts-unread (act ∷ acts) r mails more = either-unread (is_idle r) _ _ _ _ refl refl
 
 queues-unread : (r : ReplicaState) (mails more : List Mail) → (from_queues (r, mails)).0 ≡ (from_queues (r, more)).0

@@ -1,5 +1,5 @@
 mod Rounds
-mod Calls
+mod Backlog
 mod Idling
 mod Unsent
 mod Queueing

@@ -4,7 +4,7 @@ use Rattle.std.proofs.lemmas.Bool.{eq-eqb, ltb-true, ltb-false}
 use Rattle.sc_base.specs.declared.ops.Op.{Op}
 use Rattle.sc_cmd.specs.declared.commands.Command.{Command}
 use Rattle.sc_cmd.specs.declared.commands.Command.TheVariants.{Noop, Call, Join, Leave, Split, Begin, Prepared, RecordVote, GiveUp, Finish, Watched, RecordWatch}
-use Rattle.sc_node_table.specs.Queues.{call_of, without_call, call_before, put_back}
+use Rattle.sc_node_table.specs.Queues.{queued_number, without_request, request_before, put_back}
 use Rattle.sc_node_table.specs.Replica.{ReplicaState}
 use Rattle.sc_replica.specs.Idle.{KeepsQueues}
 
@@ -13,28 +13,28 @@ pub cons_self : {X : Type 0} (x : X) (xs : List X) → x ∷ xs ≡ xs → ⊥
 cons_self x xs e = let n : suc (length xs) ≡ length xs = ap length e in omega (arith, n)
 
 -- a call at the head is that of its client
-head_call : (client seq : ℕ) (op : Op) (rest : List Command) → call_of (Call client seq op ∷ rest) client ≡ Some seq
+head_call : (client seq : ℕ) (op : Op) (rest : List Command) → queued_number (Call client seq op ∷ rest) client ≡ Some seq
 head_call client seq op rest = rw (eq-eqb client client refl) refl
 
-kept_by : (b : Bool) (calls : List Command) (client seq other : ℕ) (op : Op) → nat_lt other seq ≡ b → call_of calls client ≡ Some other
-    → (if b then Call client seq op ∷ without_call calls client else calls) ≡ calls → seq ≤ other
-kept_by true calls client seq other op less is e =
-    let found : call_of calls client ≡ Some seq = ap (λ cs. call_of cs client) (sym e) ∙ head_call client seq op (without_call calls client) in
+kept_by : (b : Bool) (backlog : List Command) (client seq other : ℕ) (op : Op) → nat_lt other seq ≡ b → queued_number backlog client ≡ Some other
+    → (if b then Call client seq op ∷ without_request backlog client else backlog) ≡ backlog → seq ≤ other
+kept_by true backlog client seq other op less is e =
+    let found : queued_number backlog client ≡ Some seq = ap (λ cs. queued_number cs client) (sym e) ∙ head_call client seq op (without_request backlog client) in
     let same : seq ≡ other = cc in
     let lt = ltb-true other seq less in
     omega (arith, lt, same)
-kept_by false calls client seq other op less is e = ltb-false other seq less
+kept_by false backlog client seq other op less is e = ltb-false other seq less
 
 -- the number of the call that waits
-pub kept_waits : (o : Option ℕ) (calls : List Command) (client seq : ℕ) (op : Op) → call_of calls client ≡ o → call_before o client seq (Call client seq op) calls ≡ calls
+pub kept_waits : (o : Option ℕ) (backlog : List Command) (client seq : ℕ) (op : Op) → queued_number backlog client ≡ o → request_before o client seq (Call client seq op) backlog ≡ backlog
     → (other : ℕ) × ((o ≡ Some other) × (seq ≤ other))
-kept_waits None calls client seq op is e = absurd (cons_self _ calls e)
-kept_waits (Some other) calls client seq op is e = (other, (refl, kept_by (nat_lt other seq) calls client seq other op refl is e))
+kept_waits None backlog client seq op is e = absurd (cons_self _ backlog e)
+kept_waits (Some other) backlog client seq op is e = (other, (refl, kept_by (nat_lt other seq) backlog client seq other op refl is e))
 
 -- a command that leaves its queue as it is when it goes back
 abbrev pub Stays : Command → ReplicaState → Type 0
 Stays Noop r = Unit {0}
-Stays (Call client seq op) r = (other : ℕ) × ((call_of r.calls client ≡ Some other) × (seq ≤ other))
+Stays (Call client seq op) r = (other : ℕ) × ((queued_number r.backlog client ≡ Some other) × (seq ≤ other))
 Stays (Join node order) r = ⊥
 Stays (Leave node order) r = ⊥
 Stays (Split at child order) r = ⊥
@@ -49,11 +49,11 @@ Stays (RecordWatch tx vote by) r = ⊥
 pub put_back-stays : (command : Command) (r : ReplicaState) → KeepsQueues r (put_back command r) → Stays command r
 unfolding put_back
 put_back-stays Noop r h = tt
-put_back-stays (Call client seq op) r h = kept_waits (call_of r.calls client) r.calls client seq op refl h.0
-put_back-stays (Join node order) r h = cons_self _ r.calls h.0
-put_back-stays (Leave node order) r h = cons_self _ r.calls h.0
-put_back-stays (Split at child order) r h = cons_self _ r.calls h.0
-put_back-stays (Begin tx body order) r h = cons_self _ r.calls h.0
+put_back-stays (Call client seq op) r h = kept_waits (queued_number r.backlog client) r.backlog client seq op refl h.0
+put_back-stays (Join node order) r h = cons_self _ r.backlog h.0
+put_back-stays (Leave node order) r h = cons_self _ r.backlog h.0
+put_back-stays (Split at child order) r h = cons_self _ r.backlog h.0
+put_back-stays (Begin tx body order) r h = cons_self _ r.backlog h.0
 put_back-stays (Prepared tx offer) r h = cons_self _ r.acts h.1
 put_back-stays (RecordVote tx vote by) r h = cons_self _ r.acts h.1
 put_back-stays (GiveUp tx) r h = cons_self _ r.acts h.1

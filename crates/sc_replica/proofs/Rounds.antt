@@ -107,12 +107,12 @@ unfolding taught
 taught-suc r count from slot command mails e = taught-by (entry_at slot r.log) r count from slot command mails e
 
 -- one entry more is sent
-pub taught-step : (r : ReplicaState) (most so_many from slot : ℕ) (command : Command) (mails more : List Mail) → so_many < most → entry_at slot r.log ≡ Some command
-    → more ≡ sent r.me from (Learn (name_of r) slot command) mails → taught (most - (so_many + 1)) r from (slot + 1) more ≡ taught (most - so_many) r from slot mails
-taught-step r most so_many from slot command mails more less e is =
-    let n : most - so_many ≡ suc (most - (so_many + 1)) = omega arith in
-    ap (taught (most - (so_many + 1)) r from (slot + 1)) is
-    ∙ taught-suc r (most - (so_many + 1)) from slot command mails e
+pub taught-step : (r : ReplicaState) (most sent_count from slot : ℕ) (command : Command) (mails more : List Mail) → sent_count < most → entry_at slot r.log ≡ Some command
+    → more ≡ sent r.me from (Learn (name_of r) slot command) mails → taught (most - (sent_count + 1)) r from (slot + 1) more ≡ taught (most - sent_count) r from slot mails
+taught-step r most sent_count from slot command mails more less e is =
+    let n : most - sent_count ≡ suc (most - (sent_count + 1)) = omega arith in
+    ap (taught (most - (sent_count + 1)) r from (slot + 1)) is
+    ∙ taught-suc r (most - (sent_count + 1)) from slot command mails e
     ∙ ap (λ count. taught count r from slot mails) (sym n)
 
 -- a slot that is taken is passed by

@@ -5,7 +5,7 @@ use Rattle.sc_base.specs.declared.names.Draw.{Draw}
 use Rattle.sc_cmd.specs.declared.commands.Command.{Command}
 use Rattle.sc_base.specs.Roster.{is_member}
 use Rattle.sc_cmd.specs.declared.cores.Core.{Core}
-use Rattle.sc_cmd.specs.declared.orders.ToldResult.{ToldResult}
+use Rattle.sc_cmd.specs.declared.orders.OrderResult.{OrderResult}
 use Rattle.sc_mail.specs.declared.bodies.AnswerBody.{AnswerBody}
 use Rattle.sc_mail.specs.declared.bodies.Mail.{Mail}
 use Rattle.sc_mail.specs.declared.bodies.MailBody.TheVariants.{Learn}
@@ -14,17 +14,17 @@ use Rattle.sc_paxos_words.specs.Votes.{has_counted}
 use Rattle.sc_node_table.specs.Slots.{rest_of}
 use Rattle.sc_node_table.specs.Replica.{ReplicaState, Place, name_of, members, next, flying, taken_at, listed, under_way}
 use Rattle.sc_node_table.specs.Election.{open_nodes, elected, ended}
-use Rattle.sc_node_table.specs.Execute.{welcomed, learnt_to, told_effect}
+use Rattle.sc_node_table.specs.Execute.{welcomed, learnt_to, effect_reported}
 use Rattle.sc_node_table.specs.Mails.{sent, answered, answered_all, dismissed_all, order_number}
 use Rattle.sc_node_table.specs.Install.{install_to, asked_to_promise, welcomed_all}
-use Rattle.sc_node_table.specs.Pump.{turned_down, next_call}
-use Rattle.sc_node_table.specs.Rows.{uncounted, asked_again, taught, told_last}
+use Rattle.sc_node_table.specs.Pump.{turned_down, next_queued}
+use Rattle.sc_node_table.specs.Rows.{uncounted, asked_again, taught, last_entry_sent}
 use Rattle.sc_replica.specs.Again.{asked_for, asked_at}
-use Rattle.sc_replica_parts.specs.Calls.{is_call}
+use Rattle.sc_replica_parts.specs.Requests.{is_request}
 use Rattle.sc_replica_parts.specs.Heads.{head_of, head_waits}
-use Rattle.sc_replica_parts.proofs.Silence.{one_more, answered-others, answered_all-before, dismissed_all-before, sent_all-before, sent_all-none, sent_others-alone, told_order-untold, filter-none}
-use Rattle.sc_replica.proofs.Calls.{next_call-answered}
-use Rattle.sc_replica.proofs.Idling.{next_call-before}
+use Rattle.sc_replica_parts.proofs.Silence.{one_more, answered-others, answered_all-before, dismissed_all-before, sent_all-before, sent_all-none, sent_others-alone, order_reported-unreported, filter-none}
+use Rattle.sc_replica.proofs.Backlog.{next_queued-answered}
+use Rattle.sc_replica.proofs.Idling.{next_queued-before}
 use Rattle.sc_replica.proofs.Rounds.{left_from, answered-step, asked-cons, asked-step, taught-step}
 
 -- of what is in flight or ready, a slot at a time
@@ -37,18 +37,18 @@ answered-none me group answer r i slot less at e =
     (n, ap (answered_all me group answer (left_from r (i + 1))) (sym n) ∙ h)
 
 -- of a command that is in flight or ready at a slot
-pub answered-listed : (me : ℕ) (group : Draw) (answer : AnswerBody) (o : Option Command) (c : Command) → Some c ≡ o → answered_all me group answer (listed o) [] ≡ [] → is_call c ≡ false
+pub answered-listed : (me : ℕ) (group : Draw) (answer : AnswerBody) (o : Option Command) (c : Command) → Some c ≡ o → answered_all me group answer (listed o) [] ≡ [] → is_request c ≡ false
 unfolding answered_all
 answered-listed me group answer None c is e = absurd (cc)
 answered-listed me group answer (Some d) c is e = let same : d ≡ c = cc in answered-others me group answer c [] (ap (λ x. answered me group answer x []) (sym same) ∙ e)
 
 -- of one that ends
 pub ended-none : (hint : Option ℕ) (answer : AnswerBody) (r : ReplicaState) → (ended hint answer (r, [])).1 ≡ []
-    → (answered_all r.me (name_of r) answer (under_way r) [] ≡ []) × (dismissed_all r.me (name_of r) hint answer r.calls [] ≡ [])
+    → (answered_all r.me (name_of r) answer (under_way r) [] ≡ []) × (dismissed_all r.me (name_of r) hint answer r.backlog [] ≡ [])
 unfolding ended
 ended-none hint answer r e =
-    let n = dismissed_all-before r.me (name_of r) hint answer r.calls _ e in
-    (n, ap (dismissed_all r.me (name_of r) hint answer r.calls) (sym n) ∙ e)
+    let n = dismissed_all-before r.me (name_of r) hint answer r.backlog _ e in
+    (n, ap (dismissed_all r.me (name_of r) hint answer r.backlog) (sym n) ∙ e)
 
 -- of an election
 elected_by : (spent : Bool) (r after : ReplicaState) (mails : List Mail) → spent ≡ false → (let e : Place = if spent then (r, []) else (after, mails) in e).1 ≡ [] → mails ≡ []
@@ -65,30 +65,30 @@ unfolding learnt_to
 learnt-alone true before slot command r c e = sent_others-alone r.me before _ [] e
 learnt-alone false before slot command r c e = absurd (cc)
 
-pub told_last-alone : (o : Option Command) (c : Command) (r : ReplicaState) → Some c ≡ o → told_last o r [] ≡ [] → All (λ node. node ≡ r.me) (members r)
-unfolding told_last
-told_last-alone None c r is e = absurd (cc)
-told_last-alone (Some d) c r is e = sent_others-alone r.me (members r) _ [] e
+pub last_entry_sent-alone : (o : Option Command) (c : Command) (r : ReplicaState) → Some c ≡ o → last_entry_sent o r [] ≡ [] → All (λ node. node ≡ r.me) (members r)
+unfolding last_entry_sent
+last_entry_sent-alone None c r is e = absurd (cc)
+last_entry_sent-alone (Some d) c r is e = sent_others-alone r.me (members r) _ [] e
 
-pub told_effect-untold : (o : Option ToldResult) (result : ToldResult) (command : Command) (r : ReplicaState) → o ≡ Some result → (told_effect o command (r, [])).1 ≡ [] → order_number command ≡ 0
-unfolding told_effect
-told_effect-untold None result command r is e = absurd (cc)
-told_effect-untold (Some other) result command r is e = told_order-untold r.me (order_number command) other [] e
+pub effect_reported-unreported : (o : Option OrderResult) (result : OrderResult) (command : Command) (r : ReplicaState) → o ≡ Some result → (effect_reported o command (r, [])).1 ≡ [] → order_number command ≡ 0
+unfolding effect_reported
+effect_reported-unreported None result command r is e = absurd (cc)
+effect_reported-unreported (Some other) result command r is e = order_reported-unreported r.me (order_number command) other [] e
 
 -- of the calls, the head is none that is answered
-pub next_call-unanswered : (me : ℕ) (idle : Bool) (core : Core) (calls : List Command) (c : Command) (answer : AnswerBody)
-    → head_waits idle core.lock calls ≡ false → Some c ≡ head_of calls → turned_down core c ≡ Some answer
-    → (next_call me idle core calls []).2 ≡ [] → answered me core.id answer c [] ≡ []
-next_call-unanswered me idle core calls c answer e is down none =
-    next_call-before me idle core (rest_of calls) _ (ap (λ (found : Option Command × List Command × List Mail). found.2) (next_call-answered me idle core calls [] c answer e is down) ∙ none)
+pub next_queued-unanswered : (me : ℕ) (idle : Bool) (core : Core) (backlog : List Command) (c : Command) (answer : AnswerBody)
+    → head_waits idle core.lock backlog ≡ false → Some c ≡ head_of backlog → turned_down core c ≡ Some answer
+    → (next_queued me idle core backlog []).2 ≡ [] → answered me core.id answer c [] ≡ []
+next_queued-unanswered me idle core backlog c answer e is down none =
+    next_queued-before me idle core (rest_of backlog) _ (ap (λ (found : Option Command × List Command × List Mail). found.2) (next_queued-answered me idle core backlog [] c answer e is down) ∙ none)
 
-pub next_call-silent : (me : ℕ) (idle : Bool) (core : Core) (calls after : List Command) (c : Command) (answer : AnswerBody)
-    → after ≡ rest_of calls → head_waits idle core.lock calls ≡ false → Some c ≡ head_of calls → turned_down core c ≡ Some answer
-    → (next_call me idle core calls []).2 ≡ [] → (next_call me idle core after []).2 ≡ []
-next_call-silent me idle core calls after c answer r e is down none =
-    ap (λ cs. (next_call me idle core cs []).2) r
-    ∙ ap (λ mails. (next_call me idle core (rest_of calls) mails).2) (sym (next_call-unanswered me idle core calls c answer e is down none))
-    ∙ ap (λ (found : Option Command × List Command × List Mail). found.2) (next_call-answered me idle core calls [] c answer e is down)
+pub next_queued-silent : (me : ℕ) (idle : Bool) (core : Core) (backlog after : List Command) (c : Command) (answer : AnswerBody)
+    → after ≡ rest_of backlog → head_waits idle core.lock backlog ≡ false → Some c ≡ head_of backlog → turned_down core c ≡ Some answer
+    → (next_queued me idle core backlog []).2 ≡ [] → (next_queued me idle core after []).2 ≡ []
+next_queued-silent me idle core backlog after c answer r e is down none =
+    ap (λ cs. (next_queued me idle core cs []).2) r
+    ∙ ap (λ mails. (next_queued me idle core (rest_of backlog) mails).2) (sym (next_queued-unanswered me idle core backlog c answer e is down none))
+    ∙ ap (λ (found : Option Command × List Command × List Mail). found.2) (next_queued-answered me idle core backlog [] c answer e is down)
     ∙ none
 
 -- of what is in flight, asked again
@@ -123,9 +123,9 @@ taught-before (suc count) r from slot mails e =
     by_entry-before (entry_at slot r.log) mails (λ command. taught count r from (slot + 1) (sent r.me from (Learn (name_of r) slot command) mails))
     (λ command h. absurd (one_more mails _ (taught-before count r from (slot + 1) _ h))) e
 
-pub taught-some : (r : ReplicaState) (most so_many from slot : ℕ) (command : Command) → so_many < most → entry_at slot r.log ≡ Some command → taught (most - so_many) r from slot [] ≡ [] → ⊥
-taught-some r most so_many from slot command less e none =
-    one_more [] _ (taught-before (most - (so_many + 1)) r from (slot + 1) _ (taught-step r most so_many from slot command [] _ less e refl ∙ none))
+pub taught-some : (r : ReplicaState) (most sent_count from slot : ℕ) (command : Command) → sent_count < most → entry_at slot r.log ≡ Some command → taught (most - sent_count) r from slot [] ≡ [] → ⊥
+taught-some r most sent_count from slot command less e none =
+    one_more [] _ (taught-before (most - (sent_count + 1)) r from (slot + 1) _ (taught-step r most sent_count from slot command [] _ less e refl ∙ none))
 
 -- of members that were added
 promise-before : (b : Bool) (place : Place) (mail : Mail) → (if b then place else (place.0, place.1 ++ mail ∷ [])).1 ≡ [] → place.1 ≡ []

@@ -6,7 +6,7 @@ use Rattle.sc_mail.specs.declared.bodies.Mail.{Mail}
 use Rattle.sc_paxos_words.specs.Logs.{entry_at}
 use Rattle.sc_node_table.specs.Replica.{ReplicaState, name_of, next, flying, is_idle}
 use Rattle.sc_node_table.specs.Mails.{sent_all}
-use Rattle.sc_node_table.specs.Rows.{uncounted, told_last, asked_again}
+use Rattle.sc_node_table.specs.Rows.{uncounted, last_entry_sent, asked_again}
 
 -- an accept of this command, if there is one, to each of these members whose vote was not counted at the slot
 abbrev pub asked_for : Option Command → ReplicaState → ℕ → List ℕ → List Mail → List Mail
@@ -19,4 +19,4 @@ asked_at r slot set mails = asked_for (flying r slot) r slot set mails
 
 -- a settled replica sends the accepts again of each slot in flight, and with nothing in flight or ready the last entry
 abbrev pub repeated : ReplicaState → List Mail → List Mail
-repeated r mails = if is_idle r then told_last (entry_at (next r - 1) r.log) r mails else asked_again r (next r) r.sets mails
+repeated r mails = if is_idle r then last_entry_sent (entry_at (next r - 1) r.log) r mails else asked_again r (next r) r.sets mails

@@ -21,7 +21,7 @@ bare_replica me group log sets = record {
   ready = [];
   sets = sets;
   acts = [];
-  calls = [];
+  backlog = [];
   waits = 0;
 }
 

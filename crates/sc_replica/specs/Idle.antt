@@ -8,7 +8,7 @@ use Rattle.sc_node_table.specs.Voting.{leads}
 
 -- the queues of a replica after a step are those before it
 abbrev pub KeepsQueues : ReplicaState → ReplicaState → Type 0
-KeepsQueues before after = (after.calls ≡ before.calls) × (after.acts ≡ before.acts)
+KeepsQueues before after = (after.backlog ≡ before.backlog) × (after.acts ≡ before.acts)
 
 -- whether an Install is ignored: its slot is executed already or is above the last slot, or it does not have the members of as many slots as are open
 abbrev pub ignores : ℕ → List (List ℕ) → ReplicaState → Bool

@@ -114,14 +114,14 @@ impl Replica {
             self.name(),
             hint,
             body,
-            &self.calls,
+            &self.backlog,
             out,
         )?;
         self.running = false;
         self.leader = Leader::elect(self.alloc, self.leader.ballot(), self.next());
         self.ready = BTreeMap::new(self.alloc);
         self.acts.clear();
-        self.calls.clear();
+        self.backlog.clear();
         self.hint = hint;
         Ok(())
     }

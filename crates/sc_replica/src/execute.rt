@@ -6,16 +6,16 @@ ghost use Rattle.sc_cmd.specs.declared.commands.Command.TheVariants.{Call};
 ghost use Rattle.sc_machine_table.specs.Machine.{applied};
 ghost use Rattle.sc_node_table.specs.Slots.{slots_ahead};
 ghost use Rattle.sc_node_table.specs.Replica.{next, members, last_slot};
-ghost use Rattle.sc_replica_parts.specs.Calls.{is_call};
+ghost use Rattle.sc_replica_parts.specs.Requests.{is_request};
 ghost use Rattle.sc_replica.specs.Idle.{KeepsQueues};
-ghost use Rattle.sc_node_table.specs.Execute.{entered, answer_of, told_call, told_effect, learnt_to, welcomed, slot_lost, landed, left_gone, left, is_among, looked, has_room, next_ready};
+ghost use Rattle.sc_node_table.specs.Execute.{entered, answer_of, answered_or_put_back, effect_reported, learnt_to, welcomed, slot_lost, landed, left_gone, left, is_among, looked, has_room, next_ready};
 
 use crate::replica::{LAST_SLOT, Replica};
 use sc_base::{Dup, Members, OutOfMemory, Sequence, dup_found};
-use sc_cmd::{Command, Effect, ToldResult};
+use sc_cmd::{Command, Effect, OrderResult};
 use sc_mail::{AnswerBody, Mail};
 use sc_replica_choices::{not_among, same_command, waits_in};
-use sc_replica_parts::{answer, drop_ready, order_number, ready_at, tell_order};
+use sc_replica_parts::{answer, drop_ready, order_number, ready_at, report_order};
 
 /// Returns the answer to the client of a request with this effect. None where it has to wait.
 fn answer_of(effect: Effect) -> Option<AnswerBody>
@@ -56,16 +56,16 @@ impl Replica {
     }
 
     /// Sends this answer to the client of a request. Does nothing for another command.
-    #[tactic(auto, unfolding(sc_node_table::specs::Execute::told_call))]
-    fn answer_call(
+    #[tactic(auto, unfolding(sc_node_table::specs::Execute::answered_or_put_back))]
+    fn answer_request(
         &self,
         body: AnswerBody,
         command: &Command,
         out: &mut Sequence<Mail>,
     ) -> Result<(), OutOfMemory>
         ensures row { OnOk result
-            ((self.now, out.new) ≡ told_call (Some body) command.now (self.now, out.old)) }
-        ensures others { is_call command.now ≡ false → IsOk result }
+            ((self.now, out.new) ≡ answered_or_put_back (Some body) command.now (self.now, out.old)) }
+        ensures others { is_request command.now ≡ false → IsOk result }
     {
         match command {
             Command::Call { client, seq, .. } => {
@@ -76,11 +76,11 @@ impl Replica {
     }
 
     /// Puts a copy of a request back into its queue. Does nothing for another command.
-    #[tactic(auto, unfolding(sc_node_table::specs::Execute::told_call))]
-    fn call_again(&mut self, command: &Command, out: &Sequence<Mail>) -> Result<(), OutOfMemory>
+    #[tactic(auto, unfolding(sc_node_table::specs::Execute::answered_or_put_back))]
+    fn put_copy_back(&mut self, command: &Command, out: &Sequence<Mail>) -> Result<(), OutOfMemory>
         ensures row { OnOk result
-            ((self.new, out.now) ≡ told_call None command.now (self.old, out.now)) }
-        ensures others { is_call command.now ≡ false → IsOk result }
+            ((self.new, out.now) ≡ answered_or_put_back None command.now (self.old, out.now)) }
+        ensures others { is_request command.now ≡ false → IsOk result }
     {
         match command {
             Command::Call { .. } => self.put_back(command.dup(self.alloc)?),
@@ -90,19 +90,19 @@ impl Replica {
 
     /// Answers the client of a request by its effect, or puts the request back where the effect
     /// gives no answer.
-    fn tell_call(
+    fn answer_or_put_back(
         &mut self,
         effect: Effect,
         command: &Command,
         out: &mut Sequence<Mail>,
     ) -> Result<(), OutOfMemory>
         ensures row { OnOk result
-            ((self.new, out.new) ≡ told_call (answer_of effect) command.now (self.old, out.old)) }
-        ensures others { is_call command.now ≡ false → IsOk result }
+            ((self.new, out.new) ≡ answered_or_put_back (answer_of effect) command.now (self.old, out.old)) }
+        ensures others { is_request command.now ≡ false → IsOk result }
     {
         match answer_of(effect) {
-            Some(body) => self.answer_call(body, command, out),
-            None => self.call_again(command, out),
+            Some(body) => self.answer_request(body, command, out),
+            None => self.put_copy_back(command, out),
         }
     }
 
@@ -111,7 +111,7 @@ impl Replica {
     /// `counted`: this replica led, and counted the votes for the command; else it learnt the
     /// command from another node. Mails are appended to those that are there. After
     /// `Err(OutOfMemory)` the replica may only be dropped.
-    pub fn tell_counted(
+    pub fn answer_counted(
         &mut self,
         counted: bool,
         effect: Effect,
@@ -120,33 +120,33 @@ impl Replica {
     ) -> Result<(), OutOfMemory>
         ensures row { OnOk result
             ((self.new, out.new)
-            ≡ (if counted then told_call (answer_of effect) command.now (self.old, out.old) else
+            ≡ (if counted then answered_or_put_back (answer_of effect) command.now (self.old, out.old) else
             (self.old, out.old))) }
         ensures uncounted { counted ≡ false → IsOk result }
-        ensures others { is_call command.now ≡ false → IsOk result }
+        ensures others { is_request command.now ≡ false → IsOk result }
     {
         if !counted {
             return Ok(());
         }
-        self.tell_call(effect, command, out)
+        self.answer_or_put_back(effect, command, out)
     }
 
     /// Reports to the desk the result of an executed order, if there is a result and the order has
     /// a number. Mails are appended to those that are there; after `Err(OutOfMemory)` they may only
     /// be dropped.
-    #[tactic(auto, unfolding(sc_node_table::specs::Execute::told_effect))]
-    pub fn tell_effect(
+    #[tactic(auto, unfolding(sc_node_table::specs::Execute::effect_reported))]
+    pub fn report_effect(
         &self,
-        told: Option<ToldResult>,
+        told: Option<OrderResult>,
         command: &Command,
         out: &mut Sequence<Mail>,
     ) -> Result<(), OutOfMemory>
         ensures row { OnOk result
-            ((self.now, out.new) ≡ told_effect told command.now (self.now, out.old)) }
-        ensures none { (told_effect told command.now (self.now, [])).1 ≡ [] → IsOk result }
+            ((self.now, out.new) ≡ effect_reported told command.now (self.now, out.old)) }
+        ensures none { (effect_reported told command.now (self.now, [])).1 ≡ [] → IsOk result }
     {
         match told {
-            Some(result) => tell_order(self.me, order_number(command), result, out),
+            Some(result) => report_order(self.me, order_number(command), result, out),
             None => Ok(()),
         }
     }

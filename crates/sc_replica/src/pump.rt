@@ -6,7 +6,7 @@ ghost use Rattle.sc_paxos_words.specs.Choice.{chosen_value};
 ghost use Rattle.sc_node_table.specs.Slots.{slots_ahead};
 ghost use Rattle.sc_node_table.specs.Replica.{next, settled, may_offer, taken_at, listed, under_way, is_idle, last_slot};
 ghost use Rattle.sc_replica_parts.specs.Heads.{head_waits};
-ghost use Rattle.sc_node_table.specs.Pump.{is_act, next_call, from_calls, from_acts, from_queues, found_for, offered, pumped_from, pumped};
+ghost use Rattle.sc_node_table.specs.Pump.{is_act, next_queued, from_backlog, from_acts, from_queues, found_for, offered, pumped_from, pumped};
 
 use crate::replica::{LAST_SLOT, Replica};
 use sc_base::{Dup, OutOfMemory, Sequence};
@@ -19,10 +19,10 @@ use std::alloc::Global;
 use std::collections::VecDeque;
 
 // Returns whether the head of the queue of requests and orders has to wait, or there is none.
-fn head_waits(idle: bool, lock: &Lock, calls: &VecDeque<Command>) -> bool
-    ensures { result ≡ head_waits idle lock.now calls.now.items }
+fn head_waits(idle: bool, lock: &Lock, backlog: &VecDeque<Command>) -> bool
+    ensures { result ≡ head_waits idle lock.now backlog.now.items }
 {
-    match head(calls) {
+    match head(backlog) {
         None => true,
         Some(command) => waits(idle, lock, command),
     }
@@ -30,21 +30,21 @@ fn head_waits(idle: bool, lock: &Lock, calls: &VecDeque<Command>) -> bool
 
 /// Returns the command at the head of the queue of requests and orders, if it may have a slot.
 /// Requests before it that the group does not serve are answered and leave the queue.
-fn next_call(
+fn next_queued(
     alloc: Global,
     me: u16,
     idle: bool,
     core: &Core,
-    calls: &mut VecDeque<Command>,
+    backlog: &mut VecDeque<Command>,
     out: &mut Sequence<Mail>,
 ) -> Result<Option<Command>, OutOfMemory>
     ensures found { IfOk result
         (λ command.
-        (command, calls.new.items, out.new) ≡ next_call me idle core.now calls.old.items out.old) }
-    ensures none { (next_call me idle core.now calls.old.items []).2 ≡ [] → IsOk result }
+        (command, backlog.new.items, out.new) ≡ next_queued me idle core.now backlog.old.items out.old) }
+    ensures none { (next_queued me idle core.now backlog.old.items []).2 ≡ [] → IsOk result }
 {
-    while !head_waits(idle, &core.lock, calls) {
-        let Some(command) = take_head(calls) else {
+    while !head_waits(idle, &core.lock, backlog) {
+        let Some(command) = take_head(backlog) else {
             return Ok(None);
         };
         match turned_down(core, &command) {
@@ -127,21 +127,21 @@ impl Replica {
     }
 
     /// Takes a command for a slot from the queue of requests and orders, if one may have it.
-    #[tactic(auto, unfolding(sc_node_table::specs::Pump::from_calls))]
-    fn find_in_calls(&mut self, out: &mut Sequence<Mail>) -> Result<Option<Command>, OutOfMemory>
+    #[tactic(auto, unfolding(sc_node_table::specs::Pump::from_backlog))]
+    fn find_in_backlog(&mut self, out: &mut Sequence<Mail>) -> Result<Option<Command>, OutOfMemory>
         ensures found { IfOk result
-            (λ command. (command, (self.new, out.new)) ≡ from_calls (self.old, out.old)) }
-        ensures none { (from_calls (self.old, [])).1.1 ≡ [] → IsOk result }
+            (λ command. (command, (self.new, out.new)) ≡ from_backlog (self.old, out.old)) }
+        ensures none { (from_backlog (self.old, [])).1.1 ≡ [] → IsOk result }
         ensures leader { OnOk result (self.new.leader ≡ self.old.leader) }
         ensures sets { OnOk result (self.new.sets ≡ self.old.sets) }
     {
         let idle = self.is_idle();
-        next_call(
+        next_queued(
             self.alloc,
             self.me,
             idle,
             self.machine.core(),
-            &mut self.calls,
+            &mut self.backlog,
             out,
         )
     }
@@ -157,7 +157,7 @@ impl Replica {
         ensures sets { OnOk result (self.new.sets ≡ self.old.sets) }
     {
         if is_empty(&self.acts) {
-            return self.find_in_calls(out);
+            return self.find_in_backlog(out);
         }
         if !self.is_idle() {
             return Ok(None);

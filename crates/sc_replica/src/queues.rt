@@ -6,7 +6,7 @@ ghost use Rattle.sc_replica.specs.Idle.{KeepsQueues};
 use crate::replica::Replica;
 use sc_base::OutOfMemory;
 use sc_cmd::Command;
-use sc_replica_parts::{push_front, put_call};
+use sc_replica_parts::{push_front, put_request};
 
 impl Replica {
     /// Puts a command back at the head of its queue. A Noop is dropped; of two requests of a client
@@ -21,12 +21,12 @@ impl Replica {
             Command::Call { client, seq, .. } => {
                 let client = *client;
                 let seq = *seq;
-                put_call(&mut self.calls, client, seq, command)
+                put_request(&mut self.backlog, client, seq, command)
             }
             Command::Join { .. }
             | Command::Leave { .. }
             | Command::Split { .. }
-            | Command::Begin { .. } => push_front(&mut self.calls, command),
+            | Command::Begin { .. } => push_front(&mut self.backlog, command),
             Command::Prepared { .. }
             | Command::RecordVote { .. }
             | Command::GiveUp { .. }

@@ -36,7 +36,7 @@ pub struct Replica {
     pub(crate) ready: BTreeMap<u32, Command>,
     pub(crate) sets: Sets,
     pub(crate) acts: VecDeque<Command>,
-    pub(crate) calls: VecDeque<Command>,
+    pub(crate) backlog: VecDeque<Command>,
     pub(crate) waits: u32,
     pub(crate) alloc: Global,
 }
@@ -69,7 +69,7 @@ impl Model for Replica {
       ready = r.ready.entries;
       sets = r.sets;
       acts = r.acts.items;
-      calls = r.calls.items;
+      backlog = r.backlog.items;
       waits = r.waits;
     } };
 }
@@ -97,7 +97,7 @@ impl Replica {
             ready: BTreeMap::new(alloc),
             sets,
             acts: VecDeque::new(alloc),
-            calls: VecDeque::new(alloc),
+            backlog: VecDeque::new(alloc),
             waits: 0,
             alloc,
         }

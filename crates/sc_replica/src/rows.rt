@@ -4,20 +4,20 @@ ghost use Rattle.std.specs.Option.{option_copied};
 ghost use Rattle.sc_base.specs.Roster.{is_member};
 ghost use Rattle.sc_paxos_words.specs.Logs.{entry_at, next_of};
 ghost use Rattle.sc_cmd.specs.declared.commands.Command.TheVariants.{Call};
-ghost use Rattle.sc_node_table.specs.Queues.{call_of};
+ghost use Rattle.sc_node_table.specs.Queues.{queued_number};
 ghost use Rattle.sc_mail.specs.declared.bodies.MailBody.TheVariants.{Ask, Learn};
 ghost use Rattle.sc_node_table.specs.Mails.{sent};
 ghost use Rattle.sc_replica.specs.Again.{asked_at, repeated};
 ghost use Rattle.sc_node_table.specs.Replica.{name_of, next, members, flying, is_idle};
-ghost use Rattle.sc_node_table.specs.Rows.{refused_at, queued, requested, request_row, asked_again, told_last, mailed};
+ghost use Rattle.sc_node_table.specs.Rows.{refused_at, queued, requested, request_row, asked_again, last_entry_sent, mailed};
 ghost use Rattle.sc_replica.specs.Given.{is_of_round};
 ghost use Rattle.sc_replica.specs.Idle.{IsRoundPassedBy};
 
 use crate::replica::Replica;
 use sc_base::{Members, Op, OutOfMemory, Sequence};
 use sc_mail::{Mail, MailBody};
-use sc_replica_choices::{call_refusal, uncounted};
-use sc_replica_parts::{add_call, answer, call_of, drop_call, send};
+use sc_replica_choices::{request_refusal, uncounted};
+use sc_replica_parts::{add_request, answer, queued_number, drop_request, send};
 
 impl Replica {
     /// Appends a request to the queue in place of an earlier one of its client, and pumps. Does
@@ -32,17 +32,17 @@ impl Replica {
     ) -> Result<(), OutOfMemory>
         ensures row { OnOk result
             ((self.new, out.new)
-            ≡ queued (call_of self.old.calls client) client seq op.now (self.old, out.old)) }
-        ensures waiting { (other : ℕ) → call_of self.old.calls client ≡ Some other →
+            ≡ queued (queued_number self.old.backlog client) client seq op.now (self.old, out.old)) }
+        ensures waiting { (other : ℕ) → queued_number self.old.backlog client ≡ Some other →
             seq ≤ other → IsOk result }
     {
-        if let Some(other) = call_of(&self.calls, client) {
+        if let Some(other) = queued_number(&self.backlog, client) {
             if seq <= other {
                 return Ok(());
             }
-            drop_call(&mut self.calls, client);
+            drop_request(&mut self.backlog, client);
         }
-        add_call(self.alloc, &mut self.calls, client, seq, op)?;
+        add_request(self.alloc, &mut self.backlog, client, seq, op)?;
         self.pump(out)
     }
 
@@ -60,9 +60,9 @@ impl Replica {
         ensures row { OnOk result
             ((self.new, out.new) ≡ request_row client seq op.now (self.old, out.old)) }
         ensures waiting { (other : ℕ) → refused_at self.old.group.core.gone op.now self.old ≡ None
-            → call_of self.old.calls client ≡ Some other → seq ≤ other → IsOk result }
+            → queued_number self.old.backlog client ≡ Some other → seq ≤ other → IsOk result }
     {
-        match call_refusal(self.machine.core(), self.running, self.hint, op) {
+        match request_refusal(self.machine.core(), self.running, self.hint, op) {
             Some(body) => answer(self.me, self.name(), client, seq, body, out),
             None => self.queue(client, seq, op, out),
         }
@@ -120,11 +120,11 @@ impl Replica {
     }
 
     /// Sends the last executed entry, if it is held, to each other member.
-    #[tactic(auto, unfolding(sc_node_table::specs::Rows::told_last))]
-    fn tell_last(&self, out: &mut Sequence<Mail>) -> Result<(), OutOfMemory>
+    #[tactic(auto, unfolding(sc_node_table::specs::Rows::last_entry_sent))]
+    fn send_last_entry(&self, out: &mut Sequence<Mail>) -> Result<(), OutOfMemory>
         ensures mails { OnOk result
-            (out.new ≡ told_last (entry_at (next self.now - 1) self.now.log) self.now out.old) }
-        ensures none { told_last (entry_at (next self.now - 1) self.now.log) self.now [] ≡ [] →
+            (out.new ≡ last_entry_sent (entry_at (next self.now - 1) self.now.log) self.now out.old) }
+        ensures none { last_entry_sent (entry_at (next self.now - 1) self.now.log) self.now [] ≡ [] →
             IsOk result }
     {
         let slot = self.next() - 1;
@@ -160,7 +160,7 @@ impl Replica {
         ensures none { repeated self.now [] ≡ [] → IsOk result }
     {
         if self.is_idle() {
-            return self.tell_last(out);
+            return self.send_last_entry(out);
         }
         self.ask_again(out)
     }

@@ -3,7 +3,7 @@
 ghost use Rattle.std.specs.Prelude.{◌≡◌, [], true, OnOk, IsOk};
 ghost use Rattle.std.specs.List.{list_any};
 ghost use Rattle.sc_node_table.specs.Replica.{taken_at, listed, under_way};
-ghost use Rattle.sc_node_table.specs.Queues.{with_call};
+ghost use Rattle.sc_node_table.specs.Queues.{with_order_queued};
 ghost use Rattle.sc_node_table.specs.Policy.{is_at_rest};
 ghost use Rattle.sc_node_table.specs.Pump.{pumped};
 ghost use Rattle.sc_node_table.specs.Acts.{is_of_kind, has_act, with_act, act_queued};
@@ -77,14 +77,14 @@ impl Replica {
         ensures { result ≡ is_at_rest self.now }
     {
         let idle = self.is_idle();
-        is_at_rest(idle, &self.acts, &self.calls, &self.machine.core().lock)
+        is_at_rest(idle, &self.acts, &self.backlog, &self.machine.core().lock)
     }
 
     /// Appends the command of an order to the queue of requests and orders. After `Err(OutOfMemory)`
     /// the replica may only be dropped.
     pub fn put_order(&mut self, command: Command) -> Result<(), OutOfMemory>
-        ensures { OnOk result (self.new ≡ with_call command self.old) }
+        ensures { OnOk result (self.new ≡ with_order_queued command self.old) }
     {
-        push_back(&mut self.calls, command)
+        push_back(&mut self.backlog, command)
     }
 }

@@ -2,9 +2,9 @@
 ghost use Rattle.std.specs.Prelude.{◌≡◌, ◌≤◌, ◌==◌, ◌&&◌, length};
 ghost use Rattle.sc_ideal.specs.IdealStore.{key_of, holds_key};
 ghost use Rattle.sc_node_table.specs.Replica.{floor_of, waits_in};
-ghost use Rattle.sc_node_table.specs.Pump.{serves_calls, waits, turned_down, refused_by};
+ghost use Rattle.sc_node_table.specs.Pump.{admits_requests, waits, turned_down, refused_by};
 ghost use Rattle.sc_node_table.specs.Policy.{is_free};
-ghost use Rattle.sc_node_table.specs.Rows.{call_refusal};
+ghost use Rattle.sc_node_table.specs.Rows.{request_refusal};
 
 use sc_base::{Op, RingArc};
 use sc_cmd::{Command, Core, Lock};
@@ -13,8 +13,8 @@ use sc_node_table::CUT_UNIT;
 use std::collections::VecDeque;
 
 // Returns whether requests get slots under this lock.
-fn serves_calls(lock: &Lock) -> bool
-    ensures { result ≡ serves_calls lock.now }
+fn admits_requests(lock: &Lock) -> bool
+    ensures { result ≡ admits_requests lock.now }
 {
     match lock {
         Lock::Free | Lock::Watching { .. } => true,
@@ -32,8 +32,8 @@ fn holds_key(arc: &RingArc, op: &Op) -> bool
 /// Returns why a request is not taken, the first of these that holds: the group is gone, the
 /// replica does not run, another group has the key. None where it is taken; then it waits for a
 /// slot, whatever it asks for.
-pub fn call_refusal(core: &Core, running: bool, hint: Option<u16>, op: &Op) -> Option<AnswerBody>
-    ensures { result ≡ call_refusal core.now.gone core.now running hint op.now }
+pub fn request_refusal(core: &Core, running: bool, hint: Option<u16>, op: &Op) -> Option<AnswerBody>
+    ensures { result ≡ request_refusal core.now.gone core.now running hint op.now }
 {
     if let Some(into) = &core.gone {
         return Some(AnswerBody::Gone { into: *into });
@@ -41,7 +41,7 @@ pub fn call_refusal(core: &Core, running: bool, hint: Option<u16>, op: &Op) -> O
     if !running {
         return Some(AnswerBody::NotLeader { hint });
     }
-    if serves_calls(&core.lock) && !holds_key(&core.arc, op) {
+    if admits_requests(&core.lock) && !holds_key(&core.arc, op) {
         return Some(AnswerBody::NotMine {
             arc: core.arc,
             succ: core.succ,
@@ -56,8 +56,8 @@ pub fn waits(idle: bool, lock: &Lock, command: &Command) -> bool
     ensures { result ≡ waits idle lock.now command.now }
 {
     match command {
-        Command::Call { .. } => !serves_calls(lock),
-        _ => !serves_calls(lock) || !idle,
+        Command::Call { .. } => !admits_requests(lock),
+        _ => !admits_requests(lock) || !idle,
     }
 }
 
@@ -102,13 +102,13 @@ fn is_free(lock: &Lock) -> bool
 pub fn is_at_rest(
     idle: bool,
     acts: &VecDeque<Command>,
-    calls: &VecDeque<Command>,
+    backlog: &VecDeque<Command>,
     lock: &Lock,
 ) -> bool
-    ensures { result ≡ (idle && (length acts.now.items == 0) && (length calls.now.items == 0)
+    ensures { result ≡ (idle && (length acts.now.items == 0) && (length backlog.now.items == 0)
         && is_free lock.now) }
 {
-    idle && acts.is_empty() && calls.is_empty() && is_free(lock)
+    idle && acts.is_empty() && backlog.is_empty() && is_free(lock)
 }
 
 /// Returns the number of ticks that a transaction has waited: 0 where the group is not locked.

@@ -12,7 +12,7 @@ mod noted;
 mod open_sets;
 
 pub use acts::{has_kind, is_of_kind};
-pub use choices::{call_refusal, floor_of, is_at_rest, turned_down, waits, waits_in};
+pub use choices::{request_refusal, floor_of, is_at_rest, turned_down, waits, waits_in};
 pub use commands::{is_act, same_command};
 pub use heard::record_of;
 pub use nodes::{nodes_to, not_among, uncounted};

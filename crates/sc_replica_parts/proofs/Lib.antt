@@ -1,4 +1,4 @@
 pub mod Silence
-mod Calls
+mod Requests
 mod Places
 mod SlotMaps

@@ -6,13 +6,13 @@ use Rattle.std.proofs.Math.Seq.{drop-cons}
 use Rattle.sc_base.specs.declared.names.Draw.{Draw}
 use Rattle.sc_cmd.specs.declared.commands.Command.{Command}
 use Rattle.sc_cmd.specs.declared.commands.Command.TheVariants.{Noop, Call, Join, Leave, Split, Begin, Prepared, RecordVote, GiveUp, Finish, Watched, RecordWatch}
-use Rattle.sc_cmd.specs.declared.orders.ToldResult.{ToldResult}
+use Rattle.sc_cmd.specs.declared.orders.OrderResult.{OrderResult}
 use Rattle.sc_mail.specs.declared.bodies.AnswerBody.{AnswerBody}
 use Rattle.sc_mail.specs.declared.bodies.MailBody.{MailBody}
 use Rattle.sc_mail.specs.declared.bodies.Mail.{Mail}
-use Rattle.sc_policy.specs.Wishes.{is_told}
-use Rattle.sc_replica_parts.specs.Calls.{is_call}
-use Rattle.sc_node_table.specs.Mails.{sent, sent_all, sent_others, answered, answered_all, order_number, told_order, dismissed, dismissed_all}
+use Rattle.sc_policy.specs.Wishes.{is_reported}
+use Rattle.sc_replica_parts.specs.Requests.{is_request}
+use Rattle.sc_node_table.specs.Mails.{sent, sent_all, sent_others, answered, answered_all, order_number, order_reported, dismissed, dismissed_all}
 
 -- behind one more there is one
 pub one_more : {X : Type 0} (xs : List X) (x : X) → xs ++ x ∷ [] ≡ [] → ⊥
@@ -75,7 +75,7 @@ answered-before me group answer (Finish tx outcome) mails e = e
 answered-before me group answer (Watched tx watch) mails e = e
 answered-before me group answer (RecordWatch tx vote by) mails e = e
 
-pub answered-others : (me : ℕ) (group : Draw) (answer : AnswerBody) (command : Command) (mails : List Mail) → answered me group answer command mails ≡ [] → is_call command ≡ false
+pub answered-others : (me : ℕ) (group : Draw) (answer : AnswerBody) (command : Command) (mails : List Mail) → answered me group answer command mails ≡ [] → is_request command ≡ false
 unfolding answered
 answered-others me group answer (Call client seq op) mails e = absurd (one_more mails _ e)
 answered-others me group answer Noop mails e = refl
@@ -96,43 +96,43 @@ answered_all-before me group answer [] mails e = e
 answered_all-before me group answer (command ∷ commands) mails e = answered-before me group answer command mails (answered_all-before me group answer commands _ e)
 
 -- to the desk
-pub told_order-before : (me number : ℕ) (result : ToldResult) (mails : List Mail) → told_order me number result mails ≡ [] → mails ≡ []
-unfolding told_order
-told_order-before me number result mails e = if_one (is_told number) mails _ e
+pub order_reported-before : (me number : ℕ) (result : OrderResult) (mails : List Mail) → order_reported me number result mails ≡ [] → mails ≡ []
+unfolding order_reported
+order_reported-before me number result mails e = if_one (is_reported number) mails _ e
 
 pub dismissed-before : (me : ℕ) (group : Draw) (hint : Option ℕ) (answer : AnswerBody) (command : Command) (mails : List Mail) → dismissed me group hint answer command mails ≡ [] → mails ≡ []
 unfolding dismissed
 dismissed-before me group hint answer (Call client seq op) mails e = absurd (one_more mails _ e)
-dismissed-before me group hint answer Noop mails e = told_order-before me _ _ mails e
-dismissed-before me group hint answer (Join node order) mails e = told_order-before me _ _ mails e
-dismissed-before me group hint answer (Leave node order) mails e = told_order-before me _ _ mails e
-dismissed-before me group hint answer (Split at child order) mails e = told_order-before me _ _ mails e
-dismissed-before me group hint answer (Begin tx body order) mails e = told_order-before me _ _ mails e
-dismissed-before me group hint answer (Prepared tx offer) mails e = told_order-before me _ _ mails e
-dismissed-before me group hint answer (RecordVote tx vote by) mails e = told_order-before me _ _ mails e
-dismissed-before me group hint answer (GiveUp tx) mails e = told_order-before me _ _ mails e
-dismissed-before me group hint answer (Finish tx outcome) mails e = told_order-before me _ _ mails e
-dismissed-before me group hint answer (Watched tx watch) mails e = told_order-before me _ _ mails e
-dismissed-before me group hint answer (RecordWatch tx vote by) mails e = told_order-before me _ _ mails e
+dismissed-before me group hint answer Noop mails e = order_reported-before me _ _ mails e
+dismissed-before me group hint answer (Join node order) mails e = order_reported-before me _ _ mails e
+dismissed-before me group hint answer (Leave node order) mails e = order_reported-before me _ _ mails e
+dismissed-before me group hint answer (Split at child order) mails e = order_reported-before me _ _ mails e
+dismissed-before me group hint answer (Begin tx body order) mails e = order_reported-before me _ _ mails e
+dismissed-before me group hint answer (Prepared tx offer) mails e = order_reported-before me _ _ mails e
+dismissed-before me group hint answer (RecordVote tx vote by) mails e = order_reported-before me _ _ mails e
+dismissed-before me group hint answer (GiveUp tx) mails e = order_reported-before me _ _ mails e
+dismissed-before me group hint answer (Finish tx outcome) mails e = order_reported-before me _ _ mails e
+dismissed-before me group hint answer (Watched tx watch) mails e = order_reported-before me _ _ mails e
+dismissed-before me group hint answer (RecordWatch tx vote by) mails e = order_reported-before me _ _ mails e
 
-pub told_order-untold : (me number : ℕ) (result : ToldResult) (mails : List Mail) → told_order me number result mails ≡ [] → number ≡ 0
-unfolding told_order
-told_order-untold me number result mails e = omega (arith, ltb-false 0 number (is_none (is_told number) mails _ e))
+pub order_reported-unreported : (me number : ℕ) (result : OrderResult) (mails : List Mail) → order_reported me number result mails ≡ [] → number ≡ 0
+unfolding order_reported
+order_reported-unreported me number result mails e = omega (arith, ltb-false 0 number (is_none (is_reported number) mails _ e))
 
-pub dismissed-untold : (me : ℕ) (group : Draw) (hint : Option ℕ) (answer : AnswerBody) (command : Command) (mails : List Mail) → dismissed me group hint answer command mails ≡ [] → order_number command ≡ 0
+pub dismissed-unreported : (me : ℕ) (group : Draw) (hint : Option ℕ) (answer : AnswerBody) (command : Command) (mails : List Mail) → dismissed me group hint answer command mails ≡ [] → order_number command ≡ 0
 unfolding dismissed
-dismissed-untold me group hint answer (Call client seq op) mails e = refl
-dismissed-untold me group hint answer Noop mails e = refl
-dismissed-untold me group hint answer (Join node order) mails e = told_order-untold me order _ mails e
-dismissed-untold me group hint answer (Leave node order) mails e = told_order-untold me order _ mails e
-dismissed-untold me group hint answer (Split at child order) mails e = told_order-untold me order _ mails e
-dismissed-untold me group hint answer (Begin tx body order) mails e = told_order-untold me order _ mails e
-dismissed-untold me group hint answer (Prepared tx offer) mails e = refl
-dismissed-untold me group hint answer (RecordVote tx vote by) mails e = refl
-dismissed-untold me group hint answer (GiveUp tx) mails e = refl
-dismissed-untold me group hint answer (Finish tx outcome) mails e = refl
-dismissed-untold me group hint answer (Watched tx watch) mails e = refl
-dismissed-untold me group hint answer (RecordWatch tx vote by) mails e = refl
+dismissed-unreported me group hint answer (Call client seq op) mails e = refl
+dismissed-unreported me group hint answer Noop mails e = refl
+dismissed-unreported me group hint answer (Join node order) mails e = order_reported-unreported me order _ mails e
+dismissed-unreported me group hint answer (Leave node order) mails e = order_reported-unreported me order _ mails e
+dismissed-unreported me group hint answer (Split at child order) mails e = order_reported-unreported me order _ mails e
+dismissed-unreported me group hint answer (Begin tx body order) mails e = order_reported-unreported me order _ mails e
+dismissed-unreported me group hint answer (Prepared tx offer) mails e = refl
+dismissed-unreported me group hint answer (RecordVote tx vote by) mails e = refl
+dismissed-unreported me group hint answer (GiveUp tx) mails e = refl
+dismissed-unreported me group hint answer (Finish tx outcome) mails e = refl
+dismissed-unreported me group hint answer (Watched tx watch) mails e = refl
+dismissed-unreported me group hint answer (RecordWatch tx vote by) mails e = refl
 
 pub dismissed_all-before : (me : ℕ) (group : Draw) (hint : Option ℕ) (answer : AnswerBody) (commands : List Command) (mails : List Mail)
     → dismissed_all me group hint answer commands mails ≡ [] → mails ≡ []

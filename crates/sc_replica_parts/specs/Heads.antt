@@ -11,4 +11,4 @@ head_of (x ∷ xs) = Some x
 -- whether the head of the queue of requests and orders has to wait, or there is none
 abbrev pub head_waits : Bool → Lock → List Command → Bool
 head_waits idle lock [] = true
-head_waits idle lock (command ∷ calls) = waits idle lock command
+head_waits idle lock (command ∷ backlog) = waits idle lock command

@@ -1,3 +1,3 @@
-pub mod Calls
+pub mod Requests
 pub mod Heads
 pub mod Definitions

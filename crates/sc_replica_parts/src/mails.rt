@@ -1,14 +1,14 @@
 //! Mails: each function appends some to those that are there.
 ghost use Rattle.std.specs.Prelude.{◌≡◌, [], false, OnOk, IsOk};
-ghost use Rattle.sc_cmd.specs.declared.orders.ToldResult.TheVariants.{Refused};
+ghost use Rattle.sc_cmd.specs.declared.orders.OrderResult.TheVariants.{Refused};
 ghost use Rattle.sc_cmd.specs.declared.orders.OrderRefusal.TheVariants.{NotLeader};
-ghost use Rattle.sc_replica_parts.specs.Calls.{is_call};
-ghost use Rattle.sc_node_table.specs.Mails.{sent, answer_to, answered, told_desk, order_number, told_order, dismissed, dismissed_all};
+ghost use Rattle.sc_replica_parts.specs.Requests.{is_request};
+ghost use Rattle.sc_node_table.specs.Mails.{sent, answer_to, answered, result_sent, order_number, order_reported, dismissed, dismissed_all};
 
 use sc_base::{Draw, Dup, OutOfMemory, Sequence};
-use sc_cmd::{Command, OrderRefusal, ToldResult};
+use sc_cmd::{Command, OrderRefusal, OrderResult};
 use sc_mail::{AnswerBody, DESK, Mail, MailBody, client_number};
-use sc_policy::is_told;
+use sc_policy::is_reported;
 use std::alloc::Global;
 use std::collections::VecDeque;
 
@@ -53,7 +53,7 @@ pub fn answer_command(
     out: &mut Sequence<Mail>,
 ) -> Result<(), OutOfMemory>
     ensures mails { OnOk result (out.new ≡ answered me group body.now command.now out.old) }
-    ensures others { is_call command.now ≡ false → IsOk result }
+    ensures others { is_request command.now ≡ false → IsOk result }
 {
     match command {
         Command::Call { client, seq, .. } => {
@@ -64,20 +64,20 @@ pub fn answer_command(
 }
 
 /// Appends a report to the desk of what became of an order.
-pub fn tell_desk(
+pub fn send_result(
     me: u16,
     number: u32,
-    told: ToldResult,
+    order_result: OrderResult,
     out: &mut Sequence<Mail>,
 ) -> Result<(), OutOfMemory>
-    ensures { OnOk result (out.new ≡ told_desk me number told out.old) }
+    ensures { OnOk result (out.new ≡ result_sent me number order_result out.old) }
 {
     send(
         me,
         DESK,
         MailBody::Told {
             order: number,
-            result: told,
+            result: order_result,
         },
         out,
     )
@@ -105,20 +105,20 @@ pub fn order_number(command: &Command) -> u32
 }
 
 /// Appends a report to the desk of what became of an order, if the order has a number.
-#[tactic(auto, unfolding(sc_node_table::specs::Mails::told_order))]
-pub fn tell_order(
+#[tactic(auto, unfolding(sc_node_table::specs::Mails::order_reported))]
+pub fn report_order(
     me: u16,
     number: u32,
-    told: ToldResult,
+    order_result: OrderResult,
     out: &mut Sequence<Mail>,
 ) -> Result<(), OutOfMemory>
-    ensures mails { OnOk result (out.new ≡ told_order me number told out.old) }
-    ensures untold { number ≡ 0 → IsOk result }
+    ensures mails { OnOk result (out.new ≡ order_reported me number order_result out.old) }
+    ensures unreported { number ≡ 0 → IsOk result }
 {
-    if !is_told(number) {
+    if !is_reported(number) {
         return Ok(());
     }
-    tell_desk(me, number, told, out)
+    send_result(me, number, order_result, out)
 }
 
 /// Appends this answer to the client of a queued request, and for a queued order the report to the
@@ -142,7 +142,7 @@ fn dismiss(
         }
         _ => {
             let why = OrderRefusal::NotLeader { hint };
-            tell_order(me, order_number(command), ToldResult::Refused(why), out)
+            report_order(me, order_number(command), OrderResult::Refused(why), out)
         }
     }
 }

@@ -3,7 +3,7 @@ ghost use Rattle.std.specs.Prelude.{◌≡◌, ℕ, ◌<◌, ◌≤◌, ◌∷�
 ghost use Rattle.std.specs.Option.{option_copied};
 ghost use Rattle.sc_cmd.specs.declared.commands.Command.TheVariants.{Call};
 ghost use Rattle.sc_node_table.specs.Slots.{rest_of};
-ghost use Rattle.sc_node_table.specs.Queues.{call_of, is_call_of, without_call, call_before};
+ghost use Rattle.sc_node_table.specs.Queues.{queued_number, is_request_of, without_request, request_before};
 ghost use Rattle.sc_replica_parts.specs.Heads.{head_of};
 
 use sc_base::{Dup, Op, OutOfMemory};
@@ -53,17 +53,17 @@ pub fn push_back(queue: &mut VecDeque<Command>, command: Command) -> Result<(), 
 }
 
 /// Appends a request to the queue.
-pub fn add_call(
+pub fn add_request(
     alloc: Global,
-    calls: &mut VecDeque<Command>,
+    backlog: &mut VecDeque<Command>,
     client: u16,
     seq: u32,
     op: &Op,
 ) -> Result<(), OutOfMemory>
-    ensures { OnOk result (calls.new.items ≡ calls.old.items ++ Call client seq op.now ∷ []) }
+    ensures { OnOk result (backlog.new.items ≡ backlog.old.items ++ Call client seq op.now ∷ []) }
 {
     let op = op.dup(alloc)?;
-    push_back(calls, Command::Call { client, seq, op })
+    push_back(backlog, Command::Call { client, seq, op })
 }
 
 /// Takes out the command at a place.
@@ -75,8 +75,8 @@ fn drop_at(queue: &mut VecDeque<Command>, i: usize)
 }
 
 /// Returns the number of a client's queued request, if there is one.
-pub fn call_of(commands: &VecDeque<Command>, client: u16) -> Option<u32>
-    ensures { result ≡ call_of commands.now.items client }
+pub fn queued_number(commands: &VecDeque<Command>, client: u16) -> Option<u32>
+    ensures { result ≡ queued_number commands.now.items client }
 {
     for i in 0..commands.len() {
         if let Command::Call { client: c, seq, .. } = &commands[i] {
@@ -89,8 +89,8 @@ pub fn call_of(commands: &VecDeque<Command>, client: u16) -> Option<u32>
 }
 
 /// Returns whether a command is a request of this client.
-fn is_call_of(client: u16, command: &Command) -> bool
-    ensures { result ≡ is_call_of client command.now }
+fn is_request_of(client: u16, command: &Command) -> bool
+    ensures { result ≡ is_request_of client command.now }
 {
     match command {
         Command::Call { client: c, .. } => *c == client,
@@ -99,12 +99,12 @@ fn is_call_of(client: u16, command: &Command) -> bool
 }
 
 /// Removes a client's queued request, if there is one.
-pub fn drop_call(calls: &mut VecDeque<Command>, client: u16)
-    ensures { calls.new.items ≡ without_call calls.old.items client }
+pub fn drop_request(backlog: &mut VecDeque<Command>, client: u16)
+    ensures { backlog.new.items ≡ without_request backlog.old.items client }
 {
-    for i in 0..calls.len() {
-        if is_call_of(client, &calls[i]) {
-            drop_at(calls, i);
+    for i in 0..backlog.len() {
+        if is_request_of(client, &backlog[i]) {
+            drop_at(backlog, i);
             return;
         }
     }
@@ -112,24 +112,24 @@ pub fn drop_call(calls: &mut VecDeque<Command>, client: u16)
 
 /// Inserts a request at the head of the queue. Of two requests of a client that with the higher
 /// number stays.
-pub fn put_call(
-    calls: &mut VecDeque<Command>,
+pub fn put_request(
+    backlog: &mut VecDeque<Command>,
     client: u16,
     seq: u32,
     command: Command,
 ) -> Result<(), OutOfMemory>
-    ensures calls { OnOk result
-        (calls.new.items
-        ≡ call_before (call_of calls.old.items client) client seq command calls.old.items) }
-    ensures later { (other : ℕ) → call_of calls.old.items client ≡ Some other → seq ≤ other →
+    ensures backlog { OnOk result
+        (backlog.new.items
+        ≡ request_before (queued_number backlog.old.items client) client seq command backlog.old.items) }
+    ensures later { (other : ℕ) → queued_number backlog.old.items client ≡ Some other → seq ≤ other →
         IsOk result }
 {
-    match call_of(calls, client) {
-        None => push_front(calls, command),
+    match queued_number(backlog, client) {
+        None => push_front(backlog, command),
         Some(other) => {
             if other < seq {
-                drop_call(calls, client);
-                push_front(calls, command)
+                drop_request(backlog, client);
+                push_front(backlog, command)
             } else {
                 Ok(())
             }

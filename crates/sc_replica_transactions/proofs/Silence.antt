@@ -14,7 +14,7 @@ use Rattle.sc_cmd.specs.declared.links.Link.{Link}
 use Rattle.sc_cmd.specs.Effects.{decided_in, cast_in, is_changed}
 use Rattle.sc_cmd.specs.declared.votes.Past.{Past}
 use Rattle.sc_cmd.specs.declared.votes.Past.TheVariants as Cast
-use Rattle.sc_cmd.specs.declared.orders.ToldResult.{ToldResult}
+use Rattle.sc_cmd.specs.declared.orders.OrderResult.{OrderResult}
 use Rattle.sc_cmd.specs.declared.votes.Outcome.{Outcome}
 use Rattle.sc_cmd.specs.declared.votes.Vote.{Vote}
 use Rattle.sc_cmd.specs.declared.votes.Vote.TheVariants as Says
@@ -23,10 +23,10 @@ use Rattle.sc_node_table.specs.declared.Before.{Before}
 use Rattle.sc_node_table.specs.Questions.{asked_first}
 use Rattle.sc_machine_table.specs.Group.{Group}
 use Rattle.sc_node_table.specs.Reminders.{reminders}
-use Rattle.sc_node_table.specs.Spoken.{told_result, told_begun, asked_on, vote_sent, watch_sent, aborted_to, aborted_watcher, given_up_by, vote_answered, released_to, watch_answered_by, went_on, spoken_mails}
+use Rattle.sc_node_table.specs.Spoken.{result_reported, begun_reported, asked_on, vote_sent, watch_sent, aborted_to, aborted_watcher, given_up_by, vote_answered, released_to, watch_answered_by, went_on, spoken_mails}
 use Rattle.sc_node_table.specs.Transactions.{voted_to, watched_to}
 use Rattle.sc_replica_transactions.specs.Quiet.{coordinates}
-use Rattle.sc_replica_parts.proofs.Silence.{one_more, if_one, told_order-untold, sent_all-before, sent_all-none}
+use Rattle.sc_replica_parts.proofs.Silence.{one_more, if_one, order_reported-unreported, sent_all-before, sent_all-none}
 
 -- one that coordinates asks
 pub unasked : (lock : Lock) (me : ℕ) (core : Core) → asked_first lock me core [] ≡ [] → coordinates lock ≡ false
@@ -106,8 +106,8 @@ went_on-before me group before effect (Join node order) mails e = e
 went_on-before me group before effect (Leave node order) mails e = e
 
 -- what is told has a number
-pub told-untold : (me : ℕ) (told : Option ToldResult) (number : ℕ) (result : ToldResult) → told ≡ Some result → told_result me told number [] ≡ [] → number ≡ 0
-told-untold me told number result is e = told_order-untold me number result [] (ap (λ t. told_result me t number []) (sym is) ∙ e)
+pub told-unreported : (me : ℕ) (told : Option OrderResult) (number : ℕ) (result : OrderResult) → told ≡ Some result → result_reported me told number [] ≡ [] → number ≡ 0
+told-unreported me told number result is e = order_reported-unreported me number result [] (ap (λ t. result_reported me t number []) (sym is) ∙ e)
 
 pub is_decided : (b : Bool) (decided : Option Outcome) → MatchBool b ((outcome : Outcome) × (decided ≡ Some outcome)) (decided ≡ None) → b ≡ true → is_some decided ≡ true
 is_decided true decided h e = ap is_some h.1
@@ -139,6 +139,6 @@ spoken_by true me group before effect command told e =
 spoken_by false me group before effect command told e = (e, λ c. absurd (cc))
 
 pub spoken-none : (counted : Bool) (me : ℕ) (group : Group) (before : Before) (effect : Effect) (command : Command)
-    → spoken_mails counted me group before effect command [] ≡ [] → (told_begun me before effect command [] ≡ []) × (counted ≡ true → went_on me group before effect command [] ≡ [])
+    → spoken_mails counted me group before effect command [] ≡ [] → (begun_reported me before effect command [] ≡ []) × (counted ≡ true → went_on me group before effect command [] ≡ [])
 unfolding spoken_mails
-spoken-none counted me group before effect command e = spoken_by counted me group before effect command (told_begun me before effect command []) e
+spoken-none counted me group before effect command e = spoken_by counted me group before effect command (begun_reported me before effect command []) e

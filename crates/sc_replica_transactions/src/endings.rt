@@ -6,7 +6,7 @@ ghost use Rattle.sc_mail.specs.declared.bodies.MailBody.TheVariants.{TxOutcome};
 ghost use Rattle.sc_node_table.specs.Mails.{sent_all};
 ghost use Rattle.sc_node_table.specs.Spoken.{aborted_to, aborted_watcher, given_up_by, vote_answered, released_to, watch_answered_by};
 
-use crate::tellings::tell_outcome;
+use crate::reports::send_outcome;
 use sc_base::{Draw, OutOfMemory, Sequence};
 use sc_cmd::{Effect, Link, Outcome, Past, Vote};
 use sc_mail::{Mail, MailBody};
@@ -105,7 +105,7 @@ pub(crate) fn answer_vote(
         return Ok(());
     };
     match vote {
-        Vote::Yes(_) => tell_outcome(alloc, me, by, tx, before.succ.group, outcome, out),
+        Vote::Yes(_) => send_outcome(alloc, me, by, tx, before.succ.group, outcome, out),
         Vote::No(_) => Ok(()),
     }
 }
@@ -126,10 +126,10 @@ fn release(
 {
     let part = before.succ.group;
     match &before.heard {
-        None => tell_outcome(alloc, me, by, tx, part, outcome, out),
+        None => send_outcome(alloc, me, by, tx, part, outcome, out),
         Some(heard) => {
-            tell_outcome(alloc, me, heard.0, tx, part, outcome, out)?;
-            tell_outcome(alloc, me, by, tx, heard.1.group, outcome, out)
+            send_outcome(alloc, me, heard.0, tx, part, outcome, out)?;
+            send_outcome(alloc, me, by, tx, heard.1.group, outcome, out)
         }
     }
 }

@@ -7,12 +7,12 @@ mod endings;
 mod progress;
 mod questions;
 mod reminders;
-mod tellings;
+mod reports;
 mod votes;
 
 pub use progress::{before_of, speak};
 pub use questions::ask_next;
 pub use reminders::{has_waited, one_tick_more, remind};
 pub use sc_replica_choices::{awaits_vote, awaits_watch, is_bound, noted_outcome, standing_vote};
-pub use tellings::{pass_on, tell_outcome};
-pub use votes::{tell_vote, tell_watch};
+pub use reports::{pass_on, send_outcome};
+pub use votes::{report_vote, report_watch};

@@ -4,8 +4,8 @@ ghost use Rattle.sc_node_table.specs.Spoken.{heard_from, is_merge, before_in, be
 
 use crate::endings::{answer_vote, answer_watch, give_up};
 use crate::questions::{ask_first, ask_successor};
-use crate::tellings::tell_begun;
-use crate::votes::{tell_vote, tell_watch};
+use crate::reports::report_begun;
+use crate::votes::{report_vote, report_watch};
 use sc_base::{Draw, OutOfMemory, Sequence};
 use sc_cmd::{Body, Command, Core, Effect, Heard, Link, Lock, Offer, Past, Watch};
 use sc_machine::Machine;
@@ -118,7 +118,7 @@ fn send_vote(
 {
     match vote {
         None => Ok(()),
-        Some(vote) => tell_vote(alloc, machine, me, offer.by, tx, offer, vote, out),
+        Some(vote) => report_vote(alloc, machine, me, offer.by, tx, offer, vote, out),
     }
 }
 
@@ -135,7 +135,7 @@ fn send_watch(
 {
     match vote {
         None => Ok(()),
-        Some(vote) => tell_watch(me, watch.by, tx, watch, vote, out),
+        Some(vote) => report_watch(me, watch.by, tx, watch, vote, out),
     }
 }
 
@@ -199,7 +199,7 @@ pub fn speak(
     ensures none { spoken_mails counted me machine.now before.now effect.now command.now [] ≡ [] →
         IsOk result }
 {
-    tell_begun(me, before, effect, command, out)?;
+    report_begun(me, before, effect, command, out)?;
     if !counted {
         return Ok(());
     }

@@ -60,7 +60,7 @@ fn send_yes(
 
 /// Sends a vote on an offer to one node. A Yes carries the frozen group. Of a transaction that has
 /// ended nothing is sent.
-pub fn tell_vote(
+pub fn report_vote(
     alloc: Global,
     machine: &Machine,
     me: u16,
@@ -107,7 +107,7 @@ fn send_watched(
 }
 
 /// Sends a vote on becoming a watcher to one node.
-pub fn tell_watch(
+pub fn report_watch(
     me: u16,
     node: u16,
     tx: Draw,

@@ -5,8 +5,8 @@ use Rattle.sc_base.specs.declared.ops.Op.{Op}
 use Rattle.sc_base.specs.declared.ops.Op.TheVariants.{Get, Put, Del, Add, Cas}
 use Rattle.sc_cmd.specs.Definitions.{code_of, refusal_name}
 use Rattle.sc_cmd.specs.declared.links.Route.{Route}
-use Rattle.sc_cmd.specs.declared.orders.ToldResult.{ToldResult}
-use Rattle.sc_cmd.specs.declared.orders.ToldResult.TheVariants.{Done, Committed, Aborted, Refused}
+use Rattle.sc_cmd.specs.declared.orders.OrderResult.{OrderResult}
+use Rattle.sc_cmd.specs.declared.orders.OrderResult.TheVariants.{Done, Committed, Aborted, Refused}
 use Rattle.sc_report.specs.declared.summaries.Progress.{Progress}
 use Rattle.sc_report.specs.declared.summaries.Progress.TheVariants.{Unsent, Unanswered, Replied}
 use Rattle.sc_report.specs.declared.summaries.Asked.{Asked}
@@ -63,18 +63,18 @@ asked_lines true asked = answered_line asked ∷ []
 asked_lines false asked = map asked_line asked
 
 -- the line of an order, `order I WHAT`
-abbrev pub told_line : ℕ → Option ToldResult → List ℕ
-told_line number None = with_line_feed (codes "order " ++ decimal number ++ codes " open")
-told_line number (Some Done) = with_line_feed (codes "order " ++ decimal number ++ codes " done")
-told_line number (Some Committed) = with_line_feed (codes "order " ++ decimal number ++ codes " committed")
-told_line number (Some Aborted) = with_line_feed (codes "order " ++ decimal number ++ codes " aborted")
-told_line number (Some (Refused why)) =
+abbrev pub order_state_line : ℕ → Option OrderResult → List ℕ
+order_state_line number None = with_line_feed (codes "order " ++ decimal number ++ codes " open")
+order_state_line number (Some Done) = with_line_feed (codes "order " ++ decimal number ++ codes " done")
+order_state_line number (Some Committed) = with_line_feed (codes "order " ++ decimal number ++ codes " committed")
+order_state_line number (Some Aborted) = with_line_feed (codes "order " ++ decimal number ++ codes " aborted")
+order_state_line number (Some (Refused why)) =
     with_line_feed (codes "order " ++ decimal number ++ codes " refused " ++ decimal (code_of why) ++ codes " " ++ refusal_name why)
 
 -- the lines of orders, numbered from `number` on
-abbrev pub told_lines : ℕ → List (Option ToldResult) → List (List ℕ)
-told_lines number [] = []
-told_lines number (told ∷ more) = told_line number told ∷ told_lines (suc number) more
+abbrev pub order_state_lines : ℕ → List (Option OrderResult) → List (List ℕ)
+order_state_lines number [] = []
+order_state_lines number (order_result ∷ more) = order_state_line number order_result ∷ order_state_lines (suc number) more
 
 -- a text followed by each node after a blank
 abbrev pub with_nodes : List ℕ → List ℕ → List ℕ
@@ -100,5 +100,5 @@ counts summary =
 -- the lines of a report
 abbrev pub report_lines : Summary → List (List ℕ)
 report_lines summary =
-    (count_line (codes "scatter report ") summary.version ∷ []) ++ asked_lines summary.brief summary.asked ++ told_lines 1 summary.orders
+    (count_line (codes "scatter report ") summary.version ∷ []) ++ asked_lines summary.brief summary.asked ++ order_state_lines 1 summary.orders
     ++ map ring_line summary.ring ++ counts summary

@@ -1,11 +1,11 @@
 //! The report, line by line.
 ghost use Rattle.std.specs.Prelude.{◌≡◌, ◌++◌, ◌∷◌, [], map, IfOk, OnOk};
-ghost use Rattle.sc_report.specs.Report.{count_line, request, replied, asked_line, answered_line, asked_lines, is_replied, told_line, told_lines, ring_line, quiet_line, counts, report_lines};
+ghost use Rattle.sc_report.specs.Report.{count_line, request, replied, asked_line, answered_line, asked_lines, is_replied, order_state_line, order_state_lines, ring_line, quiet_line, counts, report_lines};
 
 use crate::summaries::{Asked, Progress, Summary};
 use crate::texts::{add_end, add_nodes, add_number, add_text, counted, op_word};
 use sc_base::{OutOfMemory, Sequence, Value};
-use sc_cmd::{Route, ToldResult};
+use sc_cmd::{Route, OrderResult};
 use std::alloc::Global;
 use std::marker::Model;
 
@@ -110,21 +110,21 @@ fn answered_line(alloc: Global, asked: &[Asked]) -> Result<ReportLine, OutOfMemo
     ended(line)
 }
 
-fn told_line(
+fn order_state_line(
     alloc: Global,
     number: u64,
-    told: &Option<ToldResult>,
+    order_result: &Option<OrderResult>,
 ) -> Result<ReportLine, OutOfMemory>
-    ensures { IfOk result (λ line. line ≡ told_line number told.now) }
+    ensures { IfOk result (λ line. line ≡ order_state_line number order_result.now) }
 {
     let mut line = Vec::from_slice(alloc, b"order ")?;
     add_number(alloc, &mut line, number)?;
-    match told {
+    match order_result {
         None => add_text(&mut line, b" open")?,
-        Some(ToldResult::Done) => add_text(&mut line, b" done")?,
-        Some(ToldResult::Committed) => add_text(&mut line, b" committed")?,
-        Some(ToldResult::Aborted) => add_text(&mut line, b" aborted")?,
-        Some(ToldResult::Refused(why)) => {
+        Some(OrderResult::Done) => add_text(&mut line, b" done")?,
+        Some(OrderResult::Committed) => add_text(&mut line, b" committed")?,
+        Some(OrderResult::Aborted) => add_text(&mut line, b" aborted")?,
+        Some(OrderResult::Refused(why)) => {
             add_text(&mut line, b" refused ")?;
             add_number(alloc, &mut line, why.code() as u64)?;
             add_text(&mut line, b" ")?;
@@ -179,12 +179,12 @@ fn add_asked(
 fn add_orders(
     alloc: Global,
     all: &mut Sequence<ReportLine>,
-    orders: &[Option<ToldResult>],
+    orders: &[Option<OrderResult>],
 ) -> Result<(), OutOfMemory>
-    ensures { OnOk result (all.new ≡ all.old ++ told_lines 1 orders.now) }
+    ensures { OnOk result (all.new ≡ all.old ++ order_state_lines 1 orders.now) }
 {
     for i in 0..orders.len() {
-        all.push(told_line(alloc, i as u64 + 1, &orders[i])?)?;
+        all.push(order_state_line(alloc, i as u64 + 1, &orders[i])?)?;
     }
     Ok(())
 }

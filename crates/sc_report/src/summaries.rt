@@ -1,6 +1,6 @@
 //! The content of a report.
 use sc_base::{Op, Reply, Sequence};
-use sc_cmd::{Route, ToldResult};
+use sc_cmd::{Route, OrderResult};
 
 /// How far a request came.
 #[derive(Drop)]
@@ -32,7 +32,7 @@ pub struct Summary {
     /// The requests, by client and number.
     pub asked: Sequence<Asked>,
     /// For each order, the first result that was reported of it, if one was.
-    pub orders: Sequence<Option<ToldResult>>,
+    pub orders: Sequence<Option<OrderResult>>,
     /// The groups that serve the ring, by ascending position.
     pub ring: Sequence<Route>,
     /// The number of rows of the journal.

@@ -6,7 +6,7 @@ use Rattle.std.proofs.lemmas.Bool.Decides.{nat_tests}
 use Rattle.json.specs.Print.{escape_byte, escape}
 use Rattle.serde_json.specs.Data.{string}
 use Rattle.serde_json.specs.Written.{compact_text}
-use Rattle.sc_row_lines.specs.Fronts.{is_bare}
+use Rattle.sc_row_lines.specs.Prefixes.{is_bare}
 
 bare_apart : (byte : ℕ) → is_bare byte ≡ true → (not (byte == 34) ≡ true) × (not (byte == 92) ≡ true)
 bare_apart byte bare = and_parts (not (byte == 34)) (not (byte == 92)) (and_parts (nat_le 32 byte) (not (byte == 34) && not (byte == 92)) bare).1

@@ -4,33 +4,33 @@ use Rattle.serde_json.specs.Data.{Data}
 use Rattle.serde_json.specs.Written.{compact_text, items_text, comma_if}
 use Rattle.sc_base.specs.Among.{Each}
 use Rattle.sc_row_text.specs.Shapes.{items_json, list_json}
-use Rattle.sc_row_lines.specs.Fronts.{IsOnly, TextBegins}
+use Rattle.sc_row_lines.specs.Prefixes.{IsOnly, TextBegins}
 
 module _ {T : Type 0} (json_of : T → Data) (Fits : T → Type 0) where
   -- the texts of items, with the commas before them
-  abbrev pub front : Bool → List T → List ℕ
-  front later [] = []
-  front later (item ∷ items) = comma_if later ++ (compact_text (json_of item) ++ front true items)
+  abbrev pub prefix : Bool → List T → List ℕ
+  prefix later [] = []
+  prefix later (item ∷ items) = comma_if later ++ (compact_text (json_of item) ++ prefix true items)
 
-  front_more : (later : Bool) (items : List T) (item : T) (rest : List ℕ) → 0 < length items → front later (items ++ item ∷ []) ++ rest ≡ front later items ++ (44 ∷ (compact_text (json_of item) ++ rest))
-  front_more later [] item rest some = absurd (omega arith)
-  front_more later (one ∷ []) item rest some = simp append_assoc
-  front_more later (one ∷ two ∷ items) item rest some =
-      append_assoc (comma_if later) (compact_text (json_of one) ++ front true (two ∷ items ++ item ∷ [])) rest
-      ∙ (ap (λ t. comma_if later ++ t) (append_assoc (compact_text (json_of one)) (front true (two ∷ items ++ item ∷ [])) rest
-      ∙ (ap (λ t. compact_text (json_of one) ++ t) (front_more true (two ∷ items) item rest (omega arith))
-      ∙ sym (append_assoc (compact_text (json_of one)) (front true (two ∷ items)) (44 ∷ (compact_text (json_of item) ++ rest)))))
-      ∙ sym (append_assoc (comma_if later) (compact_text (json_of one) ++ front true (two ∷ items)) (44 ∷ (compact_text (json_of item) ++ rest))))
+  prefix_more : (later : Bool) (items : List T) (item : T) (rest : List ℕ) → 0 < length items → prefix later (items ++ item ∷ []) ++ rest ≡ prefix later items ++ (44 ∷ (compact_text (json_of item) ++ rest))
+  prefix_more later [] item rest some = absurd (omega arith)
+  prefix_more later (one ∷ []) item rest some = simp append_assoc
+  prefix_more later (one ∷ two ∷ items) item rest some =
+      append_assoc (comma_if later) (compact_text (json_of one) ++ prefix true (two ∷ items ++ item ∷ [])) rest
+      ∙ (ap (λ t. comma_if later ++ t) (append_assoc (compact_text (json_of one)) (prefix true (two ∷ items ++ item ∷ [])) rest
+      ∙ (ap (λ t. compact_text (json_of one) ++ t) (prefix_more true (two ∷ items) item rest (omega arith))
+      ∙ sym (append_assoc (compact_text (json_of one)) (prefix true (two ∷ items)) (44 ∷ (compact_text (json_of item) ++ rest)))))
+      ∙ sym (append_assoc (comma_if later) (compact_text (json_of one) ++ prefix true (two ∷ items)) (44 ∷ (compact_text (json_of item) ++ rest))))
 
   -- a bracket ends them
-  pub front_ends : (later : Bool) (items : List T) (rest : List ℕ) → items_text later (items_json json_of items) ++ rest ≡ front later items ++ (93 ∷ rest)
-  front_ends later [] rest = refl
-  front_ends later (item ∷ items) rest =
+  pub prefix_ends : (later : Bool) (items : List T) (rest : List ℕ) → items_text later (items_json json_of items) ++ rest ≡ prefix later items ++ (93 ∷ rest)
+  prefix_ends later [] rest = refl
+  prefix_ends later (item ∷ items) rest =
       append_assoc (comma_if later) (compact_text (json_of item) ++ items_text true (items_json json_of items)) rest
       ∙ (ap (λ t. comma_if later ++ t) (append_assoc (compact_text (json_of item)) (items_text true (items_json json_of items)) rest
-      ∙ (ap (λ t. compact_text (json_of item) ++ t) (front_ends true items rest)
-      ∙ sym (append_assoc (compact_text (json_of item)) (front true items) (93 ∷ rest))))
-      ∙ sym (append_assoc (comma_if later) (compact_text (json_of item) ++ front true items) (93 ∷ rest)))
+      ∙ (ap (λ t. compact_text (json_of item) ++ t) (prefix_ends true items rest)
+      ∙ sym (append_assoc (compact_text (json_of item)) (prefix true items) (93 ∷ rest))))
+      ∙ sym (append_assoc (comma_if later) (compact_text (json_of item) ++ prefix true items) (93 ∷ rest)))
 
   items_fit : (items : List T) → Each (IsOnly json_of Fits) items → Each Fits items
   items_fit [] each = tt
@@ -46,9 +46,9 @@ module _ {T : Type 0} (json_of : T → Data) (Fits : T → Type 0) where
   list_only items each = record { fits = items_fit items each; only = λ other held same. items_only items each other held (cc) }
 
   -- an array of items
-  pub items_begin : (bytes before rest : List ℕ) (items : List T) → Each (IsOnly json_of Fits) items → bytes ≡ 91 ∷ (front false items ++ before) → before ≡ codes "]" ++ rest → TextBegins (list_json json_of) (Each Fits) bytes items rest
+  pub items_begin : (bytes before rest : List ℕ) (items : List T) → Each (IsOnly json_of Fits) items → bytes ≡ 91 ∷ (prefix false items ++ before) → before ≡ codes "]" ++ rest → TextBegins (list_json json_of) (Each Fits) bytes items rest
   items_begin bytes before rest items each text ends = record {
-    text = text ∙ ap (λ t. 91 ∷ t) (ap (λ t. front false items ++ t) ends ∙ sym (front_ends false items rest));
+    text = text ∙ ap (λ t. 91 ∷ t) (ap (λ t. prefix false items ++ t) ends ∙ sym (prefix_ends false items rest));
     known = list_only items each;
   }
 
@@ -61,12 +61,12 @@ module _ {T : Type 0} (json_of : T → Data) (Fits : T → Type 0) where
   each_more (first ∷ items) item each one = (each.0, each_more items item each.1 one)
 
   -- one more item stands behind a comma, and is known too
-  pub one_more : (bytes rest more after : List ℕ) (items : List T) (item : T) (all : List T) → 0 < length items → Each (IsOnly json_of Fits) items → bytes ≡ 91 ∷ (front false items ++ rest) → rest ≡ codes "," ++ more → TextBegins json_of Fits more item after → all ≡ items ++ item ∷ []
-      → (bytes ≡ 91 ∷ (front false all ++ after)) × (0 < length all) × Each (IsOnly json_of Fits) all
+  pub one_more : (bytes rest more after : List ℕ) (items : List T) (item : T) (all : List T) → 0 < length items → Each (IsOnly json_of Fits) items → bytes ≡ 91 ∷ (prefix false items ++ rest) → rest ≡ codes "," ++ more → TextBegins json_of Fits more item after → all ≡ items ++ item ∷ []
+      → (bytes ≡ 91 ∷ (prefix false all ++ after)) × (0 < length all) × Each (IsOnly json_of Fits) all
   one_more bytes rest more after items item all some each text comma begins pushed =
       let here : rest ≡ 44 ∷ (compact_text (json_of item) ++ after) = comma ∙ ap (λ t. 44 ∷ t) begins.text in
-      let front_is : front false all ++ after ≡ front false items ++ (44 ∷ (compact_text (json_of item) ++ after)) = ap (λ xs. front false xs ++ after) pushed ∙ front_more false items item after some in (
-        text ∙ (ap (λ t. 91 ∷ (front false items ++ t)) here ∙ ap (λ t. 91 ∷ t) (sym front_is)),
+      let prefix_is : prefix false all ++ after ≡ prefix false items ++ (44 ∷ (compact_text (json_of item) ++ after)) = ap (λ xs. prefix false xs ++ after) pushed ∙ prefix_more false items item after some in (
+        text ∙ (ap (λ t. 91 ∷ (prefix false items ++ t)) here ∙ ap (λ t. 91 ∷ t) (sym prefix_is)),
         omega (arith, ap length pushed, length-append items (item ∷ [])),
         subst (λ xs. Each (IsOnly json_of Fits) xs) (sym pushed) (each_more items item each begins.known),
       )

@@ -4,7 +4,7 @@ use Rattle.json.specs.Print.{escape_byte}
 use Rattle.serde_json.specs.Written.{compact_text}
 use Rattle.sc_row_text.specs.Shapes.{number_json}
 use Rattle.sc_row_text.specs.Held.{FitsU32}
-use Rattle.sc_row_lines.specs.Fronts.{IsOnly, TextBegins}
+use Rattle.sc_row_lines.specs.Prefixes.{IsOnly, TextBegins}
 use Rattle.std.proofs.Common.{ap₂}
 use Rattle.sc_mail.specs.declared.bodies.Mail.{Mail}
 use Rattle.sc_mail.specs.declared.bodies.MailBody.{MailBody}

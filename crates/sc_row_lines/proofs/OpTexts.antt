@@ -5,7 +5,7 @@ use Rattle.serde_json.specs.Data.{string}
 use Rattle.serde_json.specs.Written.{compact_text}
 use Rattle.sc_row_text.specs.Shapes.{option_json}
 use Rattle.sc_row_text.specs.Held.{FitsKey, FitsValue, OptionFits}
-use Rattle.sc_row_lines.specs.Fronts.{IsOnly, TextBegins}
+use Rattle.sc_row_lines.specs.Prefixes.{IsOnly, TextBegins}
 use Rattle.sc_row_text.proofs.Apart.{variants_apart}
 use Rattle.sc_base.specs.declared.ops.Op.{Op}
 use Rattle.sc_base.specs.declared.ops.Op.TheVariants as TheOp

@@ -15,7 +15,7 @@ use Rattle.sc_row_text.specs.Names.{draw_json, FitsDraw, ballot_json, FitsBallot
 use Rattle.sc_row_text.specs.Commands.{command_json, FitsCommand, report_json, FitsReport}
 use Rattle.sc_row_text.specs.Mails.{mail_body_json, FitsMailBody}
 use Rattle.sc_row_text.proofs.Apart.{variants_apart}
-use Rattle.sc_row_lines.specs.Fronts.{IsOnly, TextBegins}
+use Rattle.sc_row_lines.specs.Prefixes.{IsOnly, TextBegins}
 
 report_only : (report other : Report Command) → IsOnly ballot_json FitsBallot report.ballot → IsOnly number_json FitsU32 report.slot → IsOnly command_json FitsCommand report.value → FitsReport other → report_json other ≡ report_json report → other ≡ report
 unfolding report_json FitsReport

@@ -12,7 +12,7 @@ use Rattle.sc_base.specs.declared.names.Draw.{Draw}
 use Rattle.sc_row_text.specs.Shapes.{number_json}
 use Rattle.sc_row_text.specs.Names.{draw_json, FitsDraw, ballot_json, FitsBallot}
 use Rattle.sc_row_text.specs.Held.{FitsU16, FitsU32}
-use Rattle.sc_row_lines.specs.Fronts.{IsOnly, TextBegins, is_bare}
+use Rattle.sc_row_lines.specs.Prefixes.{IsOnly, TextBegins, is_bare}
 use Rattle.sc_row_lines.proofs.Bare.{bare_escape}
 
 -- a digit is no dot, and a string has it as it is

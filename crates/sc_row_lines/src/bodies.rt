@@ -2,7 +2,7 @@
 ghost use Rattle.std.specs.Prelude.{IfSome};
 ghost use Rattle.sc_row_text.specs.Answers.{answer_body_json, FitsAnswerBody};
 ghost use Rattle.sc_row_text.specs.Mails.{mail_body_json, FitsMailBody};
-ghost use Rattle.sc_row_lines.specs.Fronts.{TextBegins};
+ghost use Rattle.sc_row_lines.specs.Prefixes.{TextBegins};
 
 use crate::from_text::FromText;
 use crate::parts::{four_of, one_of, three_of, two_of};

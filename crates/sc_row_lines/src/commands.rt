@@ -1,7 +1,7 @@
 //! Commands, read from their texts: requests of clients, and the empty command.
 ghost use Rattle.std.specs.Prelude.{IfSome};
 ghost use Rattle.sc_row_text.specs.Commands.{command_json, FitsCommand};
-ghost use Rattle.sc_row_lines.specs.Fronts.{TextBegins};
+ghost use Rattle.sc_row_lines.specs.Prefixes.{TextBegins};
 
 use crate::from_text::FromText;
 use crate::parts::three_of;

@@ -1,7 +1,7 @@
 //! The trait of what is read from the beginning of a text.
 ghost use Rattle.std.specs.Prelude.{IfSome};
 ghost use Rattle.serde_json.specs.Data.{Data};
-ghost use Rattle.sc_row_lines.specs.Fronts.{TextBegins};
+ghost use Rattle.sc_row_lines.specs.Prefixes.{TextBegins};
 
 use std::alloc::Global;
 

@@ -2,7 +2,7 @@
 ghost use Rattle.std.specs.Prelude.{IfSome};
 ghost use Rattle.sc_base.specs.Among.{Each};
 ghost use Rattle.sc_row_text.specs.Shapes.{list_json};
-ghost use Rattle.sc_row_lines.specs.Fronts.{TextBegins};
+ghost use Rattle.sc_row_lines.specs.Prefixes.{TextBegins};
 
 use crate::from_text::FromText;
 use crate::parts::next;

@@ -1,7 +1,7 @@
 //! Operations and replies, read from their texts.
 ghost use Rattle.std.specs.Prelude.{IfSome};
 ghost use Rattle.sc_row_text.specs.Ops.{op_json, FitsOp, reply_json, FitsReply};
-ghost use Rattle.sc_row_lines.specs.Fronts.{TextBegins};
+ghost use Rattle.sc_row_lines.specs.Prefixes.{TextBegins};
 
 use crate::from_text::FromText;
 use crate::parts::{one_of, three_of, two_of};

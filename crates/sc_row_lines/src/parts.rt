@@ -1,7 +1,7 @@
 //! Values between fixed words of a text.
 ghost use Rattle.std.specs.Prelude.{◌≡◌, ◌++◌, IfSome};
 ghost use Rattle.serde_json.specs.Written.{compact_text};
-ghost use Rattle.sc_row_lines.specs.Fronts.{IsOnly};
+ghost use Rattle.sc_row_lines.specs.Prefixes.{IsOnly};
 
 use crate::from_text::FromText;
 use crate::words::behind;

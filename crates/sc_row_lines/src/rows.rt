@@ -5,7 +5,7 @@ ghost use Rattle.sc_cmd.specs.declared.orders.OrderLine.{OrderLine};
 ghost use Rattle.sc_mail.specs.declared.bodies.Mail.{Mail};
 ghost use Rattle.sc_row_text.specs.Rows.{event_json, FitsEvent, row_json, FitsRow};
 ghost use Rattle.sc_row_text.specs.RowText.{text_of, IsHeld};
-ghost use Rattle.sc_row_lines.specs.Fronts.{TextBegins};
+ghost use Rattle.sc_row_lines.specs.Prefixes.{TextBegins};
 
 use crate::from_text::FromText;
 use crate::parts::{one_of, three_of};

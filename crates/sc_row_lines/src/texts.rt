@@ -6,7 +6,7 @@ ghost use Rattle.serde_json.specs.Written.{compact_text};
 ghost use Rattle.sc_row_text.specs.Held.{FitsKey, FitsValue};
 ghost use Rattle.sc_row_text.specs.Shapes.{option_json};
 ghost use Rattle.sc_row_text.specs.Held.{OptionFits};
-ghost use Rattle.sc_row_lines.specs.Fronts.{is_bare};
+ghost use Rattle.sc_row_lines.specs.Prefixes.{is_bare};
 
 use crate::from_text::FromText;
 use crate::words::behind;

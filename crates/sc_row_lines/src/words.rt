@@ -9,6 +9,6 @@ pub(crate) fn behind<'a>(bytes: &'a [u8], word: &[u8]) -> Option<&'a [u8]>
     if bytes.len() < word.len() {
         return None;
     }
-    let (front, rest) = bytes.split_at(word.len());
-    if front == word { Some(rest) } else { None }
+    let (prefix, rest) = bytes.split_at(word.len());
+    if prefix == word { Some(rest) } else { None }
 }

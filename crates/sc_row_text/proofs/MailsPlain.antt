@@ -15,7 +15,7 @@ use Rattle.sc_row_text.proofs.BodiesPlain.{offer_plain, watch_plain}
 use Rattle.sc_row_text.proofs.OpsPlain.{op_plain}
 use Rattle.sc_row_text.proofs.OutcomesPlain.{outcome_plain}
 use Rattle.sc_row_text.proofs.VotesPlain.{past_plain, vote_plain}
-use Rattle.sc_row_text.proofs.OrdersPlain.{told_result_plain}
+use Rattle.sc_row_text.proofs.OrdersPlain.{order_result_plain}
 
 pub mail_body_plain : (room : ℕ) (body : MailBody) → FitsMailBody body → IsPlain (suc (suc (suc (suc (suc (suc (suc (suc (suc (suc (suc (suc room)))))))))))) (mail_body_json body)
 unfolding mail_body_json FitsMailBody
@@ -35,7 +35,7 @@ mail_body_plain room (TheMailBody.TxOutcome tx part outcome) fits = (refl, (refl
 mail_body_plain room (TheMailBody.TxElsewhere tx coord hint) fits = (refl, (refl, (draw_plain (suc (suc (suc (suc (suc (suc (suc (suc (suc (suc room)))))))))) coord fits.0), refl, (refl, (option_plain (suc (suc (suc (suc (suc (suc (suc (suc (suc (suc room)))))))))) number_json FitsU16 (λ y10 g10. (u16_plain y10 g10)) hint fits.1), refl, (refl, (draw_plain (suc (suc (suc (suc (suc (suc (suc (suc (suc (suc room)))))))))) tx fits.2), tt, tt))), tt, tt)
 mail_body_plain room (TheMailBody.TxWatch tx watch) fits = (refl, (refl, (draw_plain (suc (suc (suc (suc (suc (suc (suc (suc (suc (suc room)))))))))) tx fits.0), refl, (refl, (watch_plain (suc (suc (suc (suc (suc (suc (suc room))))))) watch fits.1), tt, tt)), tt, tt)
 mail_body_plain room (TheMailBody.TxWatched tx coord part vote) fits = (refl, (refl, (draw_plain (suc (suc (suc (suc (suc (suc (suc (suc (suc (suc room)))))))))) coord fits.0), refl, (refl, (draw_plain (suc (suc (suc (suc (suc (suc (suc (suc (suc (suc room)))))))))) part fits.1), refl, (refl, (draw_plain (suc (suc (suc (suc (suc (suc (suc (suc (suc (suc room)))))))))) tx fits.2), refl, (refl, (past_plain (suc (suc (suc (suc (suc (suc (suc room))))))) vote fits.3), tt, tt)))), tt, tt)
-mail_body_plain room (TheMailBody.Told order result) fits = (refl, (refl, (u32_plain order fits.0), refl, (refl, (told_result_plain (suc (suc (suc (suc (suc (suc (suc room))))))) result fits.1), tt, tt)), tt, tt)
+mail_body_plain room (TheMailBody.Told order result) fits = (refl, (refl, (u32_plain order fits.0), refl, (refl, (order_result_plain (suc (suc (suc (suc (suc (suc (suc room))))))) result fits.1), tt, tt)), tt, tt)
 
 pub mail_plain : (room : ℕ) (mail : Mail) → FitsMail mail → IsPlain (suc (suc (suc (suc (suc (suc (suc (suc (suc (suc (suc (suc (suc room))))))))))))) (mail_json mail)
 unfolding mail_json FitsMail

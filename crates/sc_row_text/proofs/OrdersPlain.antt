@@ -5,10 +5,10 @@ use Rattle.sc_cmd.specs.declared.orders.Order.TheVariants as TheOrder
 use Rattle.sc_cmd.specs.declared.orders.OrderLine.{OrderLine}
 use Rattle.sc_cmd.specs.declared.orders.OrderRefusal.{OrderRefusal}
 use Rattle.sc_cmd.specs.declared.orders.OrderRefusal.TheVariants as TheOrderRefusal
-use Rattle.sc_cmd.specs.declared.orders.ToldResult.{ToldResult}
-use Rattle.sc_cmd.specs.declared.orders.ToldResult.TheVariants as TheToldResult
+use Rattle.sc_cmd.specs.declared.orders.OrderResult.{OrderResult}
+use Rattle.sc_cmd.specs.declared.orders.OrderResult.TheVariants as TheOrderResult
 use Rattle.sc_plain_json.specs.Plain.{IsPlain}
-use Rattle.sc_row_text.specs.Definitions.{number_json, FitsU16, order_json, FitsOrder, order_line_json, FitsOrderLine, order_refusal_json, FitsOrderRefusal, told_result_json, FitsToldResult}
+use Rattle.sc_row_text.specs.Definitions.{number_json, FitsU16, order_json, FitsOrder, order_line_json, FitsOrderLine, order_refusal_json, FitsOrderRefusal, order_result_json, FitsOrderResult}
 use Rattle.sc_row_text.proofs.NamesPlain.{draw_plain}
 use Rattle.sc_row_text.proofs.ShapesPlain.{option_plain, u16_plain, u32_plain, u8_plain}
 
@@ -37,9 +37,9 @@ order_refusal_plain room TheOrderRefusal.LastMember fits = refl
 order_refusal_plain room TheOrderRefusal.TxLimit fits = refl
 order_refusal_plain room TheOrderRefusal.IsMember fits = refl
 
-pub told_result_plain : (room : ℕ) (told_result : ToldResult) → FitsToldResult told_result → IsPlain (suc (suc (suc room))) (told_result_json told_result)
-unfolding told_result_json FitsToldResult
-told_result_plain room TheToldResult.Done fits = refl
-told_result_plain room TheToldResult.Committed fits = refl
-told_result_plain room TheToldResult.Aborted fits = refl
-told_result_plain room (TheToldResult.Refused content) fits = (refl, (order_refusal_plain room content fits), tt, tt)
+pub order_result_plain : (room : ℕ) (result_reported : OrderResult) → FitsOrderResult result_reported → IsPlain (suc (suc (suc room))) (order_result_json result_reported)
+unfolding order_result_json FitsOrderResult
+order_result_plain room TheOrderResult.Done fits = refl
+order_result_plain room TheOrderResult.Committed fits = refl
+order_result_plain room TheOrderResult.Aborted fits = refl
+order_result_plain room (TheOrderResult.Refused content) fits = (refl, (order_refusal_plain room content fits), tt, tt)

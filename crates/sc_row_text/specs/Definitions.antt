@@ -10,7 +10,7 @@ unfoldable pub use Rattle.sc_row_text.specs.Votes.{no_json, frozen_json, FitsFro
 unfoldable pub use Rattle.sc_row_text.specs.Outcomes.{gift_json, FitsGift, outcome_json, FitsOutcome}
 unfoldable pub use Rattle.sc_row_text.specs.Cores.{base_json, FitsBase, core_json, FitsCore, lock_json, FitsLock}
 unfoldable pub use Rattle.sc_row_text.specs.Commands.{command_json, FitsCommand, report_json, FitsReport}
-unfoldable pub use Rattle.sc_row_text.specs.Orders.{order_refusal_json, order_line_json, order_json, FitsOrder, FitsOrderLine, FitsOrderRefusal, told_result_json, FitsToldResult}
+unfoldable pub use Rattle.sc_row_text.specs.Orders.{order_refusal_json, order_line_json, order_json, FitsOrder, FitsOrderLine, FitsOrderRefusal, order_result_json, FitsOrderResult}
 unfoldable pub use Rattle.sc_row_text.specs.Answers.{answer_body_json, FitsAnswerBody}
 unfoldable pub use Rattle.sc_row_text.specs.Mails.{mail_body_json, FitsMailBody, mail_json, FitsMail}
 unfoldable pub use Rattle.sc_row_text.specs.Rows.{event_json, FitsEvent, row_json, FitsRow}

@@ -13,7 +13,7 @@ use Rattle.sc_row_text.specs.Votes.{vote_json, FitsVote, past_json, FitsPast}
 use Rattle.sc_row_text.specs.Outcomes.{outcome_json, FitsOutcome}
 use Rattle.sc_row_text.specs.Cores.{base_json, FitsBase}
 use Rattle.sc_row_text.specs.Commands.{command_json, FitsCommand, report_json, FitsReport}
-use Rattle.sc_row_text.specs.Orders.{told_result_json, FitsToldResult}
+use Rattle.sc_row_text.specs.Orders.{order_result_json, FitsOrderResult}
 use Rattle.sc_row_text.specs.Answers.{answer_body_json, FitsAnswerBody}
 use Rattle.sc_row_text.specs.Names.{draw_json, FitsDraw, ballot_json, FitsBallot}
 use Rattle.sc_row_text.specs.Sets.{nodes_json}
@@ -36,7 +36,7 @@ mail_body_json (TheMailBody.TxOutcome tx part outcome) = variant (codes "TxOutco
 mail_body_json (TheMailBody.TxElsewhere tx coord hint) = variant (codes "TxElsewhere") (fields ((codes "coord", draw_json coord) ∷ (codes "hint", option_json number_json hint) ∷ (codes "tx", draw_json tx) ∷ []))
 mail_body_json (TheMailBody.TxWatch tx watch) = variant (codes "TxWatch") (fields ((codes "tx", draw_json tx) ∷ (codes "watch", watch_json watch) ∷ []))
 mail_body_json (TheMailBody.TxWatched tx coord part vote) = variant (codes "TxWatched") (fields ((codes "coord", draw_json coord) ∷ (codes "part", draw_json part) ∷ (codes "tx", draw_json tx) ∷ (codes "vote", past_json vote) ∷ []))
-mail_body_json (TheMailBody.Told order result) = variant (codes "Told") (fields ((codes "order", number_json order) ∷ (codes "result", told_result_json result) ∷ []))
+mail_body_json (TheMailBody.Told order result) = variant (codes "Told") (fields ((codes "order", number_json order) ∷ (codes "result", order_result_json result) ∷ []))
 
 -- The body of a mail that the program's type can hold: each of its parts is valid.
 unfoldable pub FitsMailBody : MailBody → Type 0
@@ -56,7 +56,7 @@ FitsMailBody (TheMailBody.TxOutcome tx part outcome) = FitsOutcome outcome × Fi
 FitsMailBody (TheMailBody.TxElsewhere tx coord hint) = FitsDraw coord × OptionFits FitsU16 hint × FitsDraw tx
 FitsMailBody (TheMailBody.TxWatch tx watch) = FitsDraw tx × FitsWatch watch
 FitsMailBody (TheMailBody.TxWatched tx coord part vote) = FitsDraw coord × FitsDraw part × FitsDraw tx × FitsPast vote
-FitsMailBody (TheMailBody.Told order result) = FitsU32 order × FitsToldResult result
+FitsMailBody (TheMailBody.Told order result) = FitsU32 order × FitsOrderResult result
 
 -- The JSON of a mail: its body, its sender and its receiver.
 unfoldable pub mail_json : Mail → Data

@@ -6,8 +6,8 @@ use Rattle.sc_cmd.specs.declared.orders.Order.TheVariants as TheOrder
 use Rattle.sc_cmd.specs.declared.orders.OrderLine.{OrderLine}
 use Rattle.sc_cmd.specs.declared.orders.OrderRefusal.{OrderRefusal}
 use Rattle.sc_cmd.specs.declared.orders.OrderRefusal.TheVariants as TheOrderRefusal
-use Rattle.sc_cmd.specs.declared.orders.ToldResult.{ToldResult}
-use Rattle.sc_cmd.specs.declared.orders.ToldResult.TheVariants as TheToldResult
+use Rattle.sc_cmd.specs.declared.orders.OrderResult.{OrderResult}
+use Rattle.sc_cmd.specs.declared.orders.OrderResult.TheVariants as TheOrderResult
 use Rattle.sc_row_text.specs.Shapes.{number_json, option_json, fields, variant}
 use Rattle.sc_row_text.specs.Held.{FitsU8, FitsU16, FitsU32, OptionFits}
 use Rattle.sc_row_text.specs.Names.{draw_json, FitsDraw}
@@ -66,15 +66,15 @@ FitsOrderRefusal TheOrderRefusal.TxLimit = ⊤
 FitsOrderRefusal TheOrderRefusal.IsMember = ⊤
 
 -- The JSON of the result of an order.
-unfoldable pub told_result_json : ToldResult → Data
-told_result_json TheToldResult.Done = string (codes "Done")
-told_result_json TheToldResult.Committed = string (codes "Committed")
-told_result_json TheToldResult.Aborted = string (codes "Aborted")
-told_result_json (TheToldResult.Refused content) = variant (codes "Refused") (order_refusal_json content)
+unfoldable pub order_result_json : OrderResult → Data
+order_result_json TheOrderResult.Done = string (codes "Done")
+order_result_json TheOrderResult.Committed = string (codes "Committed")
+order_result_json TheOrderResult.Aborted = string (codes "Aborted")
+order_result_json (TheOrderResult.Refused content) = variant (codes "Refused") (order_refusal_json content)
 
 -- The result of an order, as the program's type can hold it: each of its parts is valid.
-unfoldable pub FitsToldResult : ToldResult → Type 0
-FitsToldResult TheToldResult.Done = ⊤
-FitsToldResult TheToldResult.Committed = ⊤
-FitsToldResult TheToldResult.Aborted = ⊤
-FitsToldResult (TheToldResult.Refused content) = FitsOrderRefusal content
+unfoldable pub FitsOrderResult : OrderResult → Type 0
+FitsOrderResult TheOrderResult.Done = ⊤
+FitsOrderResult TheOrderResult.Committed = ⊤
+FitsOrderResult TheOrderResult.Aborted = ⊤
+FitsOrderResult (TheOrderResult.Refused content) = FitsOrderRefusal content

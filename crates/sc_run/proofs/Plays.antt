@@ -107,10 +107,10 @@ comes_ended Shows scenario cut quiet skips journal parties text e lines journal_
 
 -- the text of a run whose journal is full
 pub comes_full : (Shows : List (Row Mail OrderLine) → List (List ℕ) → Type 0) (scenario : Scenario) (journal : List (Row Mail OrderLine)) (text : Text) → HasFilled scenario journal_limit journal → IsFullText journal text → Comes Shows scenario Filled text
-comes_full Shows scenario journal text filled tells = inr (record {
+comes_full Shows scenario journal text filled line_text = inr (record {
   journal = journal;
   filled = filled;
-  tells = tells;
+  line_text = line_text;
   said_is = refl;
   not_plain = λ plain. let low = filled.below plain in omega (arith, low);
 })

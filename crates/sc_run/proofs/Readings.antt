@@ -8,10 +8,10 @@ use Rattle.sc_lines.specs.declared.reasons.Reason.{Reason}
 use Rattle.sc_mail.specs.declared.bodies.Mail.{Mail}
 use Rattle.sc_scenario.specs.declared.scenarios.Scenario.{Scenario}
 use Rattle.sc_command_line.specs.declared.said.Said.{Said}
-use Rattle.sc_command_line.specs.Faults.{HasFault, IsBadText}
+use Rattle.sc_command_line.specs.Errors.{HasError, IsBadText}
 use Rattle.sc_command_line.specs.Inputs.{ReadsFile, ReadsScenario, ReadsText}
-use Rattle.sc_command_line.specs.declared.faults.InputFault.{InputFault}
-use Rattle.sc_command_line.specs.declared.faults.InputFault.TheVariants.{Failed, Bad, OutOfMemory}
+use Rattle.sc_command_line.specs.declared.errors.InputError.{InputError}
+use Rattle.sc_command_line.specs.declared.errors.InputError.TheVariants.{Failed, Bad, OutOfMemory}
 use Rattle.sc_run.specs.declared.done.Text.{Text}
 use Rattle.sc_run.specs.Refusals.{IsErrorText}
 use Rattle.sc_run.specs.Run.{AuditsAs, Audits, Comes, Explains, ExplainsAs, Keeps, Reads, Refuses, Scans, ShowsFile, ShowsReport}
@@ -19,26 +19,26 @@ use Rattle.sc_run.specs.Shown.{ShowsScan}
 use Rattle.sc_command_line.specs.declared.subcommands.Sight.{Sight}
 
 -- a text about the fault that an input has refuses the input
-refuses : (IsBad : List ℕ → ℕ → Reason → Type 0) (source : SourceUse) (fault : InputFault) (said : Said) (text : Text) → HasFault IsBad source fault → IsErrorText fault said text → Refuses IsBad source said text
-refuses IsBad source Failed said text rose tells = inl (record { rose = rose; tells = tells.1; said_is = tells.0 })
-refuses IsBad source (Bad line why) said text bad tells = inr (record { line = line; why = why; bad = bad; tells = tells.1; said_is = tells.0 })
-refuses IsBad source OutOfMemory said text bad tells = absurd tells
+refuses : (IsBad : List ℕ → ℕ → Reason → Type 0) (source : SourceUse) (error : InputError) (said : Said) (text : Text) → HasError IsBad source error → IsErrorText error said text → Refuses IsBad source said text
+refuses IsBad source Failed said text rose line_text = inl (record { rose = rose; line_text = line_text.1; said_is = line_text.0 })
+refuses IsBad source (Bad line why) said text bad line_text = inr (record { line = line; why = why; bad = bad; line_text = line_text.1; said_is = line_text.0 })
+refuses IsBad source OutOfMemory said text bad line_text = absurd line_text
 
 module _ (source : SourceUse) (said : Said) (text : Text) where
-  pub refused_scenario : (fault : InputFault) → HasFault IsBadText source fault → IsErrorText fault said text → Reads source said text
-  refused_scenario fault has tells = inl (refuses IsBadText source fault said text has tells)
+  pub refused_scenario : (error : InputError) → HasError IsBadText source error → IsErrorText error said text → Reads source said text
+  refused_scenario error has line_text = inl (refuses IsBadText source error said text has line_text)
 
-  pub refused_text : (fault : InputFault) → HasFault IsBadText source fault → IsErrorText fault said text → Keeps source said text
-  refused_text fault has tells = inl (refuses IsBadText source fault said text has tells)
+  pub refused_text : (error : InputError) → HasError IsBadText source error → IsErrorText error said text → Keeps source said text
+  refused_text error has line_text = inl (refuses IsBadText source error said text has line_text)
 
-  pub refused_file : (fault : InputFault) → HasFault IsBadFile source fault → IsErrorText fault said text → Audits source said text
-  refused_file fault has tells = inl (refuses IsBadFile source fault said text has tells)
+  pub refused_file : (error : InputError) → HasError IsBadFile source error → IsErrorText error said text → Audits source said text
+  refused_file error has line_text = inl (refuses IsBadFile source error said text has line_text)
 
-  pub refused_explained : (fault : InputFault) → HasFault IsBadFile source fault → IsErrorText fault said text → Explains source said text
-  refused_explained fault has tells = inl (refuses IsBadFile source fault said text has tells)
+  pub refused_explained : (error : InputError) → HasError IsBadFile source error → IsErrorText error said text → Explains source said text
+  refused_explained error has line_text = inl (refuses IsBadFile source error said text has line_text)
 
-  pub refused_scan : (sight : Sight) (fault : InputFault) → HasFault IsBadText source fault → IsErrorText fault said text → Scans sight source said text
-  refused_scan sight fault has tells = inl (refuses IsBadText source fault said text has tells)
+  pub refused_scan : (sight : Sight) (error : InputError) → HasError IsBadText source error → IsErrorText error said text → Scans sight source said text
+  refused_scan sight error has line_text = inl (refuses IsBadText source error said text has line_text)
 
   pub scanned : (sight : Sight) (scenario : Scenario) → ReadsScenario source.left scenario → Comes (ShowsScan scenario sight) scenario said text → Scans sight source said text
   scanned sight scenario read comes = inr (record { scenario = scenario; read = read; comes = comes })

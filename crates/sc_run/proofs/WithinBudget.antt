@@ -15,7 +15,7 @@ use Rattle.sc_scenario.specs.declared.scenarios.Scenario.{Scenario}
 use Rattle.sc_command_line.specs.Causes.{status_of, said_of}
 use Rattle.sc_command_line.specs.declared.said.Said.{Said}
 use Rattle.sc_command_line.specs.declared.said.Said.TheVariants.{Ended}
-use Rattle.sc_command_line.specs.Faults.{IsBadText}
+use Rattle.sc_command_line.specs.Errors.{IsBadText}
 use Rattle.sc_live_plain.specs.Budget.{IsAtBudget, AreAnswered}
 use Rattle.sc_live_plain.specs.CalmBudget.{calm_budget_of, IsCalm, IsCalmAtBudget}
 use Rattle.sc_live_plain.proofs.Lemmas.{roomy_scenarios_are_calm}
@@ -64,7 +64,7 @@ same_text source one other is read =
     let here : verdict_of is.0 ≡ Ok other = subst (λ o. IfSome o (λ input. verdict_of input ≡ Ok other)) is.1 read in
     let e : Ok other ≡ Ok one = sym here ∙ is.2 in cc
 
-not_refused : (source : SourceUse) (scenario : Scenario) (said : Said) (text : Text) → IsText source scenario → (Rose source.faults_before source.faults_after → ⊥) → Refuses IsBadText source said text → ⊥
+not_refused : (source : SourceUse) (scenario : Scenario) (said : Said) (text : Text) → IsText source scenario → (Rose source.errors_before source.errors_after → ⊥) → Refuses IsBadText source said text → ⊥
 not_refused source scenario said text is calm (inl fails) = calm fails.rose
 not_refused source scenario said text is calm (inr names) =
     let bad : IsBadText is.0 names.line names.why = subst (λ o. IfSome o (λ input. IsBadText input names.line names.why)) is.1 names.bad in
@@ -109,7 +109,7 @@ module _ (scenario : Scenario) (said : Said) (text : Text) (Follows : Type 0) (c
       read_follows (λ s. ShowsFile plays.bytes) plays.scenario same plays.comes
   says_follows (Some (ask.Make n seed)) source asked refused says = read_follows ShowsReport (made_scenario n seed) (sym asked) says.comes
 
-says_answered : (what : Option Subcommand) (source : SourceUse) (scenario : Scenario) (said : Said) (text : Text) → IsAskedFor what source scenario → IsWithinBudget scenario → (Rose source.faults_before source.faults_after → ⊥) → SaysFor what source said text → IsOver scenario said text
+says_answered : (what : Option Subcommand) (source : SourceUse) (scenario : Scenario) (said : Said) (text : Text) → IsAskedFor what source scenario → IsWithinBudget scenario → (Rose source.errors_before source.errors_after → ⊥) → SaysFor what source said text → IsOver scenario said text
 says_answered what source scenario said text asked within still says =
     says_follows scenario said text (IsOver scenario said text) (λ Shows comes. comes_answered Shows scenario said text within comes) what source asked
     (λ is refuses. absurd (not_refused source scenario said text is still refuses)) says

@@ -44,7 +44,7 @@ pub record AnswersAll (scenario : Scenario) (done : Done) : Type 0 where
 abbrev pub AnswersWhere : (Scenario → Type 0) → (ℕ → Type 0) → List (List ℕ) → SourceUse → SinkUse → Done → Type 0
 AnswersWhere IsSuch May words source sink done =
     (scenario : Scenario) → IsAskedFor (subcommand_by words) source scenario → IsSuch scenario
-    → (Rose source.faults_before source.faults_after → ⊥) → (Rose sink.faults_before sink.faults_after → ⊥)
+    → (Rose source.errors_before source.errors_after → ⊥) → (Rose sink.errors_before sink.errors_after → ⊥)
     → AnswersAll scenario done ⊎ May done.status
 
 -- Where the scenario is plain and at its budget, a run answers all; or it ran out of memory.

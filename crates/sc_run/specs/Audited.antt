@@ -17,7 +17,7 @@ use Rattle.sc_run.specs.Run.{Audits, ReportsJournal, ShowsFile}
 
 -- an audit says yes, or a read error came
 abbrev pub SaysYes : Said → Type 0
-SaysYes what = (what ≡ said.Lawful) ⊎ (what ≡ said.ReadFault)
+SaysYes what = (what ≡ said.Lawful) ⊎ (what ≡ said.ReadError)
 
 -- an audit of a file whose rows are a lawful journal of its scenario says yes
 abbrev pub LawfulFilesAreConfirmed : Type 0

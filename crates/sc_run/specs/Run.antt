@@ -35,10 +35,10 @@ use Rattle.sc_command_line.specs.Subcommands.{subcommand_by}
 use Rattle.sc_command_line.specs.declared.subcommands.Sight.{Sight}
 use Rattle.sc_command_line.specs.declared.subcommands.Subcommand.{Subcommand}
 use Rattle.sc_command_line.specs.declared.subcommands.Subcommand.TheVariants as ask
-use Rattle.sc_command_line.specs.Faults.{fault_text, IsBadText}
+use Rattle.sc_command_line.specs.Errors.{error_text, IsBadText}
 use Rattle.sc_command_line.specs.Inputs.{ReadsFile, ReadsScenario, ReadsText}
 use Rattle.sc_command_line.specs.declared.said.Said.{Said}
-use Rattle.sc_command_line.specs.declared.said.Said.TheVariants.{Ended, Filled, Usage, BadScenario, ReadFault, Lawful as Yes, Unlawful as No}
+use Rattle.sc_command_line.specs.declared.said.Said.TheVariants.{Ended, Filled, Usage, BadScenario, ReadError, Lawful as Yes, Unlawful as No}
 use Rattle.sc_chance.specs.Words.{two_words}
 use Rattle.sc_lines.specs.declared.reasons.Reason.{Reason}
 
@@ -99,7 +99,7 @@ pub record Plays (Shows : List (Row Mail OrderLine) → List (List ℕ) → Type
 pub record PlaysUntilFull (scenario : Scenario) (said : Said) (text : Text) : Type 0 where
   pub journal : List (Row Mail OrderLine)
   pub filled : HasFilled scenario journal_limit journal
-  pub tells : IsFullText journal text
+  pub line_text : IsFullText journal text
   pub said_is : said ≡ Filled
   pub not_plain : IsAtBudget scenario → ⊥
 
@@ -109,16 +109,16 @@ Comes Shows scenario said text = Plays Shows scenario said text ⊎ PlaysUntilFu
 
 -- a read error came, and the text says so
 pub record FailsToRead (source : SourceUse) (said : Said) (text : Text) : Type 0 where
-  pub rose : Rose source.faults_before source.faults_after
-  pub tells : IsLineText (codes "read fault") text
-  pub said_is : said ≡ ReadFault
+  pub rose : Rose source.errors_before source.errors_after
+  pub line_text : IsLineText (codes "read fault") text
+  pub said_is : said ≡ ReadError
 
 -- the text names the first bad line of the input, and its reason
 pub record NamesBadLine (IsBad : List ℕ → ℕ → Reason → Type 0) (source : SourceUse) (said : Said) (text : Text) : Type 0 where
   pub line : ℕ
   pub why : Reason
   pub bad : IfSome source.left (λ input. IsBad input line why)
-  pub tells : IsLineText (fault_text line why) text
+  pub line_text : IsLineText (error_text line why) text
   pub said_is : said ≡ BadScenario
 
 -- the input is not what was asked for
@@ -163,14 +163,14 @@ pub record HoldsLawful (scenario : Scenario) (rows : List (Row Mail OrderLine)) 
   pub lawful : Lawful as_nodes two_words scenario rows
   pub sound : IsSoundThroughout as_nodes scenario rows
   pub refuses : RefusesWithCause as_nodes scenario rows
-  pub tells : IsRowsText (lawful_line (length rows)) rows text
+  pub line_text : IsRowsText (lawful_line (length rows)) rows text
   pub said_is : said ≡ Yes
 
 -- Rows are no lawful journal of a scenario, and the text names the first that is not lawful.
 pub record HoldsUnlawful (scenario : Scenario) (rows : List (Row Mail OrderLine)) (said : Said) (text : Text) : Type 0 where
   pub at : ℕ
   pub unlawful : IsBadRow scenario rows at
-  pub tells : IsRowsText (unlawful_line at) rows text
+  pub line_text : IsRowsText (unlawful_line at) rows text
   pub said_is : said ≡ No
 
 -- what a text says of a scenario and rows that are stored

@@ -3,7 +3,7 @@ use Rattle.std.specs.Prelude.{◌≡◌, ℕ, List, length, take}
 use Rattle.sc_actor.specs.declared.rows.Row.{Row}
 use Rattle.sc_cmd.specs.declared.orders.OrderLine.{OrderLine}
 use Rattle.sc_mail.specs.declared.bodies.Mail.{Mail}
-use Rattle.sc_scan.specs.Laws.{TellsStore}
+use Rattle.sc_scan.specs.Laws.{ShowsStore}
 use Rattle.sc_scan.specs.Scan.{scan_at}
 use Rattle.sc_scan.specs.Text.{scan_lines}
 use Rattle.sc_scenario.specs.declared.scenarios.Scenario.{Scenario}
@@ -15,4 +15,4 @@ pub record ShowsScan (scenario : Scenario) (sight : Sight) (journal : List (Row 
   pub text : let rows : List (Row Mail OrderLine) = take sight.rows journal in
       lines ≡ scan_lines sight.most (length rows) (scan_at as_nodes scenario.groups rows sight.arc)
   pub told : let rows : List (Row Mail OrderLine) = take sight.rows journal in
-      TellsStore as_nodes scenario.groups rows sight.arc (scan_at as_nodes scenario.groups rows sight.arc)
+      ShowsStore as_nodes scenario.groups rows sight.arc (scan_at as_nodes scenario.groups rows sight.arc)

@@ -11,7 +11,7 @@ ghost use Rattle.sc_run.specs.Audited.{LawfulFilesAreConfirmed, PrintedJournalsA
 ghost use Rattle.sc_run.specs.Run.{AuditsAs};
 
 use crate::done::Text;
-use crate::telling::{lawful_line, text_of_rows, unlawful_line};
+use crate::texts::{lawful_line, text_of_rows, unlawful_line};
 use sc_actor::Journal;
 use sc_base::OutOfMemory;
 use sc_cmd::OrderLine;
@@ -19,7 +19,7 @@ use sc_command_line::Said;
 use sc_journal_file::{files_have_one_verdict, printed_files_are_files};
 use sc_mail::Mail;
 use sc_scenario::Scenario;
-use sc_world::{ReplayFault, replay_rows};
+use sc_world::{ReplayError, replay_rows};
 use std::alloc::Global;
 
 /// Returns the number of the first row that is not lawful, from 1, if there is one. Fails only
@@ -40,8 +40,8 @@ pub(crate) fn bad_row(
 {
     match replay_rows(alloc, scenario, rows) {
         Ok(_world) => Ok(None),
-        Err(ReplayFault::BadRow { at }) => Ok(Some(at)),
-        Err(ReplayFault::OutOfMemory) => Err(OutOfMemory),
+        Err(ReplayError::BadRow { at }) => Ok(Some(at)),
+        Err(ReplayError::OutOfMemory) => Err(OutOfMemory),
     }
 }
 

@@ -6,7 +6,7 @@ ghost use Rattle.sc_run.specs.Run.{ExplainsAs};
 
 use crate::auditing::bad_row;
 use crate::done::Text;
-use crate::telling::{text_of_rows, unlawful_line};
+use crate::texts::{text_of_rows, unlawful_line};
 use sc_actor::Journal;
 use sc_base::{OutOfMemory, Sequence};
 use sc_cmd::OrderLine;

@@ -12,7 +12,7 @@ mod reporting;
 mod running;
 mod saying;
 mod showing;
-mod telling;
+mod texts;
 
 pub use auditing::{audit, lawful_journals_are_confirmed};
 pub use begun::begin;
@@ -22,4 +22,4 @@ pub use played::{play, play_pool};
 pub use reporting::{Left, play_whole, report, store};
 pub use running::run;
 pub use showing::show;
-pub use telling::tells_full;
+pub use texts::full_text;

@@ -7,7 +7,7 @@ ghost use Rattle.sc_run.specs.Run.{Comes, ShowsFile, ShowsReport};
 use crate::begun::begin;
 use crate::done::Text;
 use crate::played::play_in;
-use crate::telling::tells_full;
+use crate::texts::full_text;
 use sc_actor::{Gate, Journal, Played};
 use sc_base::{OutOfMemory, Sequence};
 use sc_cmd::OrderLine;
@@ -81,7 +81,7 @@ pub fn report<G: Gate, R: Threads + Wait + Sync>(
     };
     match left.played {
         Played::OutOfMemory => Err(OutOfMemory),
-        Played::Full => Ok((said, tells_full(alloc, left.journal)?)),
+        Played::Full => Ok((said, full_text(alloc, left.journal)?)),
         Played::Ended { quiet, skipped, .. } => {
             let Left {
                 journal,
@@ -120,7 +120,7 @@ pub fn store<G: Gate, R: Threads + Wait + Sync>(
     };
     match left.played {
         Played::OutOfMemory => Err(OutOfMemory),
-        Played::Full => Ok((said, tells_full(alloc, left.journal)?)),
+        Played::Full => Ok((said, full_text(alloc, left.journal)?)),
         Played::Ended { .. } => {
             let Left {
                 journal,

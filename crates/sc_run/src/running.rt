@@ -27,16 +27,16 @@ fn say_and_print<S: Source, K: Sink, G: Gate, R: Threads + Wait + Sync>(
     ensures ends { Ends (map string_bytes words.now.items)
         (record {
           left = S.left input.old;
-          faults_before = S.faults input.old;
-          faults_after = S.faults input.new;
+          errors_before = S.errors input.old;
+          errors_after = S.errors input.new;
         })
         (record {
           held_before = K.held output.old;
           held_after = K.held output.new;
           pieces_before = K.pieces output.old;
           pieces_after = K.pieces output.new;
-          faults_before = K.faults output.old;
-          faults_after = K.faults output.new;
+          errors_before = K.errors output.old;
+          errors_after = K.errors output.new;
           calls_before = K.calls output.old;
           calls_after = K.calls output.new;
         })
@@ -94,16 +94,16 @@ pub fn run<S: Source, K: Sink, G: Gate, R: Threads + Wait + Sync>(
     ensures runs { Runs (map string_bytes words.now.items)
         (record {
           left = S.left input.old;
-          faults_before = S.faults input.old;
-          faults_after = S.faults input.new;
+          errors_before = S.errors input.old;
+          errors_after = S.errors input.new;
         })
         (record {
           held_before = K.held output.old;
           held_after = K.held output.new;
           pieces_before = K.pieces output.old;
           pieces_after = K.pieces output.new;
-          faults_before = K.faults output.old;
-          faults_after = K.faults output.new;
+          errors_before = K.errors output.old;
+          errors_after = K.errors output.new;
           calls_before = K.calls output.old;
           calls_after = K.calls output.new;
         })

@@ -14,11 +14,11 @@ use crate::done::Text;
 use crate::explaining::explain_stored;
 use crate::reporting::{report, store};
 use crate::showing::show;
-use crate::telling::tells;
+use crate::texts::line_text;
 use sc_actor::Gate;
 use sc_base::OutOfMemory;
 use sc_command_line::{
-    InputFault, Said, Sight, Subcommand, fault_text, file_in, scenario_in, subcommand_by, text_in,
+    InputError, Said, Sight, Subcommand, error_text, file_in, scenario_in, subcommand_by, text_in,
 };
 use sc_edges::Source;
 use sc_live_plain::made_scenarios_are_at_budget;
@@ -29,20 +29,20 @@ use std::sync::Wait;
 use std::thread::Threads;
 
 // Returns the text about an input that is not what was asked for.
-fn refuse(alloc: Global, fault: InputFault) -> Result<(Said, Text), OutOfMemory>
-    ensures { IfOk result (λ begun. IsErrorText fault begun.0 begun.1) }
+fn refuse(alloc: Global, error: InputError) -> Result<(Said, Text), OutOfMemory>
+    ensures { IfOk result (λ begun. IsErrorText error begun.0 begun.1) }
 {
-    match fault {
-        InputFault::Failed => {
-            let text = tells(alloc, b"read fault")?;
-            Ok((Said::ReadFault, text))
+    match error {
+        InputError::Failed => {
+            let text = line_text(alloc, b"read fault")?;
+            Ok((Said::ReadError, text))
         }
-        InputFault::Bad { line, why } => {
-            let message = fault_text(alloc, line, why)?;
-            let text = tells(alloc, message.as_slice())?;
+        InputError::Bad { line, why } => {
+            let message = error_text(alloc, line, why)?;
+            let text = line_text(alloc, message.as_slice())?;
             Ok((Said::BadScenario, text))
         }
-        InputFault::OutOfMemory => Err(OutOfMemory),
+        InputError::OutOfMemory => Err(OutOfMemory),
     }
 }
 
@@ -50,7 +50,7 @@ fn refuse(alloc: Global, fault: InputFault) -> Result<(Said, Text), OutOfMemory>
 fn usage_text(alloc: Global) -> Result<(Said, Text), OutOfMemory>
     ensures { IfOk result (λ begun. (begun.0 ≡ Usage) × IsLineText usage begun.1) }
 {
-    let text = tells(
+    let text = line_text(
         alloc,
         b"usage: scatter run | scatter make N S | scatter journal | scatter audit \
         | scatter scan LO LEN R MOST | scatter pool | scatter explain",
@@ -69,14 +69,14 @@ fn report_input<S: Source, G: Gate, R: Threads + Wait + Sync>(
 ) -> Result<(Said, Text), OutOfMemory>
     ensures says { IfOk result (λ begun. Reads (record {
       left = S.left input.old;
-      faults_before = S.faults input.old;
-      faults_after = S.faults input.new;
+      errors_before = S.errors input.old;
+      errors_after = S.errors input.new;
     }) begun.0 begun.1) }
     ensures takes { S.calls input.new ≤ S.calls input.old + (most_bytes + 2) }
 {
     match scenario_in(alloc, input) {
         Ok(scenario) => report(rt, alloc, way, &scenario, gate),
-        Err(fault) => refuse(alloc, fault),
+        Err(error) => refuse(alloc, error),
     }
 }
 
@@ -90,14 +90,14 @@ fn store_input<S: Source, G: Gate, R: Threads + Wait + Sync>(
 ) -> Result<(Said, Text), OutOfMemory>
     ensures says { IfOk result (λ begun. Keeps (record {
       left = S.left input.old;
-      faults_before = S.faults input.old;
-      faults_after = S.faults input.new;
+      errors_before = S.errors input.old;
+      errors_after = S.errors input.new;
     }) begun.0 begun.1) }
     ensures takes { S.calls input.new ≤ S.calls input.old + (most_bytes + 2) }
 {
     match text_in(alloc, input) {
         Ok((scenario, bytes)) => store(rt, alloc, &scenario, &bytes, gate),
-        Err(fault) => refuse(alloc, fault),
+        Err(error) => refuse(alloc, error),
     }
 }
 
@@ -113,14 +113,14 @@ fn show_input<S: Source, G: Gate, R: Threads + Wait + Sync>(
     requires { 1 ≤ sight.most }
     ensures says { IfOk result (λ begun. Scans sight (record {
       left = S.left input.old;
-      faults_before = S.faults input.old;
-      faults_after = S.faults input.new;
+      errors_before = S.errors input.old;
+      errors_after = S.errors input.new;
     }) begun.0 begun.1) }
     ensures takes { S.calls input.new ≤ S.calls input.old + (most_bytes + 2) }
 {
     match scenario_in(alloc, input) {
         Ok(scenario) => show(rt, alloc, &scenario, sight, gate),
-        Err(fault) => refuse(alloc, fault),
+        Err(error) => refuse(alloc, error),
     }
 }
 
@@ -129,14 +129,14 @@ fn show_input<S: Source, G: Gate, R: Threads + Wait + Sync>(
 fn audit_input<S: Source>(alloc: Global, input: &mut S) -> Result<(Said, Text), OutOfMemory>
     ensures says { IfOk result (λ begun. Audits (record {
       left = S.left input.old;
-      faults_before = S.faults input.old;
-      faults_after = S.faults input.new;
+      errors_before = S.errors input.old;
+      errors_after = S.errors input.new;
     }) begun.0 begun.1) }
     ensures takes { S.calls input.new ≤ S.calls input.old + (most_file_bytes + 2) }
 {
     match file_in(alloc, input) {
         Ok((scenario, rows)) => audit(alloc, &scenario, rows),
-        Err(fault) => refuse(alloc, fault),
+        Err(error) => refuse(alloc, error),
     }
 }
 
@@ -145,14 +145,14 @@ fn audit_input<S: Source>(alloc: Global, input: &mut S) -> Result<(Said, Text), 
 fn explain_input<S: Source>(alloc: Global, input: &mut S) -> Result<(Said, Text), OutOfMemory>
     ensures says { IfOk result (λ begun. Explains (record {
       left = S.left input.old;
-      faults_before = S.faults input.old;
-      faults_after = S.faults input.new;
+      errors_before = S.errors input.old;
+      errors_after = S.errors input.new;
     }) begun.0 begun.1) }
     ensures takes { S.calls input.new ≤ S.calls input.old + (most_file_bytes + 2) }
 {
     match file_in(alloc, input) {
         Ok((scenario, rows)) => explain_stored(alloc, &scenario, rows),
-        Err(fault) => refuse(alloc, fault),
+        Err(error) => refuse(alloc, error),
     }
 }
 
@@ -184,8 +184,8 @@ pub(crate) fn say<S: Source, G: Gate, R: Threads + Wait + Sync>(
 ) -> Result<(Said, Text), OutOfMemory>
     ensures says { IfOk result (λ begun. Says (map string_bytes words.now) (record {
       left = S.left input.old;
-      faults_before = S.faults input.old;
-      faults_after = S.faults input.new;
+      errors_before = S.errors input.old;
+      errors_after = S.errors input.new;
     })
         begun.0 begun.1) }
     ensures unread { reads_input (map string_bytes words.now) ≡ false → input.new ≡ input.old }

@@ -12,7 +12,7 @@ ghost use Rattle.sc_run.specs.Shown.{ShowsScan};
 
 use crate::done::Text;
 use crate::reporting::{Left, play_whole};
-use crate::telling::tells_full;
+use crate::texts::full_text;
 use sc_actor::{Gate, Played, Row};
 use sc_base::{OutOfMemory, Sequence};
 use sc_cmd::OrderLine;
@@ -82,7 +82,7 @@ pub fn show<G: Gate, R: Threads + Wait + Sync>(
     };
     match left.played {
         Played::OutOfMemory => Err(OutOfMemory),
-        Played::Full => Ok((said, tells_full(alloc, left.journal)?)),
+        Played::Full => Ok((said, full_text(alloc, left.journal)?)),
         Played::Ended { .. } => {
             let Left {
                 journal,

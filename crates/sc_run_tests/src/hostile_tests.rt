@@ -9,7 +9,7 @@ use crate::thread_tests::add;
 use sc_actor::{Journal, Played};
 use sc_cmd::OrderLine;
 use sc_mail::Mail;
-use sc_run::{Left, play_whole, tells_full};
+use sc_run::{Left, play_whole, full_text};
 use sc_workers::Way;
 use std::alloc::Global;
 use std::mem::forget;
@@ -180,7 +180,7 @@ fn a_journal_ends_where_the_next_row_would_pass_its_limit(rt: HostRuntime) {
 
 // Returns whether the text about a journal is the line that it is full after two rows.
 fn is_full_after_two(rt: &impl Abort, alloc: Global, journal: Journal<Mail, OrderLine>) -> bool {
-    let text = tells_full(alloc, journal).expect(rt, "memory");
+    let text = full_text(alloc, journal).expect(rt, "memory");
     match text.lines.as_slice() {
         [line] => line.bytes() == FULL_AFTER_TWO,
         _ => false,

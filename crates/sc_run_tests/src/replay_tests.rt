@@ -18,7 +18,7 @@ use sc_report::{ReportLine, Summary, lines};
 use sc_run::{Left, play_whole};
 use sc_scenario::{Scenario, read_scenario};
 use sc_workers::Way;
-use sc_world::{Party, ReplayFault, World, decided_log, history, replay_rows, summary};
+use sc_world::{Party, ReplayError, World, decided_log, history, replay_rows, summary};
 use std::alloc::Global;
 use std::mem::{self, forget};
 use std::process::Abort;
@@ -152,8 +152,8 @@ fn bad_row(
             forget(world);
             0
         }
-        Err(ReplayFault::BadRow { at }) => at,
-        Err(ReplayFault::OutOfMemory) => panic!(rt; "memory"),
+        Err(ReplayError::BadRow { at }) => at,
+        Err(ReplayError::OutOfMemory) => panic!(rt; "memory"),
     }
 }
 
@@ -254,7 +254,7 @@ fn reports<R: Abort + Threads + Wait + Sync>(
 }
 
 #[test]
-fn a_replay_tells_the_report_of_its_rows(rt: HostRuntime) {
+fn a_replay_gives_the_report_of_its_rows(rt: HostRuntime) {
     assert!(rt; reports(&rt, rt.alloc(), CUT_SHORT, CUT_SHORT_REPORT));
 }
 

@@ -27,16 +27,16 @@ last_step first next more =
     let e : length (first ∷ next ∷ more) - 1 ≡ suc (length (next ∷ more) - 1) = omega arith in
     ap (λ i. option_map (λ (pair : Pair). pair.0) (slice_get (first ∷ next ∷ more) i)) e
 
-last_is : (first : Pair) (front : List Pair) → (last : Pair) × Among last (first ∷ front) × (last_key (first ∷ front) ≡ Some last.0)
+last_is : (first : Pair) (prefix : List Pair) → (last : Pair) × Among last (first ∷ prefix) × (last_key (first ∷ prefix) ≡ Some last.0)
 last_is first [] = (first, inl refl, refl)
 last_is first (next ∷ more) = (let k = last_is next more in (k.0, inr k.1, last_step first next more ∙ k.2))
 
-last_behind : (front : List Pair) (next : Pair) (more : List Pair) → last_key (front ++ next ∷ more) ≡ last_key (next ∷ more)
+last_behind : (prefix : List Pair) (next : Pair) (more : List Pair) → last_key (prefix ++ next ∷ more) ≡ last_key (next ∷ more)
 last_behind [] next more = refl
 last_behind (first ∷ []) next more = last_step first next more
-last_behind (first ∷ second ∷ front) next more = last_step first second (front ++ next ∷ more) ∙ last_behind (second ∷ front) next more
+last_behind (first ∷ second ∷ prefix) next more = last_step first second (prefix ++ next ∷ more) ∙ last_behind (second ∷ prefix) next more
 
-past_last : (first : Pair) (front rest : List Pair) → Pairwise KeysDiffer ((first ∷ front) ++ rest) → after_key (last_key (first ∷ front)) ((first ∷ front) ++ rest) ≡ rest
+past_last : (first : Pair) (prefix rest : List Pair) → Pairwise KeysDiffer ((first ∷ prefix) ++ rest) → after_key (last_key (first ∷ prefix)) ((first ∷ prefix) ++ rest) ≡ rest
 past_last first [] rest apart = cond-true (pointwise nat_eq first.0 first.0) rest (past first.0 rest) (same_key first.0)
 past_last first (next ∷ more) rest apart =
     let k = last_is next more in
@@ -47,22 +47,22 @@ past_last first (next ∷ more) rest apart =
     ∙ past_last next more rest apart.1
 
 -- behind the last key of a prefix comes the rest
-behind_last : (front rest : List Pair) → HaveKeysOnce (front ++ rest) → after_key (last_key front) (front ++ rest) ≡ rest
+behind_last : (prefix rest : List Pair) → HaveKeysOnce (prefix ++ rest) → after_key (last_key prefix) (prefix ++ rest) ≡ rest
 behind_last [] rest apart = refl
-behind_last (first ∷ front) rest apart = past_last first front rest (pairwise_from KeysDiffer ((first ∷ front) ++ rest) apart)
+behind_last (first ∷ prefix) rest apart = past_last first prefix rest (pairwise_from KeysDiffer ((first ∷ prefix) ++ rest) apart)
 
 -- ---- one page
 
 -- a list goes on behind a page as it does behind all before the page and the page
-seam : (front page rest : List Pair) → (front ++ page) ++ rest ≡ front ++ (page ++ rest)
-seam front page rest = append_assoc front page rest
+seam : (prefix page rest : List Pair) → (prefix ++ page) ++ rest ≡ prefix ++ (page ++ rest)
+seam prefix page rest = append_assoc prefix page rest
 
-behind_page_last : (front : List Pair) (first : Pair) (page rest : List Pair) → HaveKeysOnce (front ++ ((first ∷ page) ++ rest)) → after_key (last_key (first ∷ page)) (front ++ ((first ∷ page) ++ rest)) ≡ rest
-behind_page_last front first page rest once =
-    let e = seam front (first ∷ page) rest in
-    let k : after_key (last_key (front ++ first ∷ page)) ((front ++ first ∷ page) ++ rest) ≡ rest = behind_last (front ++ first ∷ page) rest (subst HaveKeysOnce (sym e) once) in
+behind_page_last : (prefix : List Pair) (first : Pair) (page rest : List Pair) → HaveKeysOnce (prefix ++ ((first ∷ page) ++ rest)) → after_key (last_key (first ∷ page)) (prefix ++ ((first ∷ page) ++ rest)) ≡ rest
+behind_page_last prefix first page rest once =
+    let e = seam prefix (first ∷ page) rest in
+    let k : after_key (last_key (prefix ++ first ∷ page)) ((prefix ++ first ∷ page) ++ rest) ≡ rest = behind_last (prefix ++ first ∷ page) rest (subst HaveKeysOnce (sym e) once) in
     ap (λ all. after_key (last_key (first ∷ page)) all) (sym e)
-    ∙ ap (λ key. after_key key ((front ++ first ∷ page) ++ rest)) (sym (last_behind front first page))
+    ∙ ap (λ key. after_key key ((prefix ++ first ∷ page) ++ rest)) (sym (last_behind prefix first page))
     ∙ k
 
 -- where more pairs are left, the key is the last of the page
@@ -72,15 +72,15 @@ key_of most rest more = cond-true (nat_lt most (length rest)) (last_key (take mo
 last_page : (most : ℕ) (rest : List Pair) → length rest ≤ most → next_key most rest ≡ None
 last_page most rest all = cond-false (nat_lt most (length rest)) (last_key (take most rest)) None (le-ltb most (length rest) all)
 
-next_page : (most : ℕ) (front rest : List Pair) → HaveKeysOnce (front ++ rest) → 0 < most → most < length rest → after_key (next_key most rest) (front ++ rest) ≡ drop most rest
-next_page zero front rest once some more = absurd (omega (arith, some))
-next_page (suc most) front [] once some more = absurd (omega (arith, more))
-next_page (suc most) front (first ∷ rest) once some more =
+next_page : (most : ℕ) (prefix rest : List Pair) → HaveKeysOnce (prefix ++ rest) → 0 < most → most < length rest → after_key (next_key most rest) (prefix ++ rest) ≡ drop most rest
+next_page zero prefix rest once some more = absurd (omega (arith, some))
+next_page (suc most) prefix [] once some more = absurd (omega (arith, more))
+next_page (suc most) prefix (first ∷ rest) once some more =
     let e : (first ∷ take most rest) ++ drop most rest ≡ first ∷ rest = ap (λ list. first ∷ list) (take-append-drop most rest) in
-    let k : after_key (last_key (first ∷ take most rest)) (front ++ ((first ∷ take most rest) ++ drop most rest)) ≡ drop most rest =
-    behind_page_last front first (take most rest) (drop most rest) (subst (λ list. HaveKeysOnce (front ++ list)) (sym e) once) in
-    ap (λ key. after_key key (front ++ first ∷ rest)) (key_of (suc most) (first ∷ rest) more)
-    ∙ ap (λ list. after_key (last_key (first ∷ take most rest)) (front ++ list)) (sym e)
+    let k : after_key (last_key (first ∷ take most rest)) (prefix ++ ((first ∷ take most rest) ++ drop most rest)) ≡ drop most rest =
+    behind_page_last prefix first (take most rest) (drop most rest) (subst (λ list. HaveKeysOnce (prefix ++ list)) (sym e) once) in
+    ap (λ key. after_key key (prefix ++ first ∷ rest)) (key_of (suc most) (first ∷ rest) more)
+    ∙ ap (λ list. after_key (last_key (first ∷ take most rest)) (prefix ++ list)) (sym e)
     ∙ k
 
 -- ---- all pages
@@ -95,23 +95,23 @@ abbrev flat : List (List Pair) → List Pair
 flat = flat_map (λ page. page)
 
 -- the pages from a key on, where some pairs are left behind it
-walked : (many most : ℕ) (all front rest : List Pair) (after : Option (List ℕ)) → all ≡ front ++ rest → after_key after all ≡ rest → HaveKeysOnce all → 0 < most → length rest ≤ many
+walked : (many most : ℕ) (all prefix rest : List Pair) (after : Option (List ℕ)) → all ≡ prefix ++ rest → after_key after all ≡ rest → HaveKeysOnce all → 0 < most → length rest ≤ many
     → flat (pages_from many most all after) ≡ rest
 unfolding pages_from
-walked zero most all front [] after parts begins once some enough = refl
-walked zero most all front (pair ∷ rest) after parts begins once some enough = absurd (omega (arith, enough))
-walked (suc many) most all front rest after parts begins once some enough =
+walked zero most all prefix [] after parts begins once some enough = refl
+walked zero most all prefix (pair ∷ rest) after parts begins once some enough = absurd (omega (arith, enough))
+walked (suc many) most all prefix rest after parts begins once some enough =
     let page_then = λ (left : List Pair). take most left ++ flat (behind_page (next_key most left) (pages_from many most all)) in
     ap page_then begins ∙ elim (cases_Bool (nat_lt most (length rest))) [
       | inl t ↦ (
           let more : most < length rest = ltb-true most (length rest) t in
           let k = has_key most rest some more in
-          let e : all ≡ (front ++ take most rest) ++ drop most rest = parts ∙ ap (λ list. front ++ list) (sym (take-append-drop most rest)) ∙ sym (seam front (take most rest) (drop most rest)) in
+          let e : all ≡ (prefix ++ take most rest) ++ drop most rest = parts ∙ ap (λ list. prefix ++ list) (sym (take-append-drop most rest)) ∙ sym (seam prefix (take most rest) (drop most rest)) in
           let goes_on : after_key (next_key most rest) all ≡ drop most rest =
-          ap (after_key (next_key most rest)) parts ∙ next_page most front rest (subst HaveKeysOnce parts once) some more in
+          ap (after_key (next_key most rest)) parts ∙ next_page most prefix rest (subst HaveKeysOnce parts once) some more in
           let begins_then : after_key (Some k.0) all ≡ drop most rest = ap (λ key. after_key key all) (sym k.1) ∙ goes_on in
           let fewer : length (drop most rest) ≤ many = omega (arith, length-drop most rest, enough, some, more) in
-          let goes : flat (pages_from many most all (Some k.0)) ≡ drop most rest = walked many most all (front ++ take most rest) (drop most rest) (Some k.0) e begins_then once some fewer in
+          let goes : flat (pages_from many most all (Some k.0)) ≡ drop most rest = walked many most all (prefix ++ take most rest) (drop most rest) (Some k.0) e begins_then once some fewer in
           ap (λ key. take most rest ++ flat (behind_page key (pages_from many most all))) k.1
           ∙ ap (λ list. take most rest ++ list) goes
           ∙ take-append-drop most rest)

@@ -30,15 +30,15 @@ weight zero = 1
 weight (suc more) = 256 * weight more
 
 -- what a number of first bytes of a key make
-abbrev front : ℕ → List ℕ → ℕ
-front zero key = 0
-front (suc more) [] = 0
-front (suc more) (byte ∷ key) = byte * weight more + front more key
+abbrev prefix : ℕ → List ℕ → ℕ
+prefix zero key = 0
+prefix (suc more) [] = 0
+prefix (suc more) (byte ∷ key) = byte * weight more + prefix more key
 
 abbrev AreBytes : List ℕ → Type 0
 AreBytes = Each (λ byte. byte < 256)
 
-below_weight : (more : ℕ) (key : List ℕ) → AreBytes key → front more key + 1 ≤ weight more
+below_weight : (more : ℕ) (key : List ℕ) → AreBytes key → prefix more key + 1 ≤ weight more
 below_weight zero key bytes = omega arith
 below_weight (suc more) [] bytes = (let least : 0 + 1 ≤ weight more = below_none more in omega arith)
   where
@@ -46,47 +46,47 @@ below_weight (suc more) [] bytes = (let least : 0 + 1 ≤ weight more = below_no
     below_none zero = omega arith
     below_none (suc more) = (let h = below_none more in omega arith)
 below_weight (suc more) (byte ∷ key) bytes =
-    let rest : front more key + 1 ≤ weight more = below_weight more key bytes.1 in
+    let rest : prefix more key + 1 ≤ weight more = below_weight more key bytes.1 in
     let small : byte < 256 = bytes.0 in
     let up : byte + 1 ≤ 256 = omega arith in
     let all : (byte + 1) * weight more ≤ 256 * weight more = mul-le-mul_right (weight more) up in
     omega (arith, rest, all)
 
 -- a key before another has no greater number
-prefix_rises : (more : ℕ) (one other : List ℕ) → AreBytes one → AreBytes other → slice_cmp nat_cmp one other ≡ Less → front more one ≤ front more other
+prefix_rises : (more : ℕ) (one other : List ℕ) → AreBytes one → AreBytes other → slice_cmp nat_cmp one other ≡ Less → prefix more one ≤ prefix more other
 prefix_rises zero one other bytes others less = omega arith
 prefix_rises (suc more) [] other bytes others less = omega arith
 prefix_rises (suc more) (x ∷ one) [] bytes others less = absurd (let no_way : Greater ≡ Less = less in cc)
 prefix_rises (suc more) (x ∷ one) (y ∷ other) bytes others less = step (prefix_rises more one other bytes.1 others.1) (nat_cmp x y) refl less
   where
-    step : (slice_cmp nat_cmp one other ≡ Less → front more one ≤ front more other)
-        → (o : Ordering) → o ≡ nat_cmp x y → ordering_then o (slice_cmp nat_cmp one other) ≡ Less → x * weight more + front more one ≤ y * weight more + front more other
+    step : (slice_cmp nat_cmp one other ≡ Less → prefix more one ≤ prefix more other)
+        → (o : Ordering) → o ≡ nat_cmp x y → ordering_then o (slice_cmp nat_cmp one other) ≡ Less → x * weight more + prefix more one ≤ y * weight more + prefix more other
     step tail Less is e =
         let lt : x < y = ranked x y Less is in
         let up : x + 1 ≤ y = omega arith in
         let all : (x + 1) * weight more ≤ y * weight more = mul-le-mul_right (weight more) up in
-        let rest : front more one + 1 ≤ weight more = below_weight more one bytes.1 in
+        let rest : prefix more one + 1 ≤ weight more = below_weight more one bytes.1 in
         omega (arith, all, rest)
     step tail Equal is e =
         let same : x ≡ y = ranked x y Equal is in
-        let rest : front more one ≤ front more other = tail e in
+        let rest : prefix more one ≤ prefix more other = tail e in
         let products : x * weight more ≡ y * weight more = ap (λ n. n * weight more) same in
         omega (arith, products, rest)
     step tail Greater is e = absurd (let no_way : Greater ≡ Less = e in cc)
 
-pos_front : (key : List ℕ) → pos_of key ≡ front 4 key
-pos_front [] = refl
-pos_front (a ∷ []) = omega arith
-pos_front (a ∷ b ∷ []) = omega arith
-pos_front (a ∷ b ∷ c ∷ []) = omega arith
-pos_front (a ∷ b ∷ c ∷ d ∷ more) = omega arith
+pos_prefix : (key : List ℕ) → pos_of key ≡ prefix 4 key
+pos_prefix [] = refl
+pos_prefix (a ∷ []) = omega arith
+pos_prefix (a ∷ b ∷ []) = omega arith
+pos_prefix (a ∷ b ∷ c ∷ []) = omega arith
+pos_prefix (a ∷ b ∷ c ∷ d ∷ more) = omega arith
 
 -- positions do not fall, and lie on the circle
 pos_rises : (one other : List ℕ) → AreBytes one → AreBytes other → slice_cmp nat_cmp one other ≡ Less → pos_of one ≤ pos_of other
-pos_rises one other bytes others less = (let h : front 4 one ≤ front 4 other = prefix_rises 4 one other bytes others less in omega (arith, h, pos_front one, pos_front other))
+pos_rises one other bytes others less = (let h : prefix 4 one ≤ prefix 4 other = prefix_rises 4 one other bytes others less in omega (arith, h, pos_prefix one, pos_prefix other))
 
 pos_fits : (key : List ℕ) → AreBytes key → pos_of key < 2 ^ 32
-pos_fits key bytes = (let h : front 4 key + 1 ≤ weight 4 = below_weight 4 key bytes in omega (arith, h, pos_front key))
+pos_fits key bytes = (let h : prefix 4 key + 1 ≤ weight 4 = below_weight 4 key bytes in omega (arith, h, pos_prefix key))
 
 -- ---- sides of a start
 

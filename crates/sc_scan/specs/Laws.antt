@@ -77,7 +77,7 @@ pub record IsOfItsLog (ahead : Ahead) (bases : List Base) (rows : List (Row Mail
 -- ---- all together
 
 -- a scan is what an arc holds after some rows: its parts share the arc, its pairs are the map's, and each part is of its group's log
-pub record TellsStore (ahead : Ahead) (bases : List Base) (rows : List (Row Mail OrderLine)) (arc : Arc) (scan : List Shown) : Type 0 where
+pub record ShowsStore (ahead : Ahead) (bases : List Base) (rows : List (Row Mail OrderLine)) (arc : Arc) (scan : List Shown) : Type 0 where
   pub parts : ShareArc (world_at ahead bases rows).ring arc (map (λ shown. shown.part) scan)
   pub pairs : HasMap (world_at ahead bases rows) arc scan
   pub logs : (shown : Shown) → Among shown scan → IsOfItsLog ahead bases rows shown
@@ -85,7 +85,7 @@ pub record TellsStore (ahead : Ahead) (bases : List Base) (rows : List (Row Mail
 -- a scan of rows that make one map, and whose entries are the logs of their groups, is what the arc holds
 abbrev pub ScansShow : Type 0
 ScansShow = (ahead : Ahead) (bases : List Base) (rows : List (Row Mail OrderLine)) → IsOneMap (world_at ahead bases rows) → AreItsLogs ahead bases rows
-    → (arc : Arc) → IsArc arc → arc.lo < 2 ^ 32 → TellsStore ahead bases rows arc (scan_at ahead bases rows arc)
+    → (arc : Arc) → IsArc arc → arc.lo < 2 ^ 32 → ShowsStore ahead bases rows arc (scan_at ahead bases rows arc)
 
 -- where entries are logs, a scan that counts each group's entries is one that takes the length of its log
 abbrev pub EntriesCountLogs : Type 0
@@ -97,7 +97,7 @@ EntriesCountLogs = (ahead : Ahead) (bases : List Base) (rows : List (Row Mail Or
 -- pages of at least one pair, of a list that has each key once, follow one another
 pub record PagesFollow : Type 0 where
   -- where more pairs are left than a page takes, all that it leaves comes behind its key, wherever in the list the page begins
-  pub next : (most : ℕ) (front rest : List Pair) → HaveKeysOnce (front ++ rest) → 0 < most → most < length rest → after_key (next_key most rest) (front ++ rest) ≡ drop most rest
+  pub next : (most : ℕ) (prefix rest : List Pair) → HaveKeysOnce (prefix ++ rest) → 0 < most → most < length rest → after_key (next_key most rest) (prefix ++ rest) ≡ drop most rest
   -- a page that takes all that is left gives no key
   pub last : (most : ℕ) (rest : List Pair) → length rest ≤ most → next_key most rest ≡ None
   -- the pages from the start on, one after another, are the list

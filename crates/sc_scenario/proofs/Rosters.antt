@@ -3,9 +3,9 @@ use Rattle.std.proofs.Common.{◌≡◌, ℕ, ◌<◌, Bool, true, false, cond, 
 use Rattle.std.specs.List.{All}
 use Rattle.std.proofs.lemmas.Bool.{eqb-false}
 use Rattle.std.proofs.lemmas.List.Elements.{All-cons, All-append, All-filter}
-use Rattle.sc_base.specs.Definitions.{IsRoster, is_member, with_member, add_fault}
+use Rattle.sc_base.specs.Definitions.{IsRoster, is_member, with_member, add_error}
 use Rattle.sc_base.proofs.Lemmas.{roster_with as roster_put}
-use Rattle.sc_base.specs.declared.sets.MemberFault.TheVariants.{Present, Full}
+use Rattle.sc_base.specs.declared.sets.MemberError.TheVariants.{Present, Full}
 
 -- one node is a set
 pub roster_one : (n : ℕ) → IsRoster (n ∷ [])
@@ -16,14 +16,14 @@ free_parts true full e = cc
 free_parts false true e = cc
 free_parts false false e = (refl, refl)
 
-room : (members : List ℕ) (n : ℕ) → IsRoster members → is_none (add_fault members n) ≡ true → length members < 9
+room : (members : List ℕ) (n : ℕ) → IsRoster members → is_none (add_error members n) ≡ true → length members < 9
 room members n is free =
     let e : (is_member members n ≡ false) × (eqb (length members) 9 ≡ false) = free_parts (is_member members n) (eqb (length members) 9) free in
     let ne = eqb-false (length members) 9 e.1 in
     omega (arith, is.most, ne)
 
 -- a node that is put into a set where it may stand
-pub roster_with : (members : List ℕ) (n : ℕ) → IsRoster members → is_none (add_fault members n) ≡ true → IsRoster (with_member members n)
+pub roster_with : (members : List ℕ) (n : ℕ) → IsRoster members → is_none (add_error members n) ≡ true → IsRoster (with_member members n)
 roster_with members n is free =
     let parts = free_parts (is_member members n) (eqb (length members) 9) free in
     roster_put members n is parts.0 (room members n is free)

@@ -4,10 +4,10 @@ use Rattle.std.specs.Prelude.{Ok, is_none}
 use Rattle.std.specs.Fmt.{decimal}
 use Rattle.std.proofs.lemmas.Bool.{cond_both, ltb-false}
 use Rattle.std.proofs.lemmas.Fmt.{length-decimal-le}
-use Rattle.sc_base.specs.Definitions.{Each, longest_key, longest_value, text_fault}
+use Rattle.sc_base.specs.Definitions.{Each, longest_key, longest_value, text_error}
 use Rattle.sc_base.specs.declared.ops.Op.{Op}
 use Rattle.sc_base.specs.declared.ops.Op.TheVariants.{Get, Put, Del, Add, Cas}
-use Rattle.sc_base.specs.declared.texts.KeyFault.TheVariants.{Empty, TooLong}
+use Rattle.sc_base.specs.declared.texts.KeyError.TheVariants.{Empty, TooLong}
 use Rattle.sc_lines.specs.Definitions.{with_value, request_in, nth, key_in, value_in}
 use Rattle.sc_lines.specs.declared.kinds.RequestKind.{RequestKind}
 use Rattle.sc_lines.specs.declared.kinds.RequestKind.TheVariants as kind
@@ -22,7 +22,7 @@ Each-push P (y ∷ xs) x e p = (e.0, Each-push P xs x e.1 p)
 -- ---- what words spell
 
 -- a text without a fault is no longer than it may be
-text_short : (most : ℕ) (word : List ℕ) → is_none (text_fault most word) ≡ true → length word ≤ most
+text_short : (most : ℕ) (word : List ℕ) → is_none (text_error most word) ≡ true → length word ≤ most
 text_short most word e =
     cond_both (eqb (length word) 0) (Some Empty) _ (λ o. is_none o ≡ true → length word ≤ most) (λ t k. cc)
     (λ f. cond_both (ltb most (length word)) (Some (TooLong (length word))) _ (λ o. is_none o ≡ true → length word ≤ most) (λ t k. cc) (λ g k. ltb-false most (length word) g)) e
@@ -32,10 +32,10 @@ word_short true word spelled e = (refl, cc)
 word_short false word spelled e = cc
 
 key_short : (word key : List ℕ) → key_in word ≡ Some key → length key ≤ longest_key
-key_short word key e = (let w = word_short (is_none (text_fault longest_key word)) word key e in let low = text_short longest_key word w.0 in let same = ap length w.1 in omega (arith, low, same))
+key_short word key e = (let w = word_short (is_none (text_error longest_key word)) word key e in let low = text_short longest_key word w.0 in let same = ap length w.1 in omega (arith, low, same))
 
 value_short : (word value : List ℕ) → value_in word ≡ Some value → length value ≤ longest_value
-value_short word value e = (let w = word_short (is_none (text_fault longest_value word)) word value e in let low = text_short longest_value word w.0 in let same = ap length w.1 in omega (arith, low, same))
+value_short word value e = (let w = word_short (is_none (text_error longest_value word)) word value e in let low = text_short longest_value word w.0 in let same = ap length w.1 in omega (arith, low, same))
 
 -- a request that words spell is short
 pub request_short : (k : RequestKind) (words : List (List ℕ)) (op : Op) → request_in k words ≡ Ok op → IsShortOp op

@@ -7,7 +7,7 @@ use Rattle.std.proofs.lemmas.Bool.{or_parts, eqb-true, eq-eqb, ltb-false, leb-tr
 use Rattle.std.proofs.lemmas.Option.{none-some, same_Some}
 use Rattle.std.proofs.lemmas.List.Elements.{All-nil, All-cons, All-push, All-head, All-tail}
 use Rattle.sc_base.proofs.Lemmas.{and_then-some, map-some}
-use Rattle.sc_base.specs.Definitions.{most_nodes, most_clients, client_actor, number_of, IsRoster, with_member, add_fault}
+use Rattle.sc_base.specs.Definitions.{most_nodes, most_clients, client_actor, number_of, IsRoster, with_member, add_error}
 use Rattle.sc_cmd.specs.declared.orders.Order.{Order}
 use Rattle.sc_cmd.specs.declared.orders.Order.TheVariants.{Join, Leave, Split, Merge, Repart, Migrate}
 use Rattle.sc_lines.specs.Definitions.{or_reason, nth, count_in}
@@ -27,7 +27,7 @@ use Rattle.std.proofs.Math.Bool.{or-true}
 
 -- ---- the nodes of a group
 
-pub joined_case : (b : Bool) (members : List ℕ) (node : ℕ) → is_none (add_fault members node) ≡ b → IsRoster members → IsRoster (if b then with_member members node else members)
+pub joined_case : (b : Bool) (members : List ℕ) (node : ℕ) → is_none (add_error members node) ≡ b → IsRoster members → IsRoster (if b then with_member members node else members)
 joined_case true members node e is = roster_with members node is e
 joined_case false members node e is = is
 
@@ -37,12 +37,12 @@ all_case P false members node all here = all
 
 pub joined_is : (nodes members : List ℕ) → IsRoster members → IsRoster (joined_by_all members nodes)
 joined_is [] members is = is
-joined_is (node ∷ nodes) members is = joined_is nodes (joined_by members node) (joined_case (is_none (add_fault members node)) members node refl is)
+joined_is (node ∷ nodes) members is = joined_is nodes (joined_by members node) (joined_case (is_none (add_error members node)) members node refl is)
 
 pub joined_all : (P : ℕ → Type 0) (nodes members : List ℕ) → All P members → All P nodes → All P (joined_by_all members nodes)
 joined_all P [] members all more = all
 joined_all P (node ∷ nodes) members all more =
-    joined_all P nodes (joined_by members node) (all_case P (is_none (add_fault members node)) members node all (All-head P node nodes more)) (All-tail P node nodes more)
+    joined_all P nodes (joined_by members node) (all_case P (is_none (add_error members node)) members node all (All-head P node nodes more)) (All-tail P node nodes more)
 
 pub nodes_up : (words : List (List ℕ)) (nodes more : List ℕ) → All (IsUpTo most_nodes) nodes → nodes_with nodes words ≡ Some more → All (IsUpTo most_nodes) more
 nodes_up [] nodes more all e = subst (All (IsUpTo most_nodes)) (same_Some nodes more e) all

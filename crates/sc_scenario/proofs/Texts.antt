@@ -11,19 +11,19 @@ use Rattle.sc_base.specs.Definitions.{most_nodes, most_clients, most_requests, n
 use Rattle.sc_base.specs.declared.ops.Op.{Op}
 use Rattle.sc_cmd.specs.declared.orders.Order.{Order}
 use Rattle.sc_lines.specs.Definitions.{or_reason, then_on, nth, words_of, count_in, is_too_long, lines_of, trimmed, is_skipped, has_bad_byte, most_lines, kind_of, phase_of, is_inner, has_count, request_in}
-use Rattle.sc_scenario.specs.Definitions.{nodes_with, has_repeat, set_of, is_client, line_in, order_in, last_position, group_in, statement_in, phase_so_far, may_follow, is_in_place, is_order_known, is_line_known, is_above, most_groups, most_members, with_group_line, has_stranger, group_taken, client_place, with_client, with_op, client_taken, request_taken, with_sched_line, telling_of, with_order, line_taken, telling_taken, taken_outside, taken_within, begun, are_two, header_read, said, words_read, is_fresh, line_read, scenario_by, reading_ended, text_ended, going_on, lines_read, verdict_of, IsWritten, IsBounded, IsBoundedGroup, IsShortOp, IsBoundedClient, IsBoundedLine, IsUpTo, ValidScenariosAreBounded}
+use Rattle.sc_scenario.specs.Definitions.{nodes_with, has_repeat, set_of, is_client, line_in, order_in, last_position, group_in, statement_in, phase_so_far, may_follow, is_in_place, is_order_known, is_line_known, is_above, most_groups, most_members, with_group_line, has_stranger, group_taken, client_place, with_client, with_op, client_taken, request_taken, with_sched_line, line_of_order, with_order, line_taken, order_line_taken, taken_outside, taken_within, begun, are_two, header_read, said, words_read, is_fresh, line_read, scenario_by, reading_ended, text_ended, going_on, lines_read, verdict_of, IsWritten, IsBounded, IsBoundedGroup, IsShortOp, IsBoundedClient, IsBoundedLine, IsUpTo, ValidScenariosAreBounded}
 use Rattle.sc_lines.specs.declared.reasons.Reason.{Reason}
 use Rattle.sc_lines.specs.declared.reasons.Reason.TheVariants.{MissingHeader, BadByte, UnknownWord, OutOfPlace, WrongCount, BadNumber, UnknownName, Repeated, BadBoundary, TooMany, UnendedClient, MissingPart, TooLarge}
 use Rattle.sc_lines.specs.declared.kinds.Kind.{Kind}
-use Rattle.sc_lines.specs.declared.kinds.Kind.TheVariants.{Header, Nodes, Group, Policy, Client, End, Asking, Playing, Telling}
+use Rattle.sc_lines.specs.declared.kinds.Kind.TheVariants.{Header, Nodes, Group, Policy, Client, End, Asking, Playing, GivingOrder}
 use Rattle.sc_scenario.specs.declared.statements.Statement.{Statement}
-use Rattle.sc_scenario.specs.declared.statements.Statement.TheVariants.{NodeCount, NewGroup, WithPolicy, NewClient, Ask, SectionEnd, Play, Tell}
+use Rattle.sc_scenario.specs.declared.statements.Statement.TheVariants.{NodeCount, NewGroup, WithPolicy, NewClient, Ask, SectionEnd, Play, GiveOrder}
 use Rattle.sc_scenario.specs.declared.drafts.Draft.{Draft}
 use Rattle.sc_scenario.specs.declared.drafts.GroupLine.{GroupLine}
 use Rattle.sc_scenario.specs.declared.drafts.Reading.{Reading}
 use Rattle.sc_scenario.specs.declared.drafts.Reading.TheVariants.{Fresh, Outside, Within}
-use Rattle.sc_scenario.specs.declared.reading.ScenarioFault.{ScenarioFault}
-use Rattle.sc_scenario.specs.declared.reading.ScenarioFault.TheVariants.{Bad}
+use Rattle.sc_scenario.specs.declared.reading.ScenarioError.{ScenarioError}
+use Rattle.sc_scenario.specs.declared.reading.ScenarioError.TheVariants.{Bad}
 use Rattle.sc_scenario.specs.declared.scenarios.Asks.{Asks}
 use Rattle.sc_scenario.specs.declared.scenarios.Scenario.{Scenario}
 use Rattle.sc_scenario.specs.declared.scenarios.SchedLine.{SchedLine}
@@ -188,11 +188,11 @@ played_is draft line more good is e =
     let m = met (is_line_known draft.nodes draft.clients line) UnknownName (Ok (Outside (with_sched_line draft line))) more e in
     subst IsReading (same_Ok _ more m.1) (lined draft line draft.orders (good m.0) is)
 
-told_is : (draft : Draft) (node : ℕ) (word : List ℕ) (order : Order) (more : Reading) → count_in most_nodes word ≡ Some node → Ordered draft.nodes order → IsDraft draft → telling_taken draft (telling_of draft node order) ≡ Ok more → IsReading more
+told_is : (draft : Draft) (node : ℕ) (word : List ℕ) (order : Order) (more : Reading) → count_in most_nodes word ≡ Some node → Ordered draft.nodes order → IsDraft draft → order_line_taken draft (line_of_order draft node order) ≡ Ok more → IsReading more
 told_is draft node word order more number good is e =
-    let m = met (is_line_known draft.nodes draft.clients (telling_of draft node order)) UnknownName (Ok (Outside (with_order draft (telling_of draft node order)))) more e in
+    let m = met (is_line_known draft.nodes draft.clients (line_of_order draft node order)) UnknownName (Ok (Outside (with_order draft (line_of_order draft node order)))) more e in
     let parts = and_parts (leb node draft.nodes) (is_order_known draft.nodes order) m.0 in
-    subst IsReading (same_Ok _ more m.1) (lined draft (telling_of draft node order) (draft.orders + 1) (node_is draft.nodes word node number parts.0, good parts.1, omega arith) is)
+    subst IsReading (same_Ok _ more m.1) (lined draft (line_of_order draft node order) (draft.orders + 1) (node_is draft.nodes word node number parts.0, good parts.1, omega arith) is)
 
 outside_is : (draft : Draft) (k : Kind) (words : List (List ℕ)) (statement : Statement) (more : Reading) → IsDraft draft → may_follow (phase_so_far draft) (phase_of k) ≡ true
     → statement_in k words ≡ Ok statement → taken_outside draft statement ≡ Ok more → IsReading more
@@ -218,10 +218,10 @@ outside_is draft (Playing k) words statement more is place e t =
     let a = after_ok (line_in k words) (λ line. Ok (Play line)) statement e in
     let taken : line_taken draft a.0 ≡ Ok more = subst (λ s. taken_outside draft s ≡ Ok more) (sym (same_Ok (Play a.0) statement a.2)) t in
     played_is draft a.0 more (line_is draft.nodes draft.clients k words a.0 a.1) is taken
-outside_is draft (Telling k) words statement more is place e t =
-    let g = or_reason_ok (count_in most_nodes (nth words 1)) BadNumber (λ node. then_on (order_in k words) (λ order. Ok (Tell node order))) statement e in
-    let a = after_ok (order_in k words) (λ order. Ok (Tell g.0 order)) statement g.2 in
-    let taken : telling_taken draft (telling_of draft g.0 a.0) ≡ Ok more = subst (λ s. taken_outside draft s ≡ Ok more) (sym (same_Ok (Tell g.0 a.0) statement a.2)) t in
+outside_is draft (GivingOrder k) words statement more is place e t =
+    let g = or_reason_ok (count_in most_nodes (nth words 1)) BadNumber (λ node. then_on (order_in k words) (λ order. Ok (GiveOrder node order))) statement e in
+    let a = after_ok (order_in k words) (λ order. Ok (GiveOrder g.0 order)) statement g.2 in
+    let taken : order_line_taken draft (line_of_order draft g.0 a.0) ≡ Ok more = subst (λ s. taken_outside draft s ≡ Ok more) (sym (same_Ok (GiveOrder g.0 a.0) statement a.2)) t in
     told_is draft g.0 (nth words 1) a.0 more g.1 (order_is draft.nodes k words a.0 a.1) is taken
 
 -- ---- inside a section
@@ -261,7 +261,7 @@ within_is draft asks (Asking k) words statement more is inner e t =
     let a = after_ok (request_in k words) (λ op. Ok (Ask op)) statement e in
     request_is draft asks a.0 more (request_short k words a.0 a.1) is (subst (λ s. taken_within draft asks s ≡ Ok more) (sym (same_Ok (Ask a.0) statement a.2)) t)
 within_is draft asks (Playing k) words statement more is inner e t = absurd (true≢false (sym inner))
-within_is draft asks (Telling k) words statement more is inner e t = absurd (true≢false (sym inner))
+within_is draft asks (GivingOrder k) words statement more is inner e t = absurd (true≢false (sym inner))
 
 -- ---- line by line
 
@@ -315,7 +315,7 @@ line_read_is reading line more is e =
 -- ---- the whole
 
 -- what a line gave, where the reading went on to a scenario
-pub going_ok : (number : ℕ) (onward : Reading → Result Scenario ScenarioFault) (r : Result Reading Reason) (scenario : Scenario) → going_on number onward r ≡ Ok scenario → (more : Reading) × (r ≡ Ok more) × (onward more ≡ Ok scenario)
+pub going_ok : (number : ℕ) (onward : Reading → Result Scenario ScenarioError) (r : Result Reading Reason) (scenario : Scenario) → going_on number onward r ≡ Ok scenario → (more : Reading) × (r ≡ Ok more) × (onward more ≡ Ok scenario)
 going_ok number onward (Ok more) scenario e = (more, refl, e)
 going_ok number onward (Err reason) scenario e = absurd (err_ok (Bad number reason) scenario e)
 
@@ -356,7 +356,7 @@ lines_are is_long (line ∷ lines) number reading scenario is e =
     let g = going_ok number (λ more. lines_read is_long (number + 1) more lines) (line_read reading (trimmed line)) scenario p.1 in
     lines_are is_long lines (number + 1) g.0 scenario (line_read_is reading (trimmed line) g.0 is g.1) g.2
 
-some_ok : (r : Result Scenario ScenarioFault) (scenario : Scenario) → result_ok r ≡ Some scenario → r ≡ Ok scenario
+some_ok : (r : Result Scenario ScenarioError) (scenario : Scenario) → result_ok r ≡ Some scenario → r ≡ Ok scenario
 some_ok (Ok x) scenario e = ap (λ s. Ok s) (same_Some x scenario e)
 some_ok (Err f) scenario e = absurd (none-some scenario e)
 

@@ -7,7 +7,7 @@ use Rattle.sc_lines.specs.Definitions.{most_bytes, most_lines, is_too_long, line
 use Rattle.sc_scenario.specs.Definitions.{HasVerdict, bad, going_on, line_read, lines_read, verdict_of, FirstBytesDecide}
 use Rattle.sc_lines.specs.declared.reasons.Reason.{Reason}
 use Rattle.sc_lines.specs.declared.reasons.Reason.TheVariants.{TooLarge}
-use Rattle.sc_scenario.specs.declared.reading.ScenarioFault.{ScenarioFault}
+use Rattle.sc_scenario.specs.declared.reading.ScenarioError.{ScenarioError}
 use Rattle.sc_scenario.specs.declared.scenarios.Scenario.{Scenario}
 use Rattle.sc_scenario.specs.declared.drafts.Reading.{Reading}
 use Rattle.sc_scenario.specs.declared.drafts.Reading.TheVariants.{Fresh}
@@ -58,5 +58,5 @@ many false number reading text some lt =
     let l = lines_some text some in ap (lines_read false number reading) l.2 ∙ many_cons false number reading l.0 l.1 lt
 
 -- a fault that is the verdict
-pub refused : (verdict result : Result Scenario ScenarioFault) (number : ℕ) (reason : Reason) → verdict ≡ bad number reason → result ≡ bad number reason → HasVerdict verdict result
+pub refused : (verdict result : Result Scenario ScenarioError) (number : ℕ) (reason : Reason) → verdict ≡ bad number reason → result ≡ bad number reason → HasVerdict verdict result
 refused verdict result number reason v e = subst (HasVerdict verdict) (sym e) (inr v)

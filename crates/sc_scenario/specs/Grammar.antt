@@ -14,8 +14,8 @@ use Rattle.sc_scenario.specs.declared.drafts.Draft.{Draft}
 use Rattle.sc_scenario.specs.declared.drafts.Reading.{Reading}
 use Rattle.sc_scenario.specs.declared.drafts.Reading.TheVariants.{Fresh, Outside, Within}
 use Rattle.sc_scenario.specs.declared.scenarios.Scenario.{Scenario}
-use Rattle.sc_scenario.specs.declared.reading.ScenarioFault.{ScenarioFault}
-use Rattle.sc_scenario.specs.declared.reading.ScenarioFault.TheVariants.{Bad, OutOfMemory}
+use Rattle.sc_scenario.specs.declared.reading.ScenarioError.{ScenarioError}
+use Rattle.sc_scenario.specs.declared.reading.ScenarioError.TheVariants.{Bad, OutOfMemory}
 
 -- ---- one line
 
@@ -65,7 +65,7 @@ line_read reading line =
 -- ---- all lines
 
 -- the error of a bad line with this number
-abbrev pub bad : ℕ → Reason → Result Scenario ScenarioFault
+abbrev pub bad : ℕ → Reason → Result Scenario ScenarioError
 bad number reason = Err (Bad number reason)
 
 -- the scenario of what was read
@@ -81,36 +81,36 @@ scenario_by draft = record {
 }
 
 -- the result after the last line, where `number` is that of the line that would follow: there must be a header, nodes, a group, and no open section
-abbrev pub reading_ended : ℕ → Reading → Result Scenario ScenarioFault
+abbrev pub reading_ended : ℕ → Reading → Result Scenario ScenarioError
 reading_ended number Fresh = bad number MissingHeader
 reading_ended number (Within draft asks) = bad number UnendedClient
 reading_ended number (Outside draft) =
     if (draft.nodes == 0) || (length draft.groups == 0) then bad number MissingPart else Ok (scenario_by draft)
 
 -- the result at the end of a text; of one with too many bytes, the next line is bad
-abbrev pub text_ended : Bool → ℕ → Reading → Result Scenario ScenarioFault
+abbrev pub text_ended : Bool → ℕ → Reading → Result Scenario ScenarioError
 text_ended true number reading = bad number TooLarge
 text_ended false number reading = reading_ended number reading
 
 -- the parser goes on with the state after a good line; a bad line ends it
-abbrev pub going_on : ℕ → (Reading → Result Scenario ScenarioFault) → Result Reading Reason → Result Scenario ScenarioFault
+abbrev pub going_on : ℕ → (Reading → Result Scenario ScenarioError) → Result Reading Reason → Result Scenario ScenarioError
 going_on number onward (Ok more) = onward more
 going_on number onward (Err reason) = bad number reason
 
 -- the result of these lines, of which the first has this number: the first bad line counts
-abbrev pub lines_read : Bool → ℕ → Reading → List (List ℕ) → Result Scenario ScenarioFault
+abbrev pub lines_read : Bool → ℕ → Reading → List (List ℕ) → Result Scenario ScenarioError
 lines_read is_long number reading [] = text_ended is_long number reading
 lines_read is_long number reading (line ∷ lines) =
     if nat_lt most_lines number then bad number TooLarge
     else going_on number (λ more. lines_read is_long (number + 1) more lines) (line_read reading (trimmed line))
 
 -- the parser's result for a text: its scenario, or the first bad line and the reason
-abbrev pub verdict_of : List ℕ → Result Scenario ScenarioFault
+abbrev pub verdict_of : List ℕ → Result Scenario ScenarioError
 verdict_of text = lines_read (is_too_long text) 1 Fresh (lines_of text)
 
 -- a call returns the parser's result for a text, or that it is out of memory
-abbrev pub HasVerdict : Result Scenario ScenarioFault → Result Scenario ScenarioFault → Type 0
-HasVerdict verdict result = MatchResult result (λ scenario. verdict ≡ Ok scenario) (λ fault. (fault ≡ OutOfMemory) ⊎ (verdict ≡ Err fault))
+abbrev pub HasVerdict : Result Scenario ScenarioError → Result Scenario ScenarioError → Type 0
+HasVerdict verdict result = MatchResult result (λ scenario. verdict ≡ Ok scenario) (λ error. (error ≡ OutOfMemory) ⊎ (verdict ≡ Err error))
 
 -- the scenario of a text, if the text is one
 abbrev pub scenario_of : List ℕ → Option Scenario

@@ -1,7 +1,7 @@
 -- The lines of groups, and the records of the groups: group 0.k is that of the k-th line, and the groups are round the circle in this order.
 use Rattle.std.specs.Prelude.{ℕ, zero, suc, ◌^◌, ◌+◌, ◌-◌, ◌==◌, ◌||◌, nat_le, Bool, false, List, [], ◌∷◌, ◌++◌, get_or, length, is_none, Option, Some, None, if◌then◌else◌, option_and_then}
 use Rattle.std.specs.List.{list_any}
-use Rattle.sc_base.specs.Definitions.{most_nodes, Arc, with_member, least_of, add_fault}
+use Rattle.sc_base.specs.Definitions.{most_nodes, Arc, with_member, least_of, add_error}
 use Rattle.sc_base.specs.declared.names.Draw.{Draw}
 use Rattle.sc_cmd.specs.declared.cores.Base.{Base}
 use Rattle.sc_cmd.specs.declared.cores.Core.{Core}
@@ -24,7 +24,7 @@ has_repeat (node ∷ nodes) = list_any (λ other. other == node) nodes || has_re
 
 -- a set with a node added, if the set has room for it and does not have it already
 abbrev pub joined_by : List ℕ → ℕ → List ℕ
-joined_by members node = if is_none (add_fault members node) then with_member members node else members
+joined_by members node = if is_none (add_error members node) then with_member members node else members
 
 -- a set with these nodes added in turn
 abbrev pub joined_by_all : List ℕ → List ℕ → List ℕ

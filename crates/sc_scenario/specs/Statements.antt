@@ -8,9 +8,9 @@ use Rattle.sc_scenario.specs.Groups.{nodes_with}
 use Rattle.sc_lines.specs.declared.reasons.Reason.{Reason}
 use Rattle.sc_lines.specs.declared.reasons.Reason.TheVariants.{OutOfPlace, BadNumber}
 use Rattle.sc_lines.specs.declared.kinds.Kind.{Kind}
-use Rattle.sc_lines.specs.declared.kinds.Kind.TheVariants.{Header, Nodes, Group, Policy, Client, End, Asking, Playing, Telling}
+use Rattle.sc_lines.specs.declared.kinds.Kind.TheVariants.{Header, Nodes, Group, Policy, Client, End, Asking, Playing, GivingOrder}
 use Rattle.sc_scenario.specs.declared.statements.Statement.{Statement}
-use Rattle.sc_scenario.specs.declared.statements.Statement.TheVariants.{NodeCount, NewGroup, WithPolicy, NewClient, Ask, SectionEnd, Play, Tell}
+use Rattle.sc_scenario.specs.declared.statements.Statement.TheVariants.{NodeCount, NewGroup, WithPolicy, NewClient, Ask, SectionEnd, Play, GiveOrder}
 
 -- what a line `group LO N1 .. Nk` says
 abbrev pub group_in : List (List ℕ) → Result Statement Reason
@@ -29,4 +29,4 @@ statement_in Client words = or_reason (count_in most_clients (nth words 1)) BadN
 statement_in End words = Ok SectionEnd
 statement_in (Asking kind) words = then_on (request_in kind words) (λ op. Ok (Ask op))
 statement_in (Playing kind) words = then_on (line_in kind words) (λ line. Ok (Play line))
-statement_in (Telling kind) words = or_reason (count_in most_nodes (nth words 1)) BadNumber (λ node. then_on (order_in kind words) (λ order. Ok (Tell node order)))
+statement_in (GivingOrder kind) words = or_reason (count_in most_nodes (nth words 1)) BadNumber (λ node. then_on (order_in kind words) (λ order. Ok (GiveOrder node order)))

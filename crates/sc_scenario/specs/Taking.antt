@@ -10,7 +10,7 @@ use Rattle.sc_scenario.specs.Schedules.{is_client}
 use Rattle.sc_lines.specs.declared.reasons.Reason.{Reason}
 use Rattle.sc_lines.specs.declared.reasons.Reason.TheVariants.{OutOfPlace, UnknownName, Repeated, BadBoundary, TooMany}
 use Rattle.sc_scenario.specs.declared.statements.Statement.{Statement}
-use Rattle.sc_scenario.specs.declared.statements.Statement.TheVariants.{NodeCount, NewGroup, WithPolicy, NewClient, Ask, SectionEnd, Play, Tell}
+use Rattle.sc_scenario.specs.declared.statements.Statement.TheVariants.{NodeCount, NewGroup, WithPolicy, NewClient, Ask, SectionEnd, Play, GiveOrder}
 use Rattle.sc_scenario.specs.declared.drafts.Draft.{Draft}
 use Rattle.sc_scenario.specs.declared.drafts.GroupLine.{GroupLine}
 use Rattle.sc_scenario.specs.declared.drafts.Reading.{Reading}
@@ -108,8 +108,8 @@ abbrev pub with_sched_line : Draft → SchedLine → Draft
 with_sched_line draft line = record draft { lines = draft.lines ++ line ∷ [] }
 
 -- the line of an order, whose number is the next one, from 1 in the order of lines
-abbrev pub telling_of : Draft → ℕ → Order → SchedLine
-telling_of draft node order = Told node (record { number = draft.orders + 1; order = order })
+abbrev pub line_of_order : Draft → ℕ → Order → SchedLine
+line_of_order draft node order = Told node (record { number = draft.orders + 1; order = order })
 
 -- what was read, with one more order
 abbrev pub with_order : Draft → SchedLine → Draft
@@ -120,8 +120,8 @@ abbrev pub line_taken : Draft → SchedLine → Result Reading Reason
 line_taken draft line = if is_line_known draft.nodes draft.clients line then Ok (Outside (with_sched_line draft line)) else Err UnknownName
 
 -- the state of the parser after an order: nodes in it must exist
-abbrev pub telling_taken : Draft → SchedLine → Result Reading Reason
-telling_taken draft line = if is_line_known draft.nodes draft.clients line then Ok (Outside (with_order draft line)) else Err UnknownName
+abbrev pub order_line_taken : Draft → SchedLine → Result Reading Reason
+order_line_taken draft line = if is_line_known draft.nodes draft.clients line then Ok (Outside (with_order draft line)) else Err UnknownName
 
 -- ---- all lines
 
@@ -134,7 +134,7 @@ taken_outside draft (NewClient client) = client_taken draft client
 taken_outside draft (Ask op) = Err OutOfPlace
 taken_outside draft SectionEnd = Err OutOfPlace
 taken_outside draft (Play line) = line_taken draft line
-taken_outside draft (Tell node order) = telling_taken draft (telling_of draft node order)
+taken_outside draft (GiveOrder node order) = order_line_taken draft (line_of_order draft node order)
 
 -- the state of the parser after a statement inside a section
 abbrev pub taken_within : Draft → Asks → Statement → Result Reading Reason
@@ -145,4 +145,4 @@ taken_within draft asks (NewClient client) = Err OutOfPlace
 taken_within draft asks (Ask op) = request_taken draft asks op
 taken_within draft asks SectionEnd = Ok (Outside (with_client draft asks))
 taken_within draft asks (Play line) = Err OutOfPlace
-taken_within draft asks (Tell node order) = Err OutOfPlace
+taken_within draft asks (GiveOrder node order) = Err OutOfPlace

@@ -14,7 +14,7 @@ mod taking;
 pub use drafts::GroupLine;
 pub use groups::bases_of;
 pub use reading::{
-    INPUT_LIMIT, LINE_LIMIT, ScenarioFault, first_bytes_decide, read_scenario,
+    INPUT_LIMIT, LINE_LIMIT, ScenarioError, first_bytes_decide, read_scenario,
     valid_scenarios_are_bounded,
 };
 pub use sc_lines::Reason;

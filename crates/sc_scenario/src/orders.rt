@@ -6,7 +6,7 @@ ghost use Rattle.sc_lines.specs.declared.kinds.OrderKind.TheVariants.{Join, Leav
 
 use sc_base::{Draw, MOST_NODES, OutOfMemory, read_number};
 use sc_cmd::Order;
-use sc_lines::{LineFault, OrderKind, Reason, count_in, dotted_parts, nth};
+use sc_lines::{LineError, OrderKind, Reason, count_in, dotted_parts, nth};
 use std::alloc::Global;
 
 const MOST_NAMES: u32 = 4_294_967_295;
@@ -33,7 +33,7 @@ fn name_in(alloc: Global, word: &[u8]) -> Result<Option<Draw>, OutOfMemory>
     Ok(name_of(&parts))
 }
 
-fn join_in(alloc: Global, words: &[&[u8]]) -> Result<Order, LineFault>
+fn join_in(alloc: Global, words: &[&[u8]]) -> Result<Order, LineError>
     ensures { IsSaid (order_in Join (map (λ word. word.now) words.now)) result }
 {
     let node = count_in(nth(words, 3), MOST_NODES).ok_or(Reason::BadNumber)?;
@@ -44,7 +44,7 @@ fn join_in(alloc: Global, words: &[&[u8]]) -> Result<Order, LineFault>
     })
 }
 
-fn leave_in(alloc: Global, words: &[&[u8]]) -> Result<Order, LineFault>
+fn leave_in(alloc: Global, words: &[&[u8]]) -> Result<Order, LineError>
     ensures { IsSaid (order_in Leave (map (λ word. word.now) words.now)) result }
 {
     let node = count_in(nth(words, 3), MOST_NODES).ok_or(Reason::BadNumber)?;
@@ -55,7 +55,7 @@ fn leave_in(alloc: Global, words: &[&[u8]]) -> Result<Order, LineFault>
     })
 }
 
-fn split_in(alloc: Global, words: &[&[u8]]) -> Result<Order, LineFault>
+fn split_in(alloc: Global, words: &[&[u8]]) -> Result<Order, LineError>
     ensures { IsSaid (order_in Split (map (λ word. word.now) words.now)) result }
 {
     let group = name_in(alloc, nth(words, 3))?.ok_or(Reason::BadNumber)?;
@@ -66,14 +66,14 @@ fn split_in(alloc: Global, words: &[&[u8]]) -> Result<Order, LineFault>
     })
 }
 
-fn merge_in(alloc: Global, words: &[&[u8]]) -> Result<Order, LineFault>
+fn merge_in(alloc: Global, words: &[&[u8]]) -> Result<Order, LineError>
     ensures { IsSaid (order_in Merge (map (λ word. word.now) words.now)) result }
 {
     let group = name_in(alloc, nth(words, 3))?.ok_or(Reason::BadNumber)?;
     Ok(Order::Merge { group })
 }
 
-fn repart_in(alloc: Global, words: &[&[u8]]) -> Result<Order, LineFault>
+fn repart_in(alloc: Global, words: &[&[u8]]) -> Result<Order, LineError>
     ensures { IsSaid (order_in Repart (map (λ word. word.now) words.now)) result }
 {
     let group = name_in(alloc, nth(words, 3))?.ok_or(Reason::BadNumber)?;
@@ -84,7 +84,7 @@ fn repart_in(alloc: Global, words: &[&[u8]]) -> Result<Order, LineFault>
     })
 }
 
-fn migrate_in(alloc: Global, words: &[&[u8]]) -> Result<Order, LineFault>
+fn migrate_in(alloc: Global, words: &[&[u8]]) -> Result<Order, LineError>
     ensures { IsSaid (order_in Migrate (map (λ word. word.now) words.now)) result }
 {
     let group = name_in(alloc, nth(words, 3))?.ok_or(Reason::BadNumber)?;
@@ -97,7 +97,7 @@ fn migrate_in(alloc: Global, words: &[&[u8]]) -> Result<Order, LineFault>
 
 /// Returns the order of this kind that a line spells. The error is `BadNumber`, where a word
 /// spells no node, group or position.
-pub(crate) fn order_in(alloc: Global, kind: OrderKind, words: &[&[u8]]) -> Result<Order, LineFault>
+pub(crate) fn order_in(alloc: Global, kind: OrderKind, words: &[&[u8]]) -> Result<Order, LineError>
     ensures { IsSaid (order_in kind (map (λ word. word.now) words.now)) result }
 {
     match kind {
@@ -107,6 +107,6 @@ pub(crate) fn order_in(alloc: Global, kind: OrderKind, words: &[&[u8]]) -> Resul
         OrderKind::Merge => merge_in(alloc, words),
         OrderKind::Repart => repart_in(alloc, words),
         OrderKind::Migrate => migrate_in(alloc, words),
-        OrderKind::Short => Err(LineFault::Bad(Reason::WrongCount)),
+        OrderKind::Short => Err(LineError::Bad(Reason::WrongCount)),
     }
 }

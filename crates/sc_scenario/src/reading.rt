@@ -5,7 +5,7 @@ ghost use Rattle.sc_lines.specs.Reasons.{IsSaid};
 ghost use Rattle.sc_lines.specs.Lines.{is_too_long, lines_in};
 ghost use Rattle.sc_scenario.specs.Valid.{ValidScenariosAreBounded, FirstBytesDecide};
 ghost use Rattle.sc_scenario.specs.declared.drafts.Reading.TheVariants.{Fresh, Outside, Within};
-ghost use Rattle.sc_scenario.specs.declared.reading.ScenarioFault.TheVariants.{OutOfMemory};
+ghost use Rattle.sc_scenario.specs.declared.reading.ScenarioError.TheVariants.{OutOfMemory};
 
 use crate::drafts::{Draft, Reading};
 use crate::groups::bases_of;
@@ -15,7 +15,7 @@ use crate::statements::{Statement, statement_in};
 use crate::taking::{taken_outside, taken_within};
 use sc_base::{self, Sequence};
 use sc_lines::{
-    Kind, LineFault, Reason, has_bad_byte, has_count, is_inner, is_skipped, is_text, kind_of,
+    Kind, LineError, Reason, has_bad_byte, has_count, is_inner, is_skipped, is_text, kind_of,
     next_line, nth, trimmed, words_of,
 };
 use std::alloc::Global;
@@ -28,18 +28,18 @@ pub const LINE_LIMIT: u32 = 20_000;
 
 /// The error of a text that is no scenario.
 #[derive(Clone, Copy, Debug, PartialEq, Eq)]
-pub enum ScenarioFault {
+pub enum ScenarioError {
     /// The first bad line, counted from 1, and the reason why it is bad.
     Bad { line: u32, why: Reason },
     /// There was no memory left.
     OutOfMemory,
 }
 
-impl From<sc_base::OutOfMemory> for ScenarioFault {
+impl From<sc_base::OutOfMemory> for ScenarioError {
     ghost from_gives = { λ _ e. e ≡ OutOfMemory };
 
-    fn from(_e: sc_base::OutOfMemory) -> ScenarioFault {
-        ScenarioFault::OutOfMemory
+    fn from(_e: sc_base::OutOfMemory) -> ScenarioError {
+        ScenarioError::OutOfMemory
     }
 }
 
@@ -76,19 +76,19 @@ fn header_read(alloc: Global, words: &[&[u8]]) -> Result<Reading, Reason>
 }
 
 // Returns what a line of a kind says. `in_place` is whether it may stand here.
-fn said(alloc: Global, in_place: bool, kind: Kind, words: &[&[u8]]) -> Result<Statement, LineFault>
+fn said(alloc: Global, in_place: bool, kind: Kind, words: &[&[u8]]) -> Result<Statement, LineError>
     ensures { IsSaid (said in_place kind (map (λ word. word.now) words.now)) result }
 {
     if !in_place {
-        return Err(LineFault::Bad(Reason::OutOfPlace));
+        return Err(LineError::Bad(Reason::OutOfPlace));
     }
     if !has_count(kind, words.len()) {
-        return Err(LineFault::Bad(Reason::WrongCount));
+        return Err(LineError::Bad(Reason::WrongCount));
     }
     statement_in(alloc, kind, words)
 }
 
-fn read_outside(alloc: Global, draft: Draft, words: &[&[u8]]) -> Result<Reading, LineFault>
+fn read_outside(alloc: Global, draft: Draft, words: &[&[u8]]) -> Result<Reading, LineError>
     ensures { IsSaid (words_read (Outside draft) (map (λ word. word.now) words.now)) result }
 {
     let kind = kind_of(draft.version, words).ok_or(Reason::UnknownWord)?;
@@ -101,7 +101,7 @@ fn read_within(
     draft: Draft,
     asks: Asks,
     words: &[&[u8]],
-) -> Result<Reading, LineFault>
+) -> Result<Reading, LineError>
     ensures { IsSaid (words_read (Within draft asks) (map (λ word. word.now) words.now)) result }
 {
     let kind = kind_of(draft.version, words).ok_or(Reason::UnknownWord)?;
@@ -109,7 +109,7 @@ fn read_within(
     taken_within(draft, asks, statement)
 }
 
-fn words_read(alloc: Global, reading: Reading, words: &[&[u8]]) -> Result<Reading, LineFault>
+fn words_read(alloc: Global, reading: Reading, words: &[&[u8]]) -> Result<Reading, LineError>
     ensures { IsSaid (words_read reading (map (λ word. word.now) words.now)) result }
 {
     match reading {
@@ -129,7 +129,7 @@ fn is_fresh(reading: &Reading) -> bool
 }
 
 // Returns the state of the parser after one more line.
-fn line_read(alloc: Global, reading: Reading, line: &[u8]) -> Result<Reading, LineFault>
+fn line_read(alloc: Global, reading: Reading, line: &[u8]) -> Result<Reading, LineError>
     ensures { IsSaid (line_read reading line.now) result }
 {
     let words = words_of(alloc, line)?;
@@ -138,16 +138,16 @@ fn line_read(alloc: Global, reading: Reading, line: &[u8]) -> Result<Reading, Li
             return Ok(reading);
         }
         if has_bad_byte(line) {
-            return Err(LineFault::Bad(Reason::BadByte));
+            return Err(LineError::Bad(Reason::BadByte));
         }
     }
     words_read(alloc, reading, &words)
 }
 
-fn bad(number: u32, reason: Reason) -> Result<Scenario, ScenarioFault>
+fn bad(number: u32, reason: Reason) -> Result<Scenario, ScenarioError>
     ensures { result ≡ bad number reason }
 {
-    Err(ScenarioFault::Bad {
+    Err(ScenarioError::Bad {
         line: number,
         why: reason,
     })
@@ -169,7 +169,7 @@ fn scenario_by(alloc: Global, draft: Draft) -> Result<Scenario, sc_base::OutOfMe
 }
 
 // Ends the parsing after the last line. `number` is that of the line that would follow.
-fn reading_ended(alloc: Global, number: u32, reading: Reading) -> Result<Scenario, ScenarioFault>
+fn reading_ended(alloc: Global, number: u32, reading: Reading) -> Result<Scenario, ScenarioError>
     ensures { HasVerdict (reading_ended number reading) result }
 {
     let draft = match reading {
@@ -184,7 +184,7 @@ fn reading_ended(alloc: Global, number: u32, reading: Reading) -> Result<Scenari
 }
 
 // Parses line by line, up to the first bad one.
-fn lines_read(alloc: Global, is_long: bool, text: &[u8]) -> Result<Scenario, ScenarioFault>
+fn lines_read(alloc: Global, is_long: bool, text: &[u8]) -> Result<Scenario, ScenarioError>
     ensures { HasVerdict (lines_read is_long 1 Fresh (lines_in is_long text.now)) result }
 {
     let mut rest = text;
@@ -199,8 +199,8 @@ fn lines_read(alloc: Global, is_long: bool, text: &[u8]) -> Result<Scenario, Sce
         };
         match line_read(alloc, reading, trimmed(line)) {
             Ok(more) => reading = more,
-            Err(LineFault::Bad(reason)) => return bad(number, reason),
-            Err(LineFault::OutOfMemory) => return Err(ScenarioFault::OutOfMemory),
+            Err(LineError::Bad(reason)) => return bad(number, reason),
+            Err(LineError::OutOfMemory) => return Err(ScenarioError::OutOfMemory),
         }
         rest = behind;
         number += 1;
@@ -221,7 +221,7 @@ fn is_too_long(text: &[u8]) -> bool
 /// scenario, with its first bad line and the lowest reason why that line is bad. The grammar is
 /// described in docs/SCENARIOS.md.
 #[tactic(auto, using(crate::proofs::Verdicts::verdict_all, crate::proofs::Verdicts::verdict_cut))]
-pub fn read_scenario(alloc: Global, text: &[u8]) -> Result<Scenario, ScenarioFault>
+pub fn read_scenario(alloc: Global, text: &[u8]) -> Result<Scenario, ScenarioError>
     ensures { HasVerdict (verdict_of text.now) result }
 {
     if is_too_long(text) {

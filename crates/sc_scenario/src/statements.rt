@@ -2,7 +2,7 @@
 ghost use Rattle.std.specs.Prelude.{◌≡◌, map};
 ghost use Rattle.sc_lines.specs.Reasons.{IsSaid};
 ghost use Rattle.sc_scenario.specs.Statements.{statement_in};
-ghost use Rattle.sc_lines.specs.declared.kinds.Kind.TheVariants.{Nodes, Group, Client, Telling};
+ghost use Rattle.sc_lines.specs.declared.kinds.Kind.TheVariants.{Nodes, Group, Client, GivingOrder};
 
 use crate::groups::nodes_with;
 use crate::orders::{LAST_POSITION, order_in};
@@ -10,7 +10,7 @@ use crate::scenarios::SchedLine;
 use crate::schedules::line_in;
 use sc_base::{MOST_CLIENTS, MOST_NODES, Op, Sequence, read_number};
 use sc_cmd::Order;
-use sc_lines::{Kind, LineFault, OrderKind, Reason, count_in, nth, request_in, rest};
+use sc_lines::{Kind, LineError, OrderKind, Reason, count_in, nth, request_in, rest};
 use std::alloc::Global;
 
 /// What a line says.
@@ -31,7 +31,7 @@ pub(crate) enum Statement {
     /// A line of the schedule that is no order.
     Play(SchedLine),
     /// An order to a node.
-    Tell(u16, Order),
+    GiveOrder(u16, Order),
 }
 
 fn nodes_said(words: &[&[u8]]) -> Result<Statement, Reason>
@@ -48,7 +48,7 @@ fn client_said(words: &[&[u8]]) -> Result<Statement, Reason>
     Ok(Statement::NewClient(client as u16))
 }
 
-fn group_said(alloc: Global, words: &[&[u8]]) -> Result<Statement, LineFault>
+fn group_said(alloc: Global, words: &[&[u8]]) -> Result<Statement, LineError>
     ensures { IsSaid (statement_in Group (map (λ word. word.now) words.now)) result }
 {
     let lo = read_number(nth(words, 1), LAST_POSITION).ok_or(Reason::BadNumber)?;
@@ -57,12 +57,12 @@ fn group_said(alloc: Global, words: &[&[u8]]) -> Result<Statement, LineFault>
     Ok(Statement::NewGroup(lo as u32, first as u16, others))
 }
 
-fn order_said(alloc: Global, kind: OrderKind, words: &[&[u8]]) -> Result<Statement, LineFault>
-    ensures { IsSaid (statement_in (Telling kind) (map (λ word. word.now) words.now)) result }
+fn order_said(alloc: Global, kind: OrderKind, words: &[&[u8]]) -> Result<Statement, LineError>
+    ensures { IsSaid (statement_in (GivingOrder kind) (map (λ word. word.now) words.now)) result }
 {
     let node = count_in(nth(words, 1), MOST_NODES).ok_or(Reason::BadNumber)?;
     let order = order_in(alloc, kind, words)?;
-    Ok(Statement::Tell(node as u16, order))
+    Ok(Statement::GiveOrder(node as u16, order))
 }
 
 /// Returns what a line of this kind with these words says, or the first reason why it is bad.
@@ -70,11 +70,11 @@ pub(crate) fn statement_in(
     alloc: Global,
     kind: Kind,
     words: &[&[u8]],
-) -> Result<Statement, LineFault>
+) -> Result<Statement, LineError>
     ensures { IsSaid (statement_in kind (map (λ word. word.now) words.now)) result }
 {
     match kind {
-        Kind::Header => Err(LineFault::Bad(Reason::OutOfPlace)),
+        Kind::Header => Err(LineError::Bad(Reason::OutOfPlace)),
         Kind::Nodes => Ok(nodes_said(words)?),
         Kind::Group => group_said(alloc, words),
         Kind::Policy => Ok(Statement::WithPolicy),
@@ -82,6 +82,6 @@ pub(crate) fn statement_in(
         Kind::End => Ok(Statement::SectionEnd),
         Kind::Asking(kind) => Ok(Statement::Ask(request_in(alloc, kind, words)?)),
         Kind::Playing(kind) => Ok(Statement::Play(line_in(kind, words)?)),
-        Kind::Telling(kind) => order_said(alloc, kind, words),
+        Kind::GivingOrder(kind) => order_said(alloc, kind, words),
     }
 }

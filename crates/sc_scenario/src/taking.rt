@@ -4,7 +4,7 @@ ghost use Rattle.std.specs.List.{list_any};
 ghost use Rattle.sc_lines.specs.Reasons.{IsSaid};
 ghost use Rattle.sc_base.specs.Limits.{client_actor};
 ghost use Rattle.sc_scenario.specs.Schedules.{is_client};
-ghost use Rattle.sc_scenario.specs.Taking.{is_actor, is_order_known, is_line_known, is_above, with_group_line, has_stranger, group_taken, client_place, with_client, with_op, client_taken, request_taken, with_sched_line, telling_of, with_order, line_taken, telling_taken, taken_outside, taken_within};
+ghost use Rattle.sc_scenario.specs.Taking.{is_actor, is_order_known, is_line_known, is_above, with_group_line, has_stranger, group_taken, client_place, with_client, with_op, client_taken, request_taken, with_sched_line, line_of_order, with_order, line_taken, order_line_taken, taken_outside, taken_within};
 
 use crate::drafts::{Draft, GroupLine, Reading};
 use crate::groups::{have_repeat, set_of};
@@ -12,7 +12,7 @@ use crate::scenarios::{Asks, SchedLine};
 use crate::statements::Statement;
 use sc_base::{MOST_NODES, MOST_REQUESTS, Members, Op, OutOfMemory, Sequence};
 use sc_cmd::{Order, OrderLine};
-use sc_lines::{LineFault, Reason};
+use sc_lines::{LineError, Reason};
 use std::alloc::Global;
 
 const MOST_GROUPS: usize = 16;
@@ -85,20 +85,20 @@ fn has_stranger(most: u16, nodes: &[u16]) -> bool
     nodes.iter().any(|node| most < *node)
 }
 
-fn group_taken(draft: Draft, lo: u32, first: u16, others: &[u16]) -> Result<Reading, LineFault>
+fn group_taken(draft: Draft, lo: u32, first: u16, others: &[u16]) -> Result<Reading, LineError>
     ensures { IsSaid (group_taken draft lo first others.now) result }
 {
     if draft.nodes < first || has_stranger(draft.nodes, others) {
-        return Err(LineFault::Bad(Reason::UnknownName));
+        return Err(LineError::Bad(Reason::UnknownName));
     }
     if have_repeat(first, others) {
-        return Err(LineFault::Bad(Reason::Repeated));
+        return Err(LineError::Bad(Reason::Repeated));
     }
     if !is_above(draft.groups.as_slice(), lo) {
-        return Err(LineFault::Bad(Reason::BadBoundary));
+        return Err(LineError::Bad(Reason::BadBoundary));
     }
     if MOST_GROUPS <= draft.groups.len() || MOST_MEMBERS <= others.len() {
-        return Err(LineFault::Bad(Reason::TooMany));
+        return Err(LineError::Bad(Reason::TooMany));
     }
     let more = with_group_line(draft, lo, set_of(first, others))?;
     Ok(Reading::Outside(more))
@@ -157,11 +157,11 @@ fn client_taken(alloc: Global, draft: Draft, client: u16) -> Result<Reading, Rea
     Ok(Reading::Within(draft, asks))
 }
 
-fn request_taken(draft: Draft, asks: Asks, op: Op) -> Result<Reading, LineFault>
+fn request_taken(draft: Draft, asks: Asks, op: Op) -> Result<Reading, LineError>
     ensures { IsSaid (request_taken draft asks op) result }
 {
     if MOST_REQUESTS <= asks.ops.len() {
-        return Err(LineFault::Bad(Reason::TooMany));
+        return Err(LineError::Bad(Reason::TooMany));
     }
     let Asks { client, mut ops } = asks;
     ops.push(op)?;
@@ -187,25 +187,25 @@ fn with_order(draft: Draft, line: SchedLine, number: u32) -> Result<Draft, OutOf
     Ok(more)
 }
 
-fn line_taken(draft: Draft, line: SchedLine) -> Result<Reading, LineFault>
+fn line_taken(draft: Draft, line: SchedLine) -> Result<Reading, LineError>
     ensures { IsSaid (line_taken draft line) result }
 {
     if !is_line_known(draft.nodes, draft.clients.as_slice(), &line) {
-        return Err(LineFault::Bad(Reason::UnknownName));
+        return Err(LineError::Bad(Reason::UnknownName));
     }
     let more = with_sched_line(draft, line)?;
     Ok(Reading::Outside(more))
 }
 
 // More orders than there are numbers do not fit into memory.
-fn telling_taken(draft: Draft, node: u16, order: Order) -> Result<Reading, LineFault>
-    ensures { IsSaid (telling_taken draft (telling_of draft node order)) result }
+fn order_line_taken(draft: Draft, node: u16, order: Order) -> Result<Reading, LineError>
+    ensures { IsSaid (order_line_taken draft (line_of_order draft node order)) result }
 {
     let number = draft.orders.checked_add(1).ok_or(OutOfMemory)?;
     let line = OrderLine { number, order };
     let told = SchedLine::Told { node, line };
     if !is_line_known(draft.nodes, draft.clients.as_slice(), &told) {
-        return Err(LineFault::Bad(Reason::UnknownName));
+        return Err(LineError::Bad(Reason::UnknownName));
     }
     let more = with_order(draft, told, number)?;
     Ok(Reading::Outside(more))
@@ -233,7 +233,7 @@ pub(crate) fn taken_outside(
     alloc: Global,
     draft: Draft,
     statement: Statement,
-) -> Result<Reading, LineFault>
+) -> Result<Reading, LineError>
     ensures { IsSaid (taken_outside draft statement) result }
 {
     match statement {
@@ -243,9 +243,9 @@ pub(crate) fn taken_outside(
         }
         Statement::WithPolicy => Ok(Reading::Outside(with_policy(draft))),
         Statement::NewClient(client) => Ok(client_taken(alloc, draft, client)?),
-        Statement::Ask(_) | Statement::SectionEnd => Err(LineFault::Bad(Reason::OutOfPlace)),
+        Statement::Ask(_) | Statement::SectionEnd => Err(LineError::Bad(Reason::OutOfPlace)),
         Statement::Play(line) => line_taken(draft, line),
-        Statement::Tell(node, order) => telling_taken(draft, node, order),
+        Statement::GiveOrder(node, order) => order_line_taken(draft, node, order),
     }
 }
 
@@ -255,16 +255,16 @@ pub(crate) fn taken_within(
     draft: Draft,
     asks: Asks,
     statement: Statement,
-) -> Result<Reading, LineFault>
+) -> Result<Reading, LineError>
     ensures { IsSaid (taken_within draft asks statement) result }
 {
     match statement {
         Statement::Ask(op) => request_taken(draft, asks, op),
         Statement::SectionEnd => Ok(Reading::Outside(with_client(draft, asks)?)),
-        Statement::NodeCount(_) | Statement::NewGroup(_, _, _) => Err(LineFault::Bad(
+        Statement::NodeCount(_) | Statement::NewGroup(_, _, _) => Err(LineError::Bad(
             Reason::OutOfPlace,
         )),
-        Statement::WithPolicy | Statement::NewClient(_) => Err(LineFault::Bad(Reason::OutOfPlace)),
-        Statement::Play(_) | Statement::Tell(_, _) => Err(LineFault::Bad(Reason::OutOfPlace)),
+        Statement::WithPolicy | Statement::NewClient(_) => Err(LineError::Bad(Reason::OutOfPlace)),
+        Statement::Play(_) | Statement::GiveOrder(_, _) => Err(LineError::Bad(Reason::OutOfPlace)),
     }
 }

@@ -2,8 +2,8 @@
 use Rattle.std.specs.Prelude.{⊤}
 use Rattle.sc_actor.specs.declared.rows.Event.{Event}
 use Rattle.sc_actor.specs.declared.rows.Event.TheVariants.{Deliver, Drop, Again, Tick, Go, Told, Crash}
-use Rattle.sc_ledger.specs.declared.faults.PostFault.{PostFault}
-use Rattle.sc_ledger.specs.declared.faults.PostFault.TheVariants.{JournalFull, OutOfMemory as NoMemory}
+use Rattle.sc_ledger.specs.declared.errors.PostError.{PostError}
+use Rattle.sc_ledger.specs.declared.errors.PostError.TheVariants.{JournalFull, OutOfMemory as NoMemory}
 use Rattle.sc_shell.specs.declared.turns.Turn.{Turn}
 use Rattle.sc_shell.specs.declared.turns.Turn.TheVariants.{Full, OutOfMemory}
 
@@ -18,6 +18,6 @@ MayHappen (Told order) = ⊤
 MayHappen Crash = ⊤
 
 -- The answer of a shell whose row was refused for this cause.
-abbrev pub turn_of : PostFault → Turn
+abbrev pub turn_of : PostError → Turn
 turn_of (JournalFull bytes) = Full bytes
 turn_of NoMemory = OutOfMemory

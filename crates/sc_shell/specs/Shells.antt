@@ -11,8 +11,8 @@ use Rattle.sc_actor.specs.declared.rows.Input.TheVariants.{Got}
 use Rattle.sc_actor.specs.Mail.{mails, numbered, is_crash}
 use Rattle.sc_actor.specs.Counted.{row_bytes, journal_bytes}
 use Rattle.sc_actor.specs.Replay.{input_of, acted, value}
-use Rattle.sc_ledger.specs.declared.faults.PostFault.TheVariants.{JournalFull}
-use Rattle.sc_ledger.specs.Fault.{IsCause}
+use Rattle.sc_ledger.specs.declared.errors.PostError.TheVariants.{JournalFull}
+use Rattle.sc_ledger.specs.PostErrors.{IsCause}
 use Rattle.sc_ledger.specs.Pending.{kth_pending}
 use Rattle.sc_exchange.specs.declared.ports.Port.{Port}
 use Rattle.sc_exchange.specs.BareRows.{rows_of}

@@ -11,7 +11,7 @@ ghost use Rattle.sc_exchange.specs.Ports.{seen, made, SameExchange, Stays, HasLo
 use crate::turns::Turn;
 use sc_actor::{Actor, Event, Gate, Input};
 use sc_base::{Dup, OutOfMemory, Sequence};
-use sc_exchange::{Fetched, Port, PostFault};
+use sc_exchange::{Fetched, Port, PostError};
 use std::alloc::Global;
 use std::sync::Wait;
 
@@ -264,11 +264,11 @@ fn input_at<M, O: Dup>(alloc: Global, event: &Event<O>) -> Result<Option<Input<M
     }
 }
 
-fn refused(why: PostFault) -> Turn
+fn refused(why: PostError) -> Turn
     ensures { result ≡ turn_of why }
 {
     match why {
-        PostFault::JournalFull { bytes } => Turn::Full { bytes },
-        PostFault::OutOfMemory => Turn::OutOfMemory,
+        PostError::JournalFull { bytes } => Turn::Full { bytes },
+        PostError::OutOfMemory => Turn::OutOfMemory,
     }
 }

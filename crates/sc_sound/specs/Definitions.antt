@@ -6,5 +6,5 @@ pub use Rattle.sc_sound.specs.Histories.{history, newly_decided, history_from}
 pub use Rattle.sc_sound.specs.Logs.{decided_state, decided_log, rule_of, IsChosenIn}
 pub use Rattle.sc_sound.specs.Players.{player_table, node_seat, route_of, system_of, as_nodes, Player, client_seat, births, client_seats, line_of, schedule, replies_of, Lawful, Whole, Ahead, receiver_of, parties, most_actor, AreFew}
 pub use Rattle.sc_sound.specs.Requests.{kept_replies, asks_for, issues, issue_row, issued_from, IsRequest, kept_reply, answer_row, answered_from}
-pub use Rattle.sc_sound.specs.Soundness.{IsOneMap, HasRun, Continues, IsSound, AllHaveRun, told_from, AnswersRequests, told_row, IsTimely, KeepsRealTime, IsSoundThroughout}
+pub use Rattle.sc_sound.specs.Soundness.{IsOneMap, HasRun, Continues, IsSound, AllHaveRun, row_of_entry_from, AnswersRequests, row_of_entry, IsTimely, KeepsRealTime, IsSoundThroughout}
 pub use Rattle.sc_sound.specs.Summary.{asked_from, asked_by}

@@ -70,21 +70,21 @@ pub record AnswersRequests (ahead : Ahead) (scenario : Scenario) (rows : List (R
       → (seq : ℕ) (reply : Reply) → kept_reply (route_of first) asks seq rows ≡ Some reply → HasEntry (history_at ahead scenario.groups rows) asks.client seq reply
 
 -- the number, from 1, of the row after which the history has its entry at a place (from 0), sought in the later rows, if there is one
-abbrev pub told_from : Ahead → List Base → ℕ → List (Row Mail OrderLine) → List (Row Mail OrderLine) → Option ℕ
-told_from ahead bases place before [] = None
-told_from ahead bases place before (row ∷ rows) =
+abbrev pub row_of_entry_from : Ahead → List Base → ℕ → List (Row Mail OrderLine) → List (Row Mail OrderLine) → Option ℕ
+row_of_entry_from ahead bases place before [] = None
+row_of_entry_from ahead bases place before (row ∷ rows) =
     if nat_lt place (length (history_at ahead bases (before ++ row ∷ []))) then Some (length before + 1)
-    else told_from ahead bases place (before ++ row ∷ []) rows
+    else row_of_entry_from ahead bases place (before ++ row ∷ []) rows
 
 -- the number, from 1, of the row that decides the entry of the history at a place (from 0), if one does
-abbrev pub told_row : Ahead → List Base → ℕ → List (Row Mail OrderLine) → Option ℕ
-told_row ahead bases place rows = told_from ahead bases place [] rows
+abbrev pub row_of_entry : Ahead → List Base → ℕ → List (Row Mail OrderLine) → Option ℕ
+row_of_entry ahead bases place rows = row_of_entry_from ahead bases place [] rows
 
 -- (g) An entry of the history is decided after the row in which its client issues it, and before the row in which its client takes the reply, if there is one.
 pub record IsTimely (ahead : Ahead) (scenario : Scenario) (rows : List (Row Mail OrderLine)) (place : ℕ) (entry : Entry) : Type 0 where
   -- the number of the row that decides the entry
   pub decided : ℕ
-  pub is_decided : told_row ahead scenario.groups place rows ≡ Some decided
+  pub is_decided : row_of_entry ahead scenario.groups place rows ≡ Some decided
   -- the number of the row that issues the request
   pub issued : ℕ
   pub is_issued : issue_row entry.client entry.seq rows ≡ Some issued

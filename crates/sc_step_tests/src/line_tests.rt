@@ -51,7 +51,7 @@ const CALLS: &[Line] = &[
 ];
 
 #[test]
-fn calls(rt: HostRuntime) {
+fn backlog(rt: HostRuntime) {
     all_are(&rt, rt.alloc(), CALLS);
 }
 

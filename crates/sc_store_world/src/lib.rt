@@ -4,14 +4,14 @@
 #![tactic(auto)]
 
 mod effects;
-mod faults;
+mod errors;
 mod groups;
 mod rings;
 mod spans;
-mod tellings;
+mod transactions;
 mod worlds;
 
-pub use faults::TellFault;
+pub use errors::EntryError;
 pub use rings::{first_cuts, ring_after};
-pub use tellings::{decision, tell};
+pub use transactions::{decision, add_entry};
 pub use worlds::{StoreWorld, world_of};

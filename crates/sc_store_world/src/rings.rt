@@ -3,10 +3,10 @@ ghost use Rattle.std.specs.Prelude.{◌≡◌, ◌++◌, Some, map, not, filter,
 ghost use Rattle.std.specs.List.{flat_map};
 ghost use Rattle.std.specs.Option.{option_copied};
 ghost use Rattle.sc_log_entries.specs.Rings.{HaveArcs, first_cut, is_cut_of, arc_in, recut, parts_of, both_arcs, ring_moved, ring_decided, ring_divided, decided_by, ring_after};
-ghost use Rattle.sc_store_world.specs.declared.faults.TellFault.TheVariants.{NoArc};
+ghost use Rattle.sc_store_world.specs.declared.errors.EntryError.TheVariants.{NoArc};
 
 use crate::effects::{decided_by, division_of};
-use crate::faults::TellFault;
+use crate::errors::EntryError;
 use crate::spans::{Span, Stretch, cuts_of, spans_of};
 use sc_base::{Draw, OutOfMemory, RingArc, same_draw};
 use sc_cmd::{Base, Command, Core, Effect, Outcome};
@@ -201,10 +201,10 @@ pub fn ring_after(
     command: &Command,
     effect: &Effect,
     ring: Vec<Cut>,
-) -> Result<Vec<Cut>, TellFault>
+) -> Result<Vec<Cut>, EntryError>
     ensures { MatchResult result
         (λ after. after.items ≡ ring_after core.now command.now effect.now ring.items)
-        (λ fault. fault ≡ NoArc →
+        (λ error. error ≡ NoArc →
         HaveArcs (ring_after core.now command.now effect.now ring.items) → ⊥) }
 {
     let outcome = decided_by(command, effect);

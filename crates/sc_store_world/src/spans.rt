@@ -3,9 +3,9 @@
 ghost use Rattle.std.specs.Prelude.{◌≡◌, ◌++◌, ◌∷◌, [], if◌then◌else◌, IfOk, OnOk, MatchOption, MatchResult};
 ghost use Rattle.sc_base.specs.Arc.{IsArc, offset, before, from, joined};
 ghost use Rattle.sc_log_entries.specs.Rings.{HaveArcs, is_cut_of};
-ghost use Rattle.sc_store_world.specs.declared.faults.TellFault.TheVariants.{NoArc};
+ghost use Rattle.sc_store_world.specs.declared.errors.EntryError.TheVariants.{NoArc};
 
-use crate::faults::TellFault;
+use crate::errors::EntryError;
 use sc_base::{Draw, OutOfMemory, RingArc, same_draw};
 use sc_log_entries::Cut;
 use std::alloc::Global;
@@ -157,15 +157,15 @@ fn add(ring: &mut Vec<Cut>, cut: Cut) -> Result<(), OutOfMemory>
 
 /// Returns the ring that these spans are. Fails where it runs out of memory, and where a span is no
 /// arc.
-pub(crate) fn cuts_of(alloc: Global, spans: &[Span]) -> Result<Vec<Cut>, TellFault>
+pub(crate) fn cuts_of(alloc: Global, spans: &[Span]) -> Result<Vec<Cut>, EntryError>
     ensures { MatchResult result (λ ring. ring.items ≡ spans.now)
-        (λ fault. fault ≡ NoArc → HaveArcs spans.now → ⊥) }
+        (λ error. error ≡ NoArc → HaveArcs spans.now → ⊥) }
 {
     let mut ring = Vec::new(alloc);
     for span in spans {
         match cut_of(span) {
             Some(cut) => add(&mut ring, cut)?,
-            None => return Err(TellFault::NoArc),
+            None => return Err(EntryError::NoArc),
         }
     }
     Ok(ring)

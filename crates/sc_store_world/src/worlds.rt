@@ -10,10 +10,10 @@ ghost use Rattle.sc_log_entries.specs.Rings.{HaveArcs, ring_after};
 ghost use Rattle.sc_log_entries.specs.Worlds.{CoverThroughout, first_world, named_group, told, with_result, world_of};
 ghost use Rattle.sc_store_world.specs.Effects.{effect_in};
 ghost use Rattle.sc_store_world.specs.Places.{IsFirstNamed};
-ghost use Rattle.sc_store_world.specs.declared.faults.TellFault.TheVariants.{NoArc};
+ghost use Rattle.sc_store_world.specs.declared.errors.EntryError.TheVariants.{NoArc};
 
 use crate::groups::{again, born, execute, is_named, place_of};
-use crate::{TellFault, decision, first_cuts, ring_after, tell};
+use crate::{EntryError, decision, first_cuts, ring_after, add_entry};
 use sc_base::{Draw, Dup, OutOfMemory};
 use sc_cmd::{Base, Command, Core, Effect, Lock, Outcome};
 use sc_ideal::Entry;
@@ -83,10 +83,10 @@ fn change_ring(
     core: &Core,
     command: &Command,
     effect: &Effect,
-) -> Result<(), TellFault>
+) -> Result<(), EntryError>
     ensures { MatchResult result
         (λ _. ring.new.items ≡ ring_after core.now command.now effect.now ring.old.items)
-        (λ fault. fault ≡ NoArc →
+        (λ error. error ≡ NoArc →
         HaveArcs (ring_after core.now command.now effect.now ring.old.items) → ⊥) }
 {
     let old = mem::replace(ring, Vec::new(alloc));
@@ -95,7 +95,7 @@ fn change_ring(
             *ring = after;
             Ok(())
         }
-        Err(fault) => Err(fault),
+        Err(error) => Err(error),
     }
 }
 
@@ -115,50 +115,50 @@ impl StoreWorld {
 
     /// Takes one more entry. Fails where it runs out of memory, and where the entry would leave a
     /// cut that is no arc; then the world may only be dropped.
-    pub fn tell(&mut self, entry: &LogEntry) -> Result<(), TellFault>
+    pub fn add_entry(&mut self, entry: &LogEntry) -> Result<(), EntryError>
         ensures { MatchResult result (λ _. self.new ≡ told self.old entry.now)
-            (λ fault. fault ≡ NoArc → HaveArcs (told self.old entry.now).ring → ⊥) }
+            (λ error. error ≡ NoArc → HaveArcs (told self.old entry.now).ring → ⊥) }
     {
         match self.take(entry) {
             Ok(_effect) => Ok(()),
-            Err(fault) => Err(fault),
+            Err(error) => Err(error),
         }
     }
 
     /// Takes one more entry, and returns its effect, if its group was created. Fails where it runs
     /// out of memory, and where the entry would leave a cut that is no arc; then the world may only
     /// be dropped.
-    pub fn take(&mut self, entry: &LogEntry) -> Result<Option<Effect>, TellFault>
+    pub fn take(&mut self, entry: &LogEntry) -> Result<Option<Effect>, EntryError>
         ensures { MatchResult result
             (λ effect. (self.new ≡ told self.old entry.now) ×
             (effect ≡ effect_in self.old entry.now))
-            (λ fault. fault ≡ NoArc → HaveArcs (told self.old entry.now).ring → ⊥) }
+            (λ error. error ≡ NoArc → HaveArcs (told self.old entry.now).ring → ⊥) }
     {
         match place_of(self.groups.as_slice(), entry.group) {
             None => Ok(None),
             Some(at) => match self.execute(entry.group, at, &entry.command) {
                 Ok(effect) => Ok(Some(effect)),
-                Err(fault) => Err(fault),
+                Err(error) => Err(error),
             },
         }
     }
 
-    fn execute(&mut self, name: Draw, at: usize, command: &Command) -> Result<Effect, TellFault>
+    fn execute(&mut self, name: Draw, at: usize, command: &Command) -> Result<Effect, EntryError>
         requires { IsFirstNamed name self.old.groups at }
         ensures { MatchResult result
             (λ effect. (group : Group) → named_group name self.old.groups ≡ Some group →
             (self.new ≡ with_result self.old group command.now (applied group command.now)) ×
             (effect ≡ (applied group command.now).1))
-            (λ fault. fault ≡ NoArc →
+            (λ error. error ≡ NoArc →
             (group : Group) → named_group name self.old.groups ≡ Some group →
             HaveArcs (with_result self.old group command.now (applied group command.now)).ring →
             ⊥) }
     {
         let (core, effect) = execute(self.alloc, &mut self.groups, at, command)?;
-        tell(self.alloc, &mut self.transactions, &core, command, &effect)?;
+        add_entry(self.alloc, &mut self.transactions, &core, command, &effect)?;
         match change_ring(self.alloc, &mut self.ring, &core, command, &effect) {
             Ok(()) => {}
-            Err(fault) => return Err(fault),
+            Err(error) => return Err(error),
         }
         note(self.alloc, &mut self.history, command, &effect)?;
         Ok(effect)
@@ -288,10 +288,10 @@ pub fn world_of(
 {
     let mut world = StoreWorld::first(alloc, bases)?;
     for entry in entries {
-        match world.tell(entry) {
+        match world.add_entry(entry) {
             Ok(()) => {}
-            Err(TellFault::OutOfMemory) => return Err(OutOfMemory),
-            Err(TellFault::NoArc) => unreachable!(),
+            Err(EntryError::OutOfMemory) => return Err(OutOfMemory),
+            Err(EntryError::NoArc) => unreachable!(),
         }
     }
     Ok(world)

@@ -458,7 +458,7 @@ const PARTS_LEFT: &[Leaving] = &[
 ];
 
 #[test]
-fn a_replay_tells_what_rows_leave(rt: HostRuntime) {
+fn a_replay_returns_what_rows_leave(rt: HostRuntime) {
     are_left(&rt, rt.alloc(), PARTS_LEFT);
 }
 

@@ -3,7 +3,7 @@ ghost use Rattle.std.specs.Prelude.{◌≡◌, ◌≤◌, min, ◌^◌, ◌-◌}
 
 use crate::notes::{Note, notes};
 use sc_actor::{Event, Row};
-use sc_ledger::{Ledger, PostFault, Spot, Unkept};
+use sc_ledger::{Ledger, PostError, Spot, Unkept};
 use std::alloc::Global;
 use std::mem::forget;
 use std::process::Abort;
@@ -37,8 +37,8 @@ fn full_at(rt: &impl Abort, kept: &Result<(), Unkept<Note, u32>>) -> Option<u64>
     match kept {
         Ok(()) => None,
         Err(unkept) => match unkept.why {
-            PostFault::JournalFull { bytes } => Some(bytes),
-            PostFault::OutOfMemory => panic!(rt; "memory"),
+            PostError::JournalFull { bytes } => Some(bytes),
+            PostError::OutOfMemory => panic!(rt; "memory"),
         },
     }
 }
@@ -287,7 +287,7 @@ fn queues_and_scan_agree(rt: HostRuntime) {
 }
 
 #[test]
-fn look_tells_each_copy(rt: HostRuntime) {
+fn look_returns_each_copy(rt: HostRuntime) {
     come_true(&rt, rt.alloc(), 2, Story::Look);
 }
 

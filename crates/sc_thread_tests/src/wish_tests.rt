@@ -60,15 +60,15 @@ fn put(rt: &impl Abort, alloc: Global, store: &mut Store, key: &[u8]) {
     forget(op);
 }
 
-/// Returns `many` pairs, at most 188. Key i is `front` and the bytes 33 + i / 94 and 33 + i % 94.
-fn pairs(rt: &impl Abort, alloc: Global, front: &[u8], many: usize) -> Pairs {
+/// Returns `many` pairs, at most 188. Key i is `prefix` and the bytes 33 + i / 94 and 33 + i % 94.
+fn pairs(rt: &impl Abort, alloc: Global, prefix: &[u8], many: usize) -> Pairs {
     let mut store = Store::new(alloc);
     let mut count = 0;
     for first in 33..35u8 {
         for second in 33..127u8 {
             if count < many {
                 count += 1;
-                let mut key = Vec::from_slice(alloc, front).expect(rt, "memory");
+                let mut key = Vec::from_slice(alloc, prefix).expect(rt, "memory");
                 key.push(first).expect(rt, "memory");
                 key.push(second).expect(rt, "memory");
                 put(rt, alloc, &mut store, key.as_slice());
@@ -102,9 +102,9 @@ fn check_all(rt: &impl Abort, alloc: Global, keys: &Pairs, all: &[Wished]) {
 }
 
 /// Checks what the policy wants of each of these groups with `many` pairs whose keys begin with
-/// `front`.
-fn check_with(rt: &impl Abort, alloc: Global, (front, many): (&[u8], usize), all: &[Wished]) {
-    let keys = pairs(rt, alloc, front, many);
+/// `prefix`.
+fn check_with(rt: &impl Abort, alloc: Global, (prefix, many): (&[u8], usize), all: &[Wished]) {
+    let keys = pairs(rt, alloc, prefix, many);
     check_all(rt, alloc, &keys, all);
     forget(keys);
 }

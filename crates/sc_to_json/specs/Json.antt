@@ -8,7 +8,7 @@ pub use Rattle.sc_row_text.specs.Votes.{no_json, FitsNo, frozen_json, FitsFrozen
 pub use Rattle.sc_row_text.specs.Outcomes.{gift_json, FitsGift, outcome_json, FitsOutcome}
 pub use Rattle.sc_row_text.specs.Cores.{lock_json, FitsLock, core_json, FitsCore, base_json, FitsBase}
 pub use Rattle.sc_row_text.specs.Commands.{command_json, FitsCommand, report_json, FitsReport}
-pub use Rattle.sc_row_text.specs.Orders.{order_json, FitsOrder, order_line_json, FitsOrderLine, order_refusal_json, FitsOrderRefusal, told_result_json, FitsToldResult}
+pub use Rattle.sc_row_text.specs.Orders.{order_json, FitsOrder, order_line_json, FitsOrderLine, order_refusal_json, FitsOrderRefusal, order_result_json, FitsOrderResult}
 pub use Rattle.sc_row_text.specs.Answers.{answer_body_json, FitsAnswerBody}
 pub use Rattle.sc_row_text.specs.Mails.{mail_body_json, FitsMailBody, mail_json, FitsMail}
 pub use Rattle.sc_row_text.specs.Rows.{event_json, FitsEvent, row_json, FitsRow}

@@ -1,16 +1,16 @@
 //! Orders and their results, written as JSON.
 ghost use Rattle.sc_cmd.specs.declared.orders.Order.{Order};
 ghost use Rattle.sc_cmd.specs.declared.orders.OrderRefusal.{OrderRefusal};
-ghost use Rattle.sc_cmd.specs.declared.orders.ToldResult.{ToldResult};
+ghost use Rattle.sc_cmd.specs.declared.orders.OrderResult.{OrderResult};
 ghost use Rattle.sc_row_text.specs.Orders.{order_json, FitsOrder};
 ghost use Rattle.sc_row_text.specs.Orders.{order_line_json, FitsOrderLine};
 ghost use Rattle.sc_row_text.specs.Orders.{order_refusal_json, FitsOrderRefusal};
-ghost use Rattle.sc_row_text.specs.Orders.{told_result_json, FitsToldResult};
+ghost use Rattle.sc_row_text.specs.Orders.{order_result_json, FitsOrderResult};
 
 use crate::to_json::ToJson;
 use crate::writing::{two, unit, variant_of, variant_one, variant_two};
 use sc_base::OutOfMemory;
-use sc_cmd::{Order, OrderLine, OrderRefusal, ToldResult};
+use sc_cmd::{Order, OrderLine, OrderRefusal, OrderResult};
 use serde_json::Value as Json;
 use std::alloc::Global;
 
@@ -84,18 +84,18 @@ impl ToJson for OrderRefusal {
     }
 }
 
-#[tactic(auto, unfolding(crate::specs::Json::told_result_json, crate::specs::Json::FitsToldResult))]
-impl ToJson for ToldResult {
-    ghost json_of = { told_result_json };
+#[tactic(auto, unfolding(crate::specs::Json::order_result_json, crate::specs::Json::FitsOrderResult))]
+impl ToJson for OrderResult {
+    ghost json_of = { order_result_json };
 
-    ghost Fits = { FitsToldResult };
+    ghost Fits = { FitsOrderResult };
 
     fn to_json(&self, alloc: Global) -> Result<Json, OutOfMemory> {
         match self {
-            ToldResult::Done => unit(alloc, "Done"),
-            ToldResult::Committed => unit(alloc, "Committed"),
-            ToldResult::Aborted => unit(alloc, "Aborted"),
-            ToldResult::Refused(content) => variant_of(alloc, "Refused", content),
+            OrderResult::Done => unit(alloc, "Done"),
+            OrderResult::Committed => unit(alloc, "Committed"),
+            OrderResult::Aborted => unit(alloc, "Aborted"),
+            OrderResult::Refused(content) => variant_of(alloc, "Refused", content),
         }
     }
 }

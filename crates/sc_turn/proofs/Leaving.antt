@@ -4,7 +4,7 @@ use Rattle.std.proofs.Math.Seq.{drop-append_seam}
 use mathlib.Core.Option.{none}
 use Rattle.atomic_table.specs.Table.{Me, step, rest, Allows}
 use Rattle.sc_turn.specs.declared.rule.View.{View}
-use Rattle.sc_turn.specs.Definitions.{view, with_seen, with_row, with_counted, rows_by, CanLeave, IsTrueOf, IsTrueLater, IsTrueOver, StartsWith, Kept, Looks, ReadsCount, Appends, append_tells, release_tells}
+use Rattle.sc_turn.specs.Definitions.{view, with_seen, with_row, with_counted, rows_by, CanLeave, IsTrueOf, IsTrueLater, IsTrueOver, StartsWith, Kept, Looks, ReadsCount, Appends, append_returns, release_returns}
 use Rattle.sc_turn.proofs.Lists.{rows_by_none}
 use Rattle.sc_turn.proofs.Keeps.{appends, releases}
 
@@ -32,12 +32,12 @@ module _ {T E : Type 0} (entries : T → List (E × ℕ)) where
 
   -- then it may be counted
   pub counts_one : (slots id : ℕ) (m m' : M) (r rows : ℕ) (x : T) → ReadsCount entries m r m' → m.0.turn ≡ true → m.0.live ≡ true → m.0.told ≡ [] → m.1 ≡ (0, Some x) ∷ [] → CanLeave m.0 (entries x) → rows ≡ length (entries x) → r ≢ rows → rows + 1 < 2 ^ 64
-      → Allows (Kept entries) slots id m' 1 (λ n. (n + 1) % 2 ^ 64) (append_tells entries (step slots 1 1 0 none) m')
+      → Allows (Kept entries) slots id m' 1 (λ n. (n + 1) % 2 ^ 64) (append_returns entries (step slots 1 1 0 none) m')
   counts_one slots id m m' r rows x read has live told out may count other small =
       let t = one_more m r rows x (read.count has) may count other in
       let back = sym read.same in
       let more : length (entries x) ≡ length m.0.seen + 1 = ap length t.1 ∙ length-append m.0.seen ((t.0, m.0.who) ∷ []) in
-      subst (λ (z : M). Allows (Kept entries) slots id z 1 (λ n. (n + 1) % 2 ^ 64) (append_tells entries (step slots 1 1 0 none) z)) back
+      subst (λ (z : M). Allows (Kept entries) slots id z 1 (λ n. (n + 1) % 2 ^ 64) (append_returns entries (step slots 1 1 0 none) z)) back
       (appends entries slots id (with_seen m.0 m.0.seen, m.1) x t.0 out has live t.1 (omega arith))
 
   -- and once it counts, the view is that with the row
@@ -54,11 +54,11 @@ module _ {T E : Type 0} (entries : T → List (E × ℕ)) where
 
   -- the turn may be given back, once the value lies in the slot and its rows count
   pub frees : (slots id : ℕ) (m m' m'' : M) (x : T) → slots ≡ 1 → m.0.turn ≡ true → m.1 ≡ (0, None) ∷ [] → m' ≡ (m.0, (0, Some x) ∷ rest m.1) → ((y : T) → m'.1 ≡ (0, Some y) ∷ [] → m'' ≡ (with_counted m'.0 (entries y), m'.1))
-      → Allows (Kept entries) slots id m'' 0 (λ _. 0) (λ _. release_tells entries (step slots 0 0 0 none) m'' 0)
+      → Allows (Kept entries) slots id m'' 0 (λ _. 0) (λ _. release_returns entries (step slots 0 0 0 none) m'' 0)
   frees slots id m m' m'' x one has out put count =
       let there : m' ≡ (m.0, (0, Some x) ∷ []) = put ∙ ap (λ (l : List (ℕ × Option T)). (m.0, (0, Some x) ∷ rest l)) out in
       let now : m'' ≡ (with_counted m.0 (entries x), (0, Some x) ∷ []) = count x (ap (λ (z : M). z.1) there) ∙ ap (λ (z : M). (with_counted z.0 (entries x), z.1)) there in
-      subst (λ (z : M). Allows (Kept entries) slots id z 0 (λ _. 0) (λ _. release_tells entries (step slots 0 0 0 none) z 0)) (sym now)
+      subst (λ (z : M). Allows (Kept entries) slots id z 0 (λ _. 0) (λ _. release_returns entries (step slots 0 0 0 none) z 0)) (sym now)
       (releases entries slots id (with_counted m.0 (entries x), (0, Some x) ∷ []) x one refl has refl)
 
   -- what a look reports is true of what was then seen

@@ -7,7 +7,7 @@ use Rattle.std.proofs.lemmas.List.{length-take-le, get_or-take, get_or_default, 
 use Rattle.std.proofs.lemmas.List.Elements.{All-tail, All-head, All-weaker}
 use Rattle.std.proofs.lemmas.List.Folds.{list_any_none}
 use Rattle.std.proofs.lemmas.List.Kept.{AllPairs-from_increasing}
-use Rattle.sc_base.specs.Definitions.{is_member, with_member, add_fault}
+use Rattle.sc_base.specs.Definitions.{is_member, with_member, add_error}
 
 -- what all stand below a node are below it, and none is above
 all_low : (xs : List ℕ) (n : ℕ) → All (λ x. x < n) xs → filter (λ x. ltb x n) xs ≡ xs
@@ -30,8 +30,8 @@ with_last xs n below =
     ∙ ap (λ high. xs ++ n ∷ high) (none_high xs n below)
 
 -- and is not refused, where there is room
-pub no_fault : (xs : List ℕ) (n : ℕ) → All (λ x. x < n) xs → length xs < 9 → add_fault xs n ≡ None
-no_fault xs n below room =
+pub no_error : (xs : List ℕ) (n : ℕ) → All (λ x. x < n) xs → length xs < 9 → add_error xs n ≡ None
+no_error xs n below room =
     let absent : is_member xs n ≡ false = list_any_none (λ x. eqb x n) xs (All-weaker (λ x. x < n) (λ x. eqb x n ≡ false) (λ x lt. ne_eqb x n (λ e. omega arith)) xs below) in
     let few : eqb (length xs) 9 ≡ false = ne_eqb (length xs) 9 (λ e. omega arith) in
     rw (absent, few) refl

@@ -1,4 +1,4 @@
-use crate::values::{reply, seen, tells};
+use crate::values::{reply, seen, has_old};
 use sc_store::{ClientTable, Seen};
 use std::alloc::Global;
 use std::mem::forget;
@@ -37,7 +37,7 @@ fn note(
 
 fn has(table: &ClientTable, client: u16, bytes: &[u8]) -> bool {
     match table.reply(client) {
-        Some(reply) => tells(reply, Some(bytes)),
+        Some(reply) => has_old(reply, Some(bytes)),
         None => false,
     }
 }

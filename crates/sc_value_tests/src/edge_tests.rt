@@ -1,13 +1,13 @@
-use sc_edges::{Failed, MemSink, MemSource, ReadFault, Sink, Source, StdSink, StdSource, read_all};
+use sc_edges::{Failed, MemSink, MemSource, ReadError, Sink, Source, StdSink, StdSource, read_all};
 use std::alloc::Global;
 use std::mem::forget;
 use std::process::Abort;
 
 // Returns the number of bytes that one call reads.
-fn read_len<S: Source>(alloc: Global, source: &mut S, most: u64) -> Result<usize, ReadFault> {
+fn read_len<S: Source>(alloc: Global, source: &mut S, most: u64) -> Result<usize, ReadError> {
     match read_all(alloc, source, most) {
         Ok(bytes) => Ok(bytes.len()),
-        Err(fault) => Err(fault),
+        Err(error) => Err(error),
     }
 }
 
@@ -18,7 +18,7 @@ fn two_reads(
     alloc: Global,
     failing: &[u64],
     most: u64,
-) -> (Result<usize, ReadFault>, Result<usize, ReadFault>) {
+) -> (Result<usize, ReadError>, Result<usize, ReadError>) {
     let mut source = MemSource::new(alloc, b"scatter", failing).expect(rt, "memory");
     let first = read_len(alloc, &mut source, most);
     let second = read_len(alloc, &mut source, 100);
@@ -31,7 +31,7 @@ fn a_source_is_read_to_its_end_past_the_limit_or_until_it_fails(rt: HostRuntime)
     let whole = two_reads(&rt, rt.alloc(), &[], 100);
     let parts = two_reads(&rt, rt.alloc(), &[], 3);
     assert!(rt; whole == (Ok(7), Ok(0)) && parts == (Ok(4), Ok(3)));
-    let failed = Err(ReadFault::Failed);
+    let failed = Err(ReadError::Failed);
     let first = two_reads(&rt, rt.alloc(), &[1], 100).0;
     let second = two_reads(&rt, rt.alloc(), &[2], 100).0;
     assert!(rt; first == failed && second == failed);

@@ -42,7 +42,7 @@ const HELD: &[(u32, Option<u32>)] = &[
 ];
 
 #[test]
-fn entries_are_learnt_in_order_and_dropped_from_the_front(rt: HostRuntime) {
+fn entries_are_learnt_in_order_and_dropped_from_the_first_on(rt: HostRuntime) {
     let mut log: Glog<u32> = Glog::born(rt.alloc());
     let first = log.next();
     check(&rt, &mut log, LEARNT);

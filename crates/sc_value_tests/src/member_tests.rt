@@ -1,4 +1,4 @@
-use sc_base::{Dup, MemberFault, Members};
+use sc_base::{Dup, MemberError, Members};
 use std::process::Abort;
 
 /// Returns the set of these nodes, added one after another.
@@ -21,7 +21,7 @@ fn nodes_are_added_in_any_order_and_removed(rt: HostRuntime) {
     let are_added = is_set(&members, &[2, 5, 7, 9]);
     let answers = [members.add(5), members.remove(3), members.remove(5)];
     let is_removed = is_set(&members, &[2, 7, 9]);
-    let wanted = [Err(MemberFault::Present), Err(MemberFault::Absent), Ok(())];
+    let wanted = [Err(MemberError::Present), Err(MemberError::Absent), Ok(())];
     assert!(rt; are_added && answers == wanted && is_removed);
     assert!(rt; members.dup(rt.alloc()) == Ok(members));
 }
@@ -30,7 +30,7 @@ fn nodes_are_added_in_any_order_and_removed(rt: HostRuntime) {
 fn the_last_node_stays_and_a_tenth_is_refused(rt: HostRuntime) {
     let mut nine = set_of(&rt, 1, &[2, 3, 4, 5, 6, 7, 8, 9]);
     let answers = [Members::one(4).remove(4), nine.add(10)];
-    assert!(rt; answers == [Err(MemberFault::Last), Err(MemberFault::Full)]);
+    assert!(rt; answers == [Err(MemberError::Last), Err(MemberError::Full)]);
 }
 
 /// Returns whether the member after each node is the one beside it.

@@ -1,7 +1,7 @@
 //! Reports, line by line.
 use crate::values::{get, reply};
 use sc_base::{Draw, Members, Reply, Sequence};
-use sc_cmd::{OrderRefusal, Route, ToldResult};
+use sc_cmd::{OrderRefusal, Route, OrderResult};
 use sc_report::{Asked, Progress, ReportLine, Summary, lines};
 use std::alloc::Global;
 use std::mem::forget;
@@ -36,7 +36,7 @@ fn all_asked(rt: &impl Abort, alloc: Global) -> Sequence<Asked> {
 }
 
 fn summary(rt: &impl Abort, alloc: Global, brief: bool) -> Summary {
-    let refused = ToldResult::Refused(OrderRefusal::BadBoundary);
+    let refused = OrderResult::Refused(OrderRefusal::BadBoundary);
     let mut orders = Sequence::new(alloc);
     orders.push(None).expect(rt, "memory");
     orders.push(Some(refused)).expect(rt, "memory");
@@ -84,7 +84,7 @@ fn is_told(rt: &impl Abort, alloc: Global, brief: bool, report: &[u8]) -> bool {
 }
 
 #[test]
-fn a_summary_is_told_line_by_line(rt: HostRuntime) {
+fn a_summary_is_printed_line_by_line(rt: HostRuntime) {
     let whole = is_told(&rt, rt.alloc(), false, REPORT);
     let brief = is_told(&rt, rt.alloc(), true, BRIEF);
     assert!(rt; whole && brief);

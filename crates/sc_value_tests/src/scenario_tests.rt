@@ -2,7 +2,7 @@
 use crate::{REFUSED, Refused};
 use sc_base::{Draw, Op};
 use sc_cmd::Order;
-use sc_scenario::{ClientList, GroupList, Scenario, ScenarioFault, SchedLine, read_scenario};
+use sc_scenario::{ClientList, GroupList, Scenario, ScenarioError, SchedLine, read_scenario};
 use std::alloc::Global;
 use std::mem::forget;
 use std::process::Abort;
@@ -94,14 +94,14 @@ fn the_early_form_is_read(rt: HostRuntime) {
 
 // Returns the first bad line of a text and the number of its reason, or zeros where the text is a
 // scenario.
-fn fault_of(alloc: Global, text: &[u8]) -> (u32, u8) {
+fn error_of(alloc: Global, text: &[u8]) -> (u32, u8) {
     match read_scenario(alloc, text) {
         Ok(scenario) => {
             forget(scenario);
             (0, 0)
         }
-        Err(ScenarioFault::Bad { line, why }) => (line, why.code()),
-        Err(ScenarioFault::OutOfMemory) => (0, 255),
+        Err(ScenarioError::Bad { line, why }) => (line, why.code()),
+        Err(ScenarioError::OutOfMemory) => (0, 255),
     }
 }
 
@@ -112,7 +112,7 @@ fn is_refused(rt: &impl Abort, alloc: Global, refused: &Refused) -> bool {
     for _ in 0..feeds {
         whole.push(b'\n').expect(rt, "memory");
     }
-    let found = fault_of(alloc, &whole);
+    let found = error_of(alloc, &whole);
     forget(whole);
     found == (line, why)
 }

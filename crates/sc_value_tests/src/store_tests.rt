@@ -1,4 +1,4 @@
-use crate::values::{get, key, put, tells, value};
+use crate::values::{get, key, put, has_old, value};
 use sc_base::{Op, Pairs, RingArc};
 use sc_store::Store;
 use std::alloc::Global;
@@ -44,7 +44,7 @@ fn answers(
 ) -> bool {
     let op = op_of(rt, alloc, ask);
     let reply = store.apply(&op).expect(rt, "memory");
-    let is_told = tells(&reply, old);
+    let is_told = has_old(&reply, old);
     forget(reply);
     forget(op);
     is_told

@@ -44,7 +44,7 @@ pub(crate) fn reply(rt: &impl Abort, alloc: Global, old: &[u8]) -> Reply {
 }
 
 /// Returns whether a reply has this old value.
-pub(crate) fn tells(reply: &Reply, old: Option<&[u8]>) -> bool {
+pub(crate) fn has_old(reply: &Reply, old: Option<&[u8]>) -> bool {
     match (&reply.old, old) {
         (None, None) => true,
         (Some(value), Some(bytes)) => value.bytes() == bytes,

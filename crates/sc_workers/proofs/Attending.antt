@@ -35,26 +35,26 @@ use Rattle.sc_turn.proofs.Lists.{starts_trans}
 -- lists
 module _ {X : Type 0} where
   -- a prefix of a list with one more at its end is the whole, or a prefix of the list without it
-  pub prefix_snoc : (xs front : List X) (y : X) → StartsWith (xs ++ y ∷ []) front → (front ≡ xs ++ y ∷ []) ⊎ StartsWith xs front
+  pub prefix_snoc : (xs prefix : List X) (y : X) → StartsWith (xs ++ y ∷ []) prefix → (prefix ≡ xs ++ y ∷ []) ⊎ StartsWith xs prefix
   prefix_snoc xs [] y p = inr (xs, refl)
-  prefix_snoc [] (f ∷ front) y p = by front p.0 p.1
+  prefix_snoc [] (f ∷ prefix) y p = by prefix p.0 p.1
     where
       by : (rest more : List X) → y ∷ [] ≡ (f ∷ rest) ++ more → (f ∷ rest ≡ y ∷ []) ⊎ StartsWith [] (f ∷ rest)
       by [] more e = inl (let same : y ≡ f = cc in ap (λ z. z ∷ []) (sym same))
       by (r ∷ rest) more e = (let bad : [] ≡ r ∷ (rest ++ more) = cc in cc)
-  prefix_snoc (x ∷ xs) (f ∷ front) y p =
+  prefix_snoc (x ∷ xs) (f ∷ prefix) y p =
       let head : x ≡ f = (let e = p.1 in cc) in
-      let tail : xs ++ y ∷ [] ≡ front ++ p.0 = (let e = p.1 in cc) in
-      ⊎_elim (λ e. inl (λ i. sym head i ∷ e i)) (λ q. inr (q.0, λ i. head i ∷ q.1 i)) (prefix_snoc xs front y (p.0, tail))
+      let tail : xs ++ y ∷ [] ≡ prefix ++ p.0 = (let e = p.1 in cc) in
+      ⊎_elim (λ e. inl (λ i. sym head i ∷ e i)) (λ q. inr (q.0, λ i. head i ∷ q.1 i)) (prefix_snoc xs prefix y (p.0, tail))
 
   -- where one list is cut at an element in one way and begins with a list in another, the element is in that prefix, or behind it
-  pub cut_in : (front more before after : List X) (x : X) → front ++ more ≡ before ++ x ∷ after → ((rest : List X) × (front ≡ before ++ x ∷ rest)) ⊎ StartsWith before front
+  pub cut_in : (prefix more before after : List X) (x : X) → prefix ++ more ≡ before ++ x ∷ after → ((rest : List X) × (prefix ≡ before ++ x ∷ rest)) ⊎ StartsWith before prefix
   cut_in [] more before after x e = inr (before, refl)
-  cut_in (f ∷ front) more [] after x e = inl (front, (let same : f ≡ x = cc in ap (λ z. z ∷ front) same))
-  cut_in (f ∷ front) more (b ∷ before) after x e =
+  cut_in (f ∷ prefix) more [] after x e = inl (prefix, (let same : f ≡ x = cc in ap (λ z. z ∷ prefix) same))
+  cut_in (f ∷ prefix) more (b ∷ before) after x e =
       let head : f ≡ b = cc in
-      let tail : front ++ more ≡ before ++ x ∷ after = cc in
-      ⊎_elim (λ q. inl (q.0, λ i. head i ∷ q.1 i)) (λ q. inr (q.0, λ i. sym head i ∷ q.1 i)) (cut_in front more before after x tail)
+      let tail : prefix ++ more ≡ before ++ x ∷ after = cc in
+      ⊎_elim (λ q. inl (q.0, λ i. head i ∷ q.1 i)) (λ q. inr (q.0, λ i. sym head i ∷ q.1 i)) (cut_in prefix more before after x tail)
 
 module _ {M O : Type 0} where
   -- how many rows of a number there are, where one of them is pointed out
@@ -90,18 +90,18 @@ module _ {A M O : Type 0} {g : Ghosts A M O} {h : MailGhosts M} where
   -- what serves on behalf of a shell that made as many rows serves on behalf of the one before it
   serves_back : (next : Port M O h) (s u : Shell A M O g h) → u.port.who ≡ s.port.who → KeepsReplay s u → length (made u.port) ≤ length (made s.port) → Serves next u → Serves next s
   serves_back next s u who keeps fewer later = record {
-    each = λ front r rest is own new.
-        let new' : length (made u.port) ≤ length (rows_of u.port.who front) = subst (λ n. length (made u.port) ≤ length (rows_of n front)) (sym who) (omega (arith, fewer, new)) in
-        let i = later.each front r rest is (own ∙ sym who) new' in
+    each = λ prefix r rest is own new.
+        let new' : length (made u.port) ≤ length (rows_of u.port.who prefix) = subst (λ n. length (made u.port) ≤ length (rows_of n prefix)) (sym who) (omega (arith, fewer, new)) in
+        let i = later.each prefix r rest is (own ∙ sym who) new' in
         record { number = i.number; event = i.event; first = i.first; within = i.within; by_table = λ birth rep. i.by_table birth (keeps birth rep) };
   }
 
   -- a shell of whose rows all were seen has made none since
   over_serves : (next : Port M O h) (s : Shell A M O g h) → IsOver next s → Serves next s
   over_serves next s over = record {
-    each = λ front r rest is own new.
+    each = λ prefix r rest is own new.
         let total : length (rows_of s.port.who (seen next)) ≡ length (made s.port) = ap length over.own in
-        absurd (omega (arith, total, ap (λ l. length (rows_of s.port.who l)) is, count_split s.port.who front rest r own, new));
+        absurd (omega (arith, total, ap (λ l. length (rows_of s.port.who l)) is, count_split s.port.who prefix rest r own, new));
   }
 
   module _ (net next : Port M O h) (looked : Looked net next) (first : net.who ≡ 0) (addressed : IsAddressed next) where
@@ -180,16 +180,16 @@ module _ {A M O : Type 0} {g : Ghosts A M O} {h : MailGhosts M} where
       -- this row is a service, and the later ones are
       did_serves : Serves next u → Serves next s
       did_serves later = record {
-        each = λ front r rest is own new.
+        each = λ prefix r rest is own new.
             ⊎_elim
             (λ more.
-            let new' : length (made u.port) ≤ length (rows_of u.port.who front) = subst (λ n. length (made u.port) ≤ length (rows_of n front)) (sym goes.stays.who) (omega (arith, more.1, made_one)) in
-            let i = later.each front r rest is (own ∙ sym goes.stays.who) new' in
-            let back : IsService s next.actors next.limit front r = record { number = i.number; event = i.event; first = i.first; within = i.within; by_table = λ birth rep. i.by_table birth (goes.replay birth rep) } in back)
+            let new' : length (made u.port) ≤ length (rows_of u.port.who prefix) = subst (λ n. length (made u.port) ≤ length (rows_of n prefix)) (sym goes.stays.who) (omega (arith, more.1, made_one)) in
+            let i = later.each prefix r rest is (own ∙ sym goes.stays.who) new' in
+            let back : IsService s next.actors next.limit prefix r = record { number = i.number; event = i.event; first = i.first; within = i.within; by_table = λ birth rep. i.by_table birth (goes.replay birth rep) } in back)
             (λ less.
-            let same = same_place s.port.who front rest place up.0 r row (sym is ∙ stands) own refl (omega (arith, less.1, new, count_place)) in
+            let same = same_place s.port.who prefix rest place up.0 r row (sym is ∙ stands) own refl (omega (arith, less.1, new, count_place)) in
             subst (λ (p : List (Row M O) × Row M O). IsService s next.actors next.limit p.0 p.1) (λ i. (sym same.0 i, sym same.1 i)) service)
-            (leb_tells (suc (length (made s.port))) (length (rows_of s.port.who front)));
+            (leb_tells (suc (length (made s.port))) (length (rows_of s.port.who prefix)));
       }
 
     -- turns that made rows, one after the other
@@ -239,18 +239,18 @@ module _ {A M O : Type 0} {g : Ghosts A M O} {h : MailGhosts M} where
   -- two rounds, one after the other
   serves_then : (net next : Port M O h) (start mid : Shell A M O g h) → Looked net next → GoesByDeliveries start mid → IsOver net mid → Serves net start → Serves next mid → Serves next start
   serves_then net next start mid looked goes over first second = record {
-    each = λ front r rest is own new.
-        ⊎_elim (λ q. earlier front r rest q.0 own new q.1) (λ p. later front r rest is own p)
-        (cut_in (seen net) looked.later.0 front rest r (sym looked.later.1 ∙ is));
+    each = λ prefix r rest is own new.
+        ⊎_elim (λ q. earlier prefix r rest q.0 own new q.1) (λ p. later prefix r rest is own p)
+        (cut_in (seen net) looked.later.0 prefix rest r (sym looked.later.1 ∙ is));
   }
     where
-      earlier : (front : List (Row M O)) (r : Row M O) (rest left : List (Row M O)) → r.who ≡ start.port.who → length (made start.port) ≤ length (rows_of start.port.who front) → seen net ≡ front ++ r ∷ left → IsService start next.actors next.limit front r
-      earlier front r rest left own new is = subst (λ (n : ℕ × ℕ). IsService start n.0 n.1 front r) (λ i. (sym looked.stays.exchange.1 i, sym looked.stays.exchange.2 i)) (first.each front r left is own new)
+      earlier : (prefix : List (Row M O)) (r : Row M O) (rest left : List (Row M O)) → r.who ≡ start.port.who → length (made start.port) ≤ length (rows_of start.port.who prefix) → seen net ≡ prefix ++ r ∷ left → IsService start next.actors next.limit prefix r
+      earlier prefix r rest left own new is = subst (λ (n : ℕ × ℕ). IsService start n.0 n.1 prefix r) (λ i. (sym looked.stays.exchange.1 i, sym looked.stays.exchange.2 i)) (first.each prefix r left is own new)
 
-      later : (front : List (Row M O)) (r : Row M O) (rest : List (Row M O)) → seen next ≡ front ++ r ∷ rest → r.who ≡ start.port.who → StartsWith front (seen net) → IsService start next.actors next.limit front r
-      later front r rest is own p =
-          let new : length (made mid.port) ≤ length (rows_of mid.port.who front) = omega (arith, ap length over.own, count_later mid.port.who front (seen net) p) in
-          let s = second.each front r rest is (own ∙ sym goes.stays.who) new in
+      later : (prefix : List (Row M O)) (r : Row M O) (rest : List (Row M O)) → seen next ≡ prefix ++ r ∷ rest → r.who ≡ start.port.who → StartsWith prefix (seen net) → IsService start next.actors next.limit prefix r
+      later prefix r rest is own p =
+          let new : length (made mid.port) ≤ length (rows_of mid.port.who prefix) = omega (arith, ap length over.own, count_later mid.port.who prefix (seen net) p) in
+          let s = second.each prefix r rest is (own ∙ sym goes.stays.who) new in
           record { number = s.number; event = s.event; first = s.first; within = s.within; by_table = λ birth rep. s.by_table birth (goes.replay birth rep) }
 
   -- the same of all shells

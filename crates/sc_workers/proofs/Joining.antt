@@ -16,10 +16,10 @@ module _ {A M O : Type 0} {g : Ghosts A M O} {h : MailGhosts M} where
       took_both ss ts more after (omega (arith, len)) (λ i e less. p (suc i) e (omega (arith, less))) q k d (omega (arith, lt))
 
   -- of the first ones up to a number, and of the others
-  pub took_parts : (cut : ℕ) (ss front back : List (Shell A M O g h)) → length front ≡ length (take cut ss) → AllTook (take cut ss) front → AllTook (drop cut ss) back → AllTook ss (front ++ back)
-  took_parts cut ss front back len p q = subst (λ l. AllTook l (front ++ back)) (take-append-drop cut ss) (took_both (take cut ss) front (drop cut ss) back len p q)
+  pub took_parts : (cut : ℕ) (ss prefix back : List (Shell A M O g h)) → length prefix ≡ length (take cut ss) → AllTook (take cut ss) prefix → AllTook (drop cut ss) back → AllTook ss (prefix ++ back)
+  took_parts cut ss prefix back len p q = subst (λ l. AllTook l (prefix ++ back)) (take-append-drop cut ss) (took_both (take cut ss) prefix (drop cut ss) back len p q)
 
-  pub parts_length : (cut : ℕ) (ss front back : List (Shell A M O g h)) → length front ≡ length (take cut ss) → length back ≡ length (drop cut ss) → length (front ++ back) ≡ length ss
-  parts_length cut ss front back first second =
+  pub parts_length : (cut : ℕ) (ss prefix back : List (Shell A M O g h)) → length prefix ≡ length (take cut ss) → length back ≡ length (drop cut ss) → length (prefix ++ back) ≡ length ss
+  parts_length cut ss prefix back first second =
       let whole : length (take cut ss ++ drop cut ss) ≡ length ss = ap length (take-append-drop cut ss) in
-      omega (arith, first, second, whole, length-append front back, length-append (take cut ss) (drop cut ss))
+      omega (arith, first, second, whole, length-append prefix back, length-append (take cut ss) (drop cut ss))

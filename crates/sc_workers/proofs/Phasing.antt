@@ -127,9 +127,9 @@ module _ {A M O : Type 0} {g : Ghosts A M O} {h : MailGhosts M} where
       omega (arith, rows_part all n x (omega (arith, lt)) is, sum_by-cons (λ (z : Served A M O g h). z.did) y all, sum_by-cons (λ (z : Served A M O g h). z.did) y (take n all))
 
   pub rows_fit : (all so_far : List (Served A M O g h)) (x : Served A M O g h) (did most : ℕ) → did ≡ rows_of_all so_far → so_far ≡ take (length so_far) all → length so_far < length all → x ≡ get_or all (length so_far) x → rows_of_all all < most → did + x.did < most
-  rows_fit all so_far x did most is front lt at fits =
+  rows_fit all so_far x did most is prefix lt at fits =
       let part = rows_part all (length so_far) x lt at in
-      let same : rows_of_all so_far ≡ rows_of_all (take (length so_far) all) = ap rows_of_all front in
+      let same : rows_of_all so_far ≡ rows_of_all (take (length so_far) all) = ap rows_of_all prefix in
       omega (arith, is, part, same, fits)
 
   -- one more

@@ -1,4 +1,4 @@
-mod Fronts
+mod Prefixes
 mod Held
 mod Kept
 mod Lines

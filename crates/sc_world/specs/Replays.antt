@@ -6,8 +6,8 @@ use Rattle.sc_actor.specs.declared.rows.Row.{Row}
 use Rattle.sc_scenario.specs.declared.scenarios.Scenario.{Scenario}
 use Rattle.sc_replay.specs.Replays.{IsBadRow as IsBadRowOf}
 use Rattle.sc_sound.specs.Players.{system_of, schedule, as_nodes}
-use Rattle.sc_world.specs.declared.replaying.ReplayFault.{ReplayFault}
-use Rattle.sc_world.specs.declared.replaying.ReplayFault.TheVariants.{BadRow, OutOfMemory}
+use Rattle.sc_world.specs.declared.replaying.ReplayError.{ReplayError}
+use Rattle.sc_world.specs.declared.replaying.ReplayError.TheVariants.{BadRow, OutOfMemory}
 use Rattle.sc_chance.specs.Words.{two_words}
 
 -- the row with this number, from 1, is the first that is not lawful for a scenario
@@ -15,6 +15,6 @@ abbrev pub IsBadRow : Scenario → List (Row Mail OrderLine) → ℕ → Type 0
 IsBadRow scenario rows at = IsBadRowOf (system_of as_nodes two_words scenario) (schedule scenario) rows at
 
 -- why rows are not replayed: the named row is the first that is not lawful; out of memory has no condition
-abbrev pub IsFault : Scenario → List (Row Mail OrderLine) → ReplayFault → Type 0
-IsFault scenario rows (BadRow at) = IsBadRow scenario rows at
-IsFault scenario rows OutOfMemory = ⊤
+abbrev pub IsReplayError : Scenario → List (Row Mail OrderLine) → ReplayError → Type 0
+IsReplayError scenario rows (BadRow at) = IsBadRow scenario rows at
+IsReplayError scenario rows OutOfMemory = ⊤

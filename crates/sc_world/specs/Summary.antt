@@ -4,7 +4,7 @@ use Rattle.std.specs.List.{flat_map, insert}
 use Rattle.std.specs.Option.{option_map, option_to_list}
 use Rattle.sc_cmd.specs.declared.links.Route.{Route}
 use Rattle.sc_cmd.specs.declared.orders.OrderLine.{OrderLine}
-use Rattle.sc_cmd.specs.declared.orders.ToldResult.{ToldResult}
+use Rattle.sc_cmd.specs.declared.orders.OrderResult.{OrderResult}
 use Rattle.sc_mail.specs.declared.bodies.Mail.{Mail}
 use Rattle.sc_mail.specs.declared.bodies.MailBody.{MailBody}
 use Rattle.sc_mail.specs.declared.bodies.MailBody.TheVariants.{Told as TellsOrder}
@@ -25,12 +25,12 @@ use Rattle.sc_sound.specs.GroupsOf.{world_at}
 use Rattle.sc_chance.specs.Words.{two_words}
 
 -- the result that a mail reports of the order with a number, if it reports one
-abbrev pub reported_in_mail : ℕ → MailBody → Option ToldResult
+abbrev pub reported_in_mail : ℕ → MailBody → Option OrderResult
 reported_in_mail number (TellsOrder order result) = if order == number then Some result else None
 reported_in_mail number _ = None
 
 -- the result of an order: that of the first of these mails which reports one
-abbrev pub reported_of : ℕ → List Mail → Option ToldResult
+abbrev pub reported_of : ℕ → List Mail → Option OrderResult
 reported_of number [] = None
 reported_of number (mail ∷ more) = either (reported_in_mail number mail.body) (reported_of number more)
 
@@ -40,7 +40,7 @@ is_order (Told node line) = true
 is_order _ = false
 
 -- the results that these mails report of the orders 1 to `count`
-abbrev pub reported_orders : ℕ → List Mail → List (Option ToldResult)
+abbrev pub reported_orders : ℕ → List Mail → List (Option OrderResult)
 reported_orders count sent = map (λ number. reported_of number sent) (numbers_from 1 count)
 
 -- the number of orders that a scenario has

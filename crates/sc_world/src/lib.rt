@@ -10,13 +10,13 @@ mod party;
 mod replaying;
 mod seating;
 mod summing;
-mod telling;
+mod shown;
 mod worlds;
 
 pub use laws::valid_scenarios_can_play;
 pub use party::Party;
-pub use replaying::{ReplayFault, replay_rows};
+pub use replaying::{ReplayError, replay_rows};
 pub use seating::{MOST_ACTOR, births, has_few_requests, schedule};
 pub use summing::{sum_up, summary};
-pub use telling::{decided_log, decided_ring, effective, history};
+pub use shown::{decided_log, decided_ring, effective, history};
 pub use worlds::World;

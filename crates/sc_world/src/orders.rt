@@ -6,7 +6,7 @@ ghost use Rattle.sc_world.specs.Summary.{is_order, reported_in_mail, reported_of
 
 use sc_actor::Row;
 use sc_base::{OutOfMemory, Sequence};
-use sc_cmd::{OrderLine, ToldResult};
+use sc_cmd::{OrderLine, OrderResult};
 use sc_mail::{Mail, MailBody};
 use sc_scenario::SchedLine;
 use std::alloc::Global;
@@ -28,7 +28,7 @@ pub(crate) fn order_count(lines: &[SchedLine]) -> usize
 }
 
 // Keeps a result of an order, if it is the first of that order.
-fn keep(told: &mut [Option<ToldResult>], order: u32, word: ToldResult)
+fn keep(told: &mut [Option<OrderResult>], order: u32, word: OrderResult)
     ensures len { length told.new ≡ length told.old }
     ensures kept { (k : ℕ) → k < length told.old → get_or told.new k None ≡
         either (get_or told.old k None) (if order == k + 1 then Some word else None) }
@@ -43,7 +43,7 @@ fn keep(told: &mut [Option<ToldResult>], order: u32, word: ToldResult)
     told[place] = Some(word);
 }
 
-fn note(told: &mut [Option<ToldResult>], body: &MailBody)
+fn note(told: &mut [Option<OrderResult>], body: &MailBody)
     ensures len { length told.new ≡ length told.old }
     ensures kept { (k : ℕ) → k < length told.old → get_or told.new k None ≡
         either (get_or told.old k None) (reported_in_mail (k + 1) body.now) }
@@ -53,7 +53,7 @@ fn note(told: &mut [Option<ToldResult>], body: &MailBody)
     }
 }
 
-fn note_all(told: &mut [Option<ToldResult>], sent: &[Mail])
+fn note_all(told: &mut [Option<OrderResult>], sent: &[Mail])
     ensures len { length told.new ≡ length told.old }
     ensures kept { (k : ℕ) → k < length told.old → get_or told.new k None ≡
         either (get_or told.old k None) (reported_of (k + 1) sent.now) }
@@ -63,7 +63,7 @@ fn note_all(told: &mut [Option<ToldResult>], sent: &[Mail])
     }
 }
 
-fn note_rows(told: &mut [Option<ToldResult>], rows: &[Row<Mail, OrderLine>])
+fn note_rows(told: &mut [Option<OrderResult>], rows: &[Row<Mail, OrderLine>])
     ensures len { length told.new ≡ length told.old }
     ensures kept { (k : ℕ) → k < length told.old → get_or told.new k None ≡
         either (get_or told.old k None) (reported_of (k + 1) (mails rows.now)) }
@@ -74,7 +74,7 @@ fn note_rows(told: &mut [Option<ToldResult>], rows: &[Row<Mail, OrderLine>])
 }
 
 // Returns a list of `count` orders without a result.
-fn untold(alloc: Global, count: usize) -> Result<Vec<Option<ToldResult>>, OutOfMemory>
+fn unreported(alloc: Global, count: usize) -> Result<Vec<Option<OrderResult>>, OutOfMemory>
     ensures { IfOk result (λ told. told.items ≡ replicate count None) }
 {
     let mut told = Vec::new(alloc);
@@ -90,10 +90,10 @@ pub(crate) fn reported_orders(
     alloc: Global,
     count: usize,
     rows: &[Row<Mail, OrderLine>],
-) -> Result<Sequence<Option<ToldResult>>, OutOfMemory>
+) -> Result<Sequence<Option<OrderResult>>, OutOfMemory>
     ensures { IfOk result (λ told. told ≡ reported_orders count (mails rows.now)) }
 {
-    let mut told = untold(alloc, count)?;
+    let mut told = unreported(alloc, count)?;
     note_rows(&mut told, rows);
     Ok(Sequence::from_vec(told))
 }

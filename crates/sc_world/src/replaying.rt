@@ -5,7 +5,7 @@ ghost use Rattle.sc_actor.specs.Mail.{mails};
 ghost use Rattle.sc_scenario.specs.Valid.{IsValid};
 ghost use Rattle.sc_replay.specs.Replays.{IsReplayed};
 ghost use Rattle.sc_sound.specs.Players.{system_of, schedule, as_nodes};
-ghost use Rattle.sc_world.specs.Replays.{IsFault};
+ghost use Rattle.sc_world.specs.Replays.{IsReplayError};
 ghost use Rattle.sc_world.specs.Worlds.{StandsFor};
 ghost use Rattle.sc_chance.specs.Words.{two_words};
 
@@ -26,21 +26,21 @@ use std::alloc::Global;
 
 /// Why rows are not replayed.
 #[derive(Clone, Copy, Debug, PartialEq, Eq)]
-pub enum ReplayFault {
+pub enum ReplayError {
     /// The rows are no lawful journal: the row with this number, from 1, is the first that is not
     /// lawful.
     BadRow { at: u32 },
     OutOfMemory,
 }
 
-impl From<OutOfMemory> for ReplayFault {
+impl From<OutOfMemory> for ReplayError {
     ghost use Rattle.std.specs.Prelude.{◌≡◌};
-    ghost use Rattle.sc_world.specs.declared.replaying.ReplayFault.TheVariants.{OutOfMemory};
+    ghost use Rattle.sc_world.specs.declared.replaying.ReplayError.TheVariants.{OutOfMemory};
 
-    ghost from_gives = { λ _ fault. fault ≡ OutOfMemory };
+    ghost from_gives = { λ _ error. error ≡ OutOfMemory };
 
-    fn from(_short: OutOfMemory) -> ReplayFault {
-        ReplayFault::OutOfMemory
+    fn from(_short: OutOfMemory) -> ReplayError {
+        ReplayError::OutOfMemory
     }
 }
 
@@ -72,18 +72,18 @@ pub fn replay_rows<'a>(
     alloc: Global,
     scenario: &'a Scenario,
     rows: &'a Journal<Mail, OrderLine>,
-) -> Result<World<'a>, ReplayFault>
+) -> Result<World<'a>, ReplayError>
     requires valid { IsValid scenario.now }
     requires few_rows { length rows.now < 2 ^ 31 }
     requires few_mails { length (mails rows.now) < 2 ^ 31 }
     ensures { MatchResult result (λ world. StandsFor scenario.now rows.now world)
-        (λ fault. IsFault scenario.now rows.now fault) }
+        (λ error. IsReplayError scenario.now rows.now error) }
 {
     valid_journals_are_sound();
     valid_journals_refuse_with_cause();
     let verdict = taken(alloc, scenario, rows.as_slice())?;
     match verdict {
-        Verdict::BadRow { at } => Err(ReplayFault::BadRow { at: at as u32 }),
+        Verdict::BadRow { at } => Err(ReplayError::BadRow { at: at as u32 }),
         Verdict::Lawful(left) => {
             let parties = parties_of(alloc, left.seats)?;
             Ok(World {

@@ -13,7 +13,7 @@ ghost use Rattle.sc_chance.specs.Words.{two_words};
 use crate::counting::{all_asked, deliveries, mail_count};
 use crate::orders::{order_count, reported_orders};
 use crate::party::Party;
-use crate::telling::store_world;
+use crate::shown::store_world;
 use crate::worlds::World;
 use sc_actor::{Journal, Row};
 use sc_base::{OutOfMemory, Sequence};

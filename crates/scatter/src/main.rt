@@ -25,8 +25,8 @@ fn words_of(rt: &HostRuntime) -> Result<Vec<String>, OutOfMemory> {
                 words.push(word)?;
             }
         }
-        Err(fault) => {
-            if fault.kind() == io::ErrorKind::OutOfMemory {
+        Err(error) => {
+            if error.kind() == io::ErrorKind::OutOfMemory {
                 return Err(OutOfMemory);
             }
         }

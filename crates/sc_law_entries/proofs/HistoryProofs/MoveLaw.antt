@@ -53,9 +53,9 @@ all_moved : (request : RequestOf) (world : StoreWorld) (entries : List LogEntry)
 all_moved request world [] is all = is
 all_moved request world (entry ∷ entries) is all = all_moved request (told world entry) entries (moved request world entry is all.0) all.1
 
-moves_prefix : (request : RequestOf) (world : StoreWorld) (front more : List LogEntry) → AllMakeMoves request world (front ++ more) → AllMakeMoves request world front
+moves_prefix : (request : RequestOf) (world : StoreWorld) (prefix more : List LogEntry) → AllMakeMoves request world (prefix ++ more) → AllMakeMoves request world prefix
 moves_prefix request world [] more all = tt
-moves_prefix request world (entry ∷ front) more all = (all.0, moves_prefix request (told world entry) front more all.1)
+moves_prefix request world (entry ∷ prefix) more all = (all.0, moves_prefix request (told world entry) prefix more all.1)
 
 -- what a cut's group holds is what its effective record holds
 pub held_by_cut : (world : StoreWorld) (cut : Cut) → Among cut world.ring → (group : Group) → effective world cut.group ≡ Some group → holdings_in world cut.group ≡ Some (holding_of group)
@@ -76,9 +76,9 @@ moves_make_worlds request bases begin entries all =
       parts = λ cut a arc group is.
           ((last.holds.told cut.group (holding_of group) (held_by_cut (world_of bases entries) cut a group is)).pairs
           ∙ ap (λ x. part_of x (contents_after empty (world_of bases entries).history)) (arc group is));
-      notes = λ front more is name group found. (
-          let first = from_first request bases begin front (moves_prefix request (first_world bases) front more (subst (AllMakeMoves request (first_world bases)) is all)) in
+      notes = λ prefix more is name group found. (
+          let first = from_first request bases begin prefix (moves_prefix request (first_world bases) prefix more (subst (AllMakeMoves request (first_world bases)) is all)) in
           subst (λ (w : StoreWorld). HasNotes w.history group.clients)
-          (sym (ap (world_of bases) is ∙ world_append (first_world bases) front more))
-          (notes_grow (world_of bases front) more group (first.notes name group found)));
+          (sym (ap (world_of bases) is ∙ world_append (first_world bases) prefix more))
+          (notes_grow (world_of bases prefix) more group (first.notes name group found)));
     }

@@ -67,15 +67,15 @@ tells_on request history holdings (move ∷ moves) told may =
     subst (λ es. MatchesHoldings request es (holdings_after_all next moves)) (append_assoc history (entries_by move holdings) (history_by next moves))
     (tells_on request (history ++ entries_by move holdings) next moves (move_kept request history holdings move told may.0) may.1)
 
-may_prefix : (request : RequestOf) (holdings : Holdings) (front more : List Move) → MayMakeAll request holdings (front ++ more) → MayMakeAll request holdings front
+may_prefix : (request : RequestOf) (holdings : Holdings) (prefix more : List Move) → MayMakeAll request holdings (prefix ++ more) → MayMakeAll request holdings prefix
 may_prefix request holdings [] more may = tt
-may_prefix request holdings (move ∷ front) more may = (may.0, may_prefix request (holdings_after move holdings) front more may.1)
+may_prefix request holdings (move ∷ prefix) more may = (may.0, may_prefix request (holdings_after move holdings) prefix more may.1)
 
-history_prefix : (holdings : Holdings) (front more : List Move) → history_by holdings (front ++ more) ≡ history_by holdings front ++ history_by (holdings_after_all holdings front) more
+history_prefix : (holdings : Holdings) (prefix more : List Move) → history_by holdings (prefix ++ more) ≡ history_by holdings prefix ++ history_by (holdings_after_all holdings prefix) more
 history_prefix holdings [] more = refl
-history_prefix holdings (move ∷ front) more =
-    ap (λ es. entries_by move holdings ++ es) (history_prefix (holdings_after move holdings) front more)
-    ∙ sym (append_assoc (entries_by move holdings) (history_by (holdings_after move holdings) front) (history_by (holdings_after_all holdings (move ∷ front)) more))
+history_prefix holdings (move ∷ prefix) more =
+    ap (λ es. entries_by move holdings ++ es) (history_prefix (holdings_after move holdings) prefix more)
+    ∙ sym (append_assoc (entries_by move holdings) (history_by (holdings_after move holdings) prefix) (history_by (holdings_after_all holdings (move ∷ prefix)) more))
 
 -- ---- from a bare start
 
@@ -100,9 +100,9 @@ tells_all request holdings bare moves may = tells_on request [] holdings moves (
 pub moves_make_history : MovesMakeHistories
 moves_make_history request holdings bare moves may = (
   tells_all request holdings bare moves may,
-  λ front more is group holding found client n e. (
-      let first = tells_all request holdings bare front (may_prefix request holdings front more (subst (MayMakeAll request holdings) is may)) in
+  λ prefix more is group holding found client n e. (
+      let first = tells_all request holdings bare prefix (may_prefix request holdings prefix more (subst (MayMakeAll request holdings) is may)) in
       let had = (first.told group holding found).notes client n e in
-      subst (λ es. HasEntry es client n.seq n.reply) (sym (ap (history_by holdings) is ∙ history_prefix holdings front more))
-      (entry_later (history_by holdings front) (history_by (holdings_after_all holdings front) more) client n.seq n.reply had)),
+      subst (λ es. HasEntry es client n.seq n.reply) (sym (ap (history_by holdings) is ∙ history_prefix holdings prefix more))
+      (entry_later (history_by holdings prefix) (history_by (holdings_after_all holdings prefix) more) client n.seq n.reply had)),
 )

@@ -130,10 +130,10 @@ quiet_entries_history request bases begin entries each =
     record {
       world = told_world request bases (world_of bases entries) begin world;
       ring = world.ring;
-      notes = λ front more is name group found. (
-          let first = quiet_world request bases begin front (Each-split (IsQuiet request) front more (subst (Each (IsQuiet request)) is each)).0 in
-          let had = own_notes request bases (world_of bases front) first name group found in
+      notes = λ prefix more is name group found. (
+          let first = quiet_world request bases begin prefix (Each-split (IsQuiet request) prefix more (subst (Each (IsQuiet request)) is each)).0 in
+          let had = own_notes request bases (world_of bases prefix) first name group found in
           subst (λ (w : StoreWorld). HasNotes w.history group.clients)
-          (sym (ap (world_of bases) is ∙ world_append (first_world bases) front more))
-          (notes_grow (world_of bases front) more group had));
+          (sym (ap (world_of bases) is ∙ world_append (first_world bases) prefix more))
+          (notes_grow (world_of bases prefix) more group had));
     }

@@ -279,7 +279,7 @@ log_makes_history group none log keeps =
     let told = recorded_next [] group log keeps (at_start group none) in
     record {
       tells = record { legal = record { replay = told.replay; once = all_pairs (done_by group log) told.apart }; pairs = told.pairs; noted = told.noted; latest = told.latest };
-      calls = calls_of group log;
+      backlog = calls_of group log;
       replies = λ client seq op reply r.
           (let after = state_after group log in
           subst (λ es. HasEntry es client seq reply) (sym (done_push group log (Call client seq op)))

@@ -40,21 +40,21 @@ allowed_stays_allowed sources ahead bases start rows more h name command a =
 -- ---- an entry of a log among the entries
 
 -- the entry of a group after a prefix of its log
-record IsAt (name : Draw) (entries : List LogEntry) (front : List Command) (command : Command) : Type 0 where
+record IsAt (name : Draw) (entries : List LogEntry) (prefix : List Command) (command : Command) : Type 0 where
   first : List LogEntry
   entry : LogEntry
   more : List LogEntry
   are : entries ≡ first ++ entry ∷ more
-  log : log_in name first ≡ front
+  log : log_in name first ≡ prefix
   its : entry.group ≡ name
   is : entry.command ≡ command
 
-none_left : (front : List Command) (command : Command) (later : List Command) → [] ≡ front ++ command ∷ later → ⊥
+none_left : (prefix : List Command) (command : Command) (later : List Command) → [] ≡ prefix ++ command ∷ later → ⊥
 none_left [] command later e = cc
-none_left (c ∷ front) command later e = cc
+none_left (c ∷ prefix) command later e = cc
 
-find_other : (name : Draw) (e : LogEntry) (entries : List LogEntry) (front : List Command) (command : Command) → (e.group ≡ name → ⊥) → IsAt name entries front command → IsAt name (e ∷ entries) front command
-find_other name e entries front command ne at = record {
+find_other : (name : Draw) (e : LogEntry) (entries : List LogEntry) (prefix : List Command) (command : Command) → (e.group ≡ name → ⊥) → IsAt name entries prefix command → IsAt name (e ∷ entries) prefix command
+find_other name e entries prefix command ne at = record {
   first = e ∷ at.first;
   entry = at.entry;
   more = at.more;
@@ -64,8 +64,8 @@ find_other name e entries front command ne at = record {
   is = at.is;
 }
 
-find_entry : (name : Draw) (entries : List LogEntry) (front : List Command) (command : Command) (later : List Command) → log_in name entries ≡ front ++ command ∷ later → IsAt name entries front command
-find_entry name [] front command later e = absurd (none_left front command later e)
+find_entry : (name : Draw) (entries : List LogEntry) (prefix : List Command) (command : Command) (later : List Command) → log_in name entries ≡ prefix ++ command ∷ later → IsAt name entries prefix command
+find_entry name [] prefix command later e = absurd (none_left prefix command later e)
 find_entry name (x ∷ entries) [] command later e = elim (draw_cases x.group name) [
   | inl same ↦ record {
     first = [];
@@ -78,20 +78,20 @@ find_entry name (x ∷ entries) [] command later e = elim (draw_cases x.group na
   }
   | inr ne ↦ find_other name x entries [] command ne (find_entry name entries [] command later (sym (other_first name x entries ne) ∙ e))
 ]
-find_entry name (x ∷ entries) (c ∷ front) command later e = elim (draw_cases x.group name) [
+find_entry name (x ∷ entries) (c ∷ prefix) command later e = elim (draw_cases x.group name) [
   | inl same ↦ (
-      let both = heads x.command c (log_in name entries) (front ++ command ∷ later) (sym (own_first name x entries same) ∙ e) in
-      let at = find_entry name entries front command later both.1 in
+      let both = heads x.command c (log_in name entries) (prefix ++ command ∷ later) (sym (own_first name x entries same) ∙ e) in
+      let at = find_entry name entries prefix command later both.1 in
       record {
         first = x ∷ at.first;
         entry = at.entry;
         more = at.more;
         are = ap (λ es. x ∷ es) at.are;
-        log = own_first name x at.first same ∙ ap (λ cs. x.command ∷ cs) at.log ∙ ap (λ d. d ∷ front) both.0;
+        log = own_first name x at.first same ∙ ap (λ cs. x.command ∷ cs) at.log ∙ ap (λ d. d ∷ prefix) both.0;
         its = at.its;
         is = at.is;
       })
-  | inr ne ↦ find_other name x entries (c ∷ front) command ne (find_entry name entries (c ∷ front) command later (sym (other_first name x entries ne) ∙ e))
+  | inr ne ↦ find_other name x entries (c ∷ prefix) command ne (find_entry name entries (c ∷ prefix) command later (sym (other_first name x entries ne) ∙ e))
 ]
 
 -- ---- what it makes allowed
@@ -118,12 +118,12 @@ module _ (sources : Sources) (bases : List Base) (start : BeginInPlace sources b
       (stays sources bases start (before ++ entry ∷ []) more (subst (AreAllowed sources (first_recorded bases)) (sym again) allowed) name command (allowed_after first rest.0))
 
 pub prefixes_allow : PrefixesAllow
-prefixes_allow sources ahead bases start rows h base a front entry later is name command makes =
+prefixes_allow sources ahead bases start rows h base a prefix entry later is name command makes =
     let k = deciding_rows sources ahead bases start rows h in
     let b = k.born base (group_found ahead bases rows base a) in
-    let at = find_entry base.core.id b.rest front entry later (b.log_is ∙ is) in
+    let at = find_entry base.core.id b.rest prefix entry later (b.log_is ∙ is) in
     let before = b.first ++ at.first in
-    let group : Group = state_after (group_of base) front in
+    let group : Group = state_after (group_of base) prefix in
     let whole : entries_at ahead bases rows ≡ before ++ at.entry ∷ at.more = b.are ∙ ap (λ es. b.first ++ es) at.are ∙ sym (append_assoc b.first at.first (at.entry ∷ at.more)) in
     let there : named_group base.core.id (world_of bases before).groups ≡ Some group =
     ap (λ (w : StoreWorld). named_group base.core.id w.groups) (world_append (first_world bases) b.first at.first)
@@ -136,12 +136,12 @@ prefixes_allow sources ahead bases start rows h base a front entry later is name
 -- ---- what a group makes allowed as it stands
 
 pub states_allow : StatesAllow
-states_allow sources ahead bases start rows h base a front later is name command stands =
+states_allow sources ahead bases start rows h base a prefix later is name command stands =
     let k = deciding_rows sources ahead bases start rows h in
     let b = k.born base (group_found ahead bases rows base a) in
-    let at = parts_at base.core.id b.rest front later (b.log_is ∙ is) in
+    let at = parts_at base.core.id b.rest prefix later (b.log_is ∙ is) in
     let before = b.first ++ at.first in
-    let group : Group = state_after (group_of base) front in
+    let group : Group = state_after (group_of base) prefix in
     let whole : entries_at ahead bases rows ≡ before ++ at.rest = b.are ∙ ap (λ es. b.first ++ es) at.are ∙ sym (append_assoc b.first at.first at.rest) in
     let there : named_group base.core.id (world_of bases before).groups ≡ Some group =
     ap (λ (w : StoreWorld). named_group base.core.id w.groups) (world_append (first_world bases) b.first at.first)

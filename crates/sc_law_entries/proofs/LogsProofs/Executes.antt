@@ -72,13 +72,13 @@ module _ (sources : Sources) (w : StoryWorld) (k : KeptWorld sources.owner w) (g
   mine_cut : (e : Group) → Old gs ys g ≡ Some e → HasCut w.store s.core.id
   mine_cut e old = subst (HasCut w.store) (sym named) (cut_by g e old)
 
-  told_outcome : (tx : Draw) → decision tx w.store.transactions ≡ outcome_of (ys tx)
-  told_outcome tx = decision_is w.store.transactions ys k.told tx
+  outcome_sent : (tx : Draw) → decision tx w.store.transactions ≡ outcome_of (ys tx)
+  outcome_sent tx = decision_is w.store.transactions ys k.told tx
 
   uncommitted : (tx : Draw) (y : Story) → ys tx ≡ Some y → ((o : Outcome) → y.outcome ≡ Some o → (o ≡ Abort → ⊥) → ⊥) → IsUncommitted w.store tx
   uncommitted tx y there never o e =
       elim (cases_Bool (is_commit o)) [
-        | inl c ↦ absurd (never o (sym (ap outcome_of there) ∙ sym (told_outcome tx) ∙ e) (abort_false o c))
+        | inl c ↦ absurd (never o (sym (ap outcome_of there) ∙ sym (outcome_sent tx) ∙ e) (abort_false o c))
         | inr c ↦ c
       ]
 
@@ -239,7 +239,7 @@ module _ (sources : Sources) (w : StoryWorld) (k : KeptWorld sources.owner w) (g
 
   may_finish : (tx : Draw) (outcome : Outcome) (y : Story) → ys tx ≡ Some y → y.outcome ≡ Some outcome → MayFinish w.store s tx outcome
   may_finish tx outcome y there out = record {
-    decided = λ e. told_outcome tx ∙ ap outcome_of there ∙ out;
+    decided = λ e. outcome_sent tx ∙ ap outcome_of there ∙ out;
     cut = λ e at gift q. finish_cut tx y at gift there (out ∙ ap Some q) s.core.lock refl e;
   }
 

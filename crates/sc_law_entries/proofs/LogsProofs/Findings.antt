@@ -56,11 +56,11 @@ module _ (sources : Sources) (ahead : Ahead) (bases : List Base) (start : BeginI
     are_found = record {
       first = λ base a. found_group ahead bases rows k.one k.near base (0, a);
       closed = λ base a child c. (let (depth, there) = group_found ahead bases rows base a in found_group ahead bases rows k.one k.near child (suc depth, (base, there, c)));
-      prefixes = λ base a front later is child c. (
+      prefixes = λ base a prefix later is child c. (
           let (depth, there) = group_found ahead bases rows base a in
-          let all = ap (children_of (group_of base)) is ∙ children_append (group_of base) front later in
+          let all = ap (children_of (group_of base)) is ∙ children_append (group_of base) prefix later in
           found_group ahead bases rows k.one k.near child
-          (suc depth, (base, there, subst (Among child) (sym all) (Among-left child (children_of (group_of base) front) (children_of (state_after (group_of base) front) later) c))));
+          (suc depth, (base, there, subst (Among child) (sym all) (Among-left child (children_of (group_of base) prefix) (children_of (state_after (group_of base) prefix) later) c))));
       all = found_group ahead bases rows k.one k.near;
       only = group_found ahead bases rows;
       apart = λ one other a b same. k.one one other (group_found ahead bases rows one a) (group_found ahead bases rows other b) same;
@@ -105,9 +105,9 @@ module _ (sources : Sources) (ahead : Ahead) (bases : List Base) (start : BeginI
             legal = m.legal;
             parts = m.parts;
           };
-          notes = λ base a front later is. (
+          notes = λ base a prefix later is. (
               let b = k.born base (group_found ahead bases rows base a) in
-              prefixes_answer bases entries m.notes b.first b.rest b.are base.core.id (group_of base) b.there front later (b.log_is ∙ is));
+              prefixes_answer bases entries m.notes b.first b.rest b.are base.core.id (group_of base) b.there prefix later (b.log_is ∙ is));
         }
 
     pub old_or_newborn : (row : Row Mail OrderLine) → DecidesInTurn sources ahead bases rows row → AreOldOrNew ahead bases rows row

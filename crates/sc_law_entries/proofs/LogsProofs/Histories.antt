@@ -10,14 +10,14 @@ use Rattle.sc_cmd.specs.declared.orders.OrderLine.{OrderLine}
 use Rattle.sc_mail.specs.declared.bodies.Mail.{Mail}
 use Rattle.sc_actor.specs.declared.rows.Row.{Row}
 use Rattle.sc_ideal.specs.declared.Entry.{Entry}
-use Rattle.sc_sound.specs.Definitions.{Ahead, groups_at, entries_by_rows, history_at, decided_log, Continues, told_from}
+use Rattle.sc_sound.specs.Definitions.{Ahead, groups_at, entries_by_rows, history_at, decided_log, Continues, row_of_entry_from}
 use Rattle.sc_log_entries.specs.Definitions.{StoreWorld}
 use Rattle.sc_law_entries.specs.ring.Definitions.{Sources, BeginInPlace}
 use Rattle.sc_law_entries.specs.logs.Definitions.{Rows, IsFound, added_by, DecidesInTurn, DecideInTurn, HistoryIsDecided, DecidingRowsStay}
 use Rattle.sc_law_entries.proofs.LogsProofs.Generations.{log_on, still_descends, group_found, found_group, known_by_name}
 use Rattle.sc_law_entries.proofs.LogsProofs.Told.{Told, first_rows, Decides}
 use Rattle.sc_law_entries.proofs.LogsProofs.Pushes.{d, world_next}
-use Rattle.sc_law_entries.proofs.LogsProofs.Parts.{in_turn_parts, entries_parts, told_stays, get_front, get_behind}
+use Rattle.sc_law_entries.proofs.LogsProofs.Parts.{in_turn_parts, entries_parts, told_stays, get_prefix, get_behind}
 use Rattle.sc_law_entries.proofs.LogsProofs.Findings.{found_turn, push_turn, deciding_rows}
 
 -- ---- with more rows
@@ -67,16 +67,16 @@ module _ (sources : Sources) (ahead : Ahead) (bases : List Base) (start : BeginI
 
   -- an entry of the history after these rows is decided by one of the later ones
   record IsToldFrom (before rows : Rows) (place : ℕ) (entry : Entry) : Type 0 where
-    front : Rows
+    prefix : Rows
     row : Row Mail OrderLine
     later : Rows
-    are : before ++ rows ≡ front ++ row ∷ later
-    is_told : told_from ahead bases place before rows ≡ Some (length front + 1)
-    not_before : length (history_at ahead bases front) ≤ place
-    after : place < length (history_at ahead bases (front ++ row ∷ []))
+    are : before ++ rows ≡ prefix ++ row ∷ later
+    is_told : row_of_entry_from ahead bases place before rows ≡ Some (length prefix + 1)
+    not_before : length (history_at ahead bases prefix) ≤ place
+    after : place < length (history_at ahead bases (prefix ++ row ∷ []))
     base : Base
-    stands : Among base (groups_at ahead bases front)
-    call : Among (Call entry.client entry.seq entry.op) (added_by ahead front row base)
+    stands : Among base (groups_at ahead bases prefix)
+    call : Among (Call entry.client entry.seq entry.op) (added_by ahead prefix row base)
 
   told_now : (before rows : Rows) (row : Row Mail OrderLine) → (k : Told sources ahead bases before) → (turn : DecidesInTurn sources ahead bases before row) → DecideInTurn sources ahead bases (before ++ row ∷ []) rows
       → (place : ℕ) (entry : Entry) → length (history_at ahead bases before) ≤ place → place < length (history_at ahead bases (before ++ row ∷ [])) → slice_get (history_at ahead bases (before ++ row ∷ rows)) place ≡ Some entry
@@ -87,15 +87,15 @@ module _ (sources : Sources) (ahead : Ahead) (bases : List Base) (start : BeginI
       let decides = decided before k row turn in
       let (later, is) = history_later next rows (push_turn sources ahead bases start before k row turn) h in
       let whole : history_at ahead bases (before ++ row ∷ rows) ≡ told ++ later = ap (history_at ahead bases) (sym (append_assoc before (row ∷ []) rows)) ∙ is in
-      let here = get_front told later place entry lt (subst (λ es. slice_get es place ≡ Some entry) whole at) in
+      let here = get_prefix told later place entry lt (subst (λ es. slice_get es place ≡ Some entry) whole at) in
       let new = get_behind (history_at ahead bases before) decides.news place entry le (subst (λ es. slice_get es place ≡ Some entry) (history_on before k row turn) here) in
-      let (base, f, call) = decides.calls entry new in
+      let (base, f, call) = decides.backlog entry new in
       record {
-        front = before;
+        prefix = before;
         row = row;
         later = rows;
         are = refl;
-        is_told = cond-true (nat_lt place (length told)) (Some (length before + 1)) (told_from ahead bases place next rows) (lt-ltb place (length told) lt);
+        is_told = cond-true (nat_lt place (length told)) (Some (length before + 1)) (row_of_entry_from ahead bases place next rows) (lt-ltb place (length told) lt);
         not_before = le;
         after = lt;
         base = base;
@@ -116,11 +116,11 @@ module _ (sources : Sources) (ahead : Ahead) (bases : List Base) (start : BeginI
         | inr ge ↦ (
             let t = told_place next rows (push_turn sources ahead bases start before k row h.0) h.1 place entry (omega (arith, ge)) (subst (λ b. slice_get (history_at ahead bases b) place ≡ Some entry) (sym (append_assoc before (row ∷ []) rows)) at) in
             record {
-              front = t.front;
+              prefix = t.prefix;
               row = t.row;
               later = t.later;
               are = sym (append_assoc before (row ∷ []) rows) ∙ t.are;
-              is_told = cond-false (nat_lt place (length told)) (Some (length before + 1)) (told_from ahead bases place next rows) (le-ltb place (length told) (omega (arith, ge))) ∙ t.is_told;
+              is_told = cond-false (nat_lt place (length told)) (Some (length before + 1)) (row_of_entry_from ahead bases place next rows) (le-ltb place (length told) (omega (arith, ge))) ∙ t.is_told;
               not_before = t.not_before;
               after = t.after;
               base = t.base;
@@ -135,7 +135,7 @@ pub history_is_decided : HistoryIsDecided
 history_is_decided sources ahead bases start rows h place entry at =
     let t = told_place sources ahead bases start [] rows (first_rows sources ahead bases start) h place entry (omega arith) at in
     record {
-      before = t.front;
+      before = t.prefix;
       row = t.row;
       later = t.later;
       are = t.are;

@@ -7,7 +7,7 @@ use Rattle.sc_cmd.specs.declared.cores.Base.{Base}
 use Rattle.sc_cmd.specs.declared.orders.OrderLine.{OrderLine}
 use Rattle.sc_mail.specs.declared.bodies.Mail.{Mail}
 use Rattle.sc_actor.specs.declared.rows.Row.{Row}
-use Rattle.sc_sound.specs.Definitions.{Ahead, entries_by_row, entries_by_rows, history_at, told_from}
+use Rattle.sc_sound.specs.Definitions.{Ahead, entries_by_row, entries_by_rows, history_at, row_of_entry_from}
 use Rattle.sc_law_entries.specs.ring.Definitions.{Sources}
 use Rattle.sc_law_entries.specs.logs.Definitions.{Rows, DecidesInTurn, DecideInTurn, RowsGoOn}
 
@@ -38,23 +38,23 @@ entries_parts ahead bases before (r ∷ rows) more =
     ∙ sym (append_assoc here mid (entries_by_rows ahead bases ((before ++ r ∷ []) ++ rows) more))
     ∙ ap (λ b. (here ++ mid) ++ entries_by_rows ahead bases b more) (append_assoc before (r ∷ []) rows)
 
-pub told_stays : (ahead : Ahead) (bases : List Base) (place at : ℕ) (before rows more : Rows) → told_from ahead bases place before rows ≡ Some at → told_from ahead bases place before (rows ++ more) ≡ Some at
+pub told_stays : (ahead : Ahead) (bases : List Base) (place at : ℕ) (before rows more : Rows) → row_of_entry_from ahead bases place before rows ≡ Some at → row_of_entry_from ahead bases place before (rows ++ more) ≡ Some at
 told_stays ahead bases place at before [] more e = cc
 told_stays ahead bases place at before (r ∷ rows) more e =
     let now = nat_lt place (length (history_at ahead bases (before ++ r ∷ []))) in
     elim (cases_Bool now) [
-      | inl t ↦ cond-true now (Some (length before + 1)) (told_from ahead bases place (before ++ r ∷ []) (rows ++ more)) t ∙ sym (cond-true now (Some (length before + 1)) (told_from ahead bases place (before ++ r ∷ []) rows) t) ∙ e
-      | inr f ↦ cond-false now (Some (length before + 1)) (told_from ahead bases place (before ++ r ∷ []) (rows ++ more)) f
-          ∙ told_stays ahead bases place at (before ++ r ∷ []) rows more (sym (cond-false now (Some (length before + 1)) (told_from ahead bases place (before ++ r ∷ []) rows) f) ∙ e)
+      | inl t ↦ cond-true now (Some (length before + 1)) (row_of_entry_from ahead bases place (before ++ r ∷ []) (rows ++ more)) t ∙ sym (cond-true now (Some (length before + 1)) (row_of_entry_from ahead bases place (before ++ r ∷ []) rows) t) ∙ e
+      | inr f ↦ cond-false now (Some (length before + 1)) (row_of_entry_from ahead bases place (before ++ r ∷ []) (rows ++ more)) f
+          ∙ told_stays ahead bases place at (before ++ r ∷ []) rows more (sym (cond-false now (Some (length before + 1)) (row_of_entry_from ahead bases place (before ++ r ∷ []) rows) f) ∙ e)
     ]
 
 -- ---- places of lists
 
 -- a place of the prefix
-pub get_front : {X : Type 0} (xs more : List X) (place : ℕ) (x : X) → place < length xs → slice_get (xs ++ more) place ≡ Some x → slice_get xs place ≡ Some x
-get_front [] more place x lt e = absurd (omega (arith, lt))
-get_front (y ∷ xs) more zero x lt e = e
-get_front (y ∷ xs) more (suc place) x lt e = get_front xs more place x (omega (arith, lt)) e
+pub get_prefix : {X : Type 0} (xs more : List X) (place : ℕ) (x : X) → place < length xs → slice_get (xs ++ more) place ≡ Some x → slice_get xs place ≡ Some x
+get_prefix [] more place x lt e = absurd (omega (arith, lt))
+get_prefix (y ∷ xs) more zero x lt e = e
+get_prefix (y ∷ xs) more (suc place) x lt e = get_prefix xs more place x (omega (arith, lt)) e
 
 -- and one behind it
 pub get_behind : {X : Type 0} (xs more : List X) (place : ℕ) (x : X) → length xs ≤ place → slice_get (xs ++ more) place ≡ Some x → Among x more

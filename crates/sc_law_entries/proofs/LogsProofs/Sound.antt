@@ -16,7 +16,7 @@ use Rattle.sc_ideal.specs.Definitions.{HasEntry}
 use Rattle.sc_ideal.specs.declared.Entry.{Entry}
 use Rattle.sc_machine_table.specs.Definitions.{Group, group_of, state_after}
 use Rattle.sc_paxos_law.proofs.Lemmas.{Among-left}
-use Rattle.sc_sound.specs.Definitions.{Ahead, entries_at, history_at, IsRequest, issue_row, AnswersRequests, told_row, IsTimely, KeepsRealTime, IsSound}
+use Rattle.sc_sound.specs.Definitions.{Ahead, entries_at, history_at, IsRequest, issue_row, AnswersRequests, row_of_entry, IsTimely, KeepsRealTime, IsSound}
 use Rattle.sc_scenario.specs.declared.scenarios.Scenario.{Scenario}
 use Rattle.sc_law_entries.specs.history.Definitions.{BeginBare}
 use Rattle.sc_log_entries.specs.Definitions.{CoverThroughout}
@@ -80,11 +80,11 @@ module _ (law : AllowedEntriesMakeOneMap) (sources : Sources) (ahead : Ahead) (s
     entry_then : HasEntry then client seq reply
     entry_then =
         let c = Call client seq d.op in
-        let group = state_after (group_of d.base) d.front in
+        let group = state_after (group_of d.base) d.prefix in
         let n = replied_noted group client seq d.op reply d.replied in
         let map_then = entries_make_one_map law sources ahead bases start bare d.before (first_part d.before d.row d.later d.are) in
-        let found : get (state_after (group_of d.base) (d.front ++ c ∷ [])).clients client ≡ Some n.noted = ap (λ (g : Group). get g.clients client) (state_append (group_of d.base) d.front (c ∷ [])) ∙ n.found in
-        let h = map_then.notes d.base d.stands (d.front ++ c ∷ []) d.rest (d.log ∙ sym (append_assoc d.front (c ∷ []) d.rest)) client n.noted found in
+        let found : get (state_after (group_of d.base) (d.prefix ++ c ∷ [])).clients client ≡ Some n.noted = ap (λ (g : Group). get g.clients client) (state_append (group_of d.base) d.prefix (c ∷ [])) ∙ n.found in
+        let h = map_then.notes d.base d.stands (d.prefix ++ c ∷ []) d.rest (d.log ∙ sym (append_assoc d.prefix (c ∷ []) d.rest)) client n.noted found in
         record { entry = h.entry; stands = h.stands; client_is = h.client_is; seq_is = h.seq_is ∙ n.seq_is; reply_is = h.reply_is ∙ n.reply_is }
 
     goes_on : told ≡ then ++ (part_stays d.before d.row d.later d.are).history.0
@@ -103,7 +103,7 @@ module _ (law : AllowedEntriesMakeOneMap) (sources : Sources) (ahead : Ahead) (s
         }
 
     -- which is decided before the row that takes the reply
-    before_it : (place : ℕ) (entry : Entry) → slice_get told place ≡ Some entry → entry.client ≡ client → entry.seq ≡ seq → (at : ℕ) → told_row ahead bases place rows ≡ Some at → at < answered
+    before_it : (place : ℕ) (entry : Entry) → slice_get told place ≡ Some entry → entry.client ≡ client → entry.seq ≡ seq → (at : ℕ) → row_of_entry ahead bases place rows ≡ Some at → at < answered
     before_it place entry there who number at is_at =
         let h = entry_then in
         let s = part_stays d.before d.row d.later d.are in
@@ -111,8 +111,8 @@ module _ (law : AllowedEntriesMakeOneMap) (sources : Sources) (ahead : Ahead) (s
         let at_now : slice_get told other ≡ Some h.entry = subst (λ es. slice_get es other ≡ Some h.entry) (sym goes_on) (get_left then s.history.0 other h.entry at_then) in
         let same = one_place told map.map.legal.once place other entry h.entry there at_now (who ∙ sym h.client_is) (number ∙ sym h.seq_is) in
         let t = history_is_decided sources ahead bases start d.before (first_part d.before d.row d.later d.are) other h.entry at_then in
-        let now : told_row ahead bases other rows ≡ Some (length t.before + 1) = ap (told_row ahead bases other) d.are ∙ s.told other (length t.before + 1) t.is_told in
-        let both : Some at ≡ Some (length t.before + 1) = sym is_at ∙ ap (λ p. told_row ahead bases p rows) same ∙ now in
+        let now : row_of_entry ahead bases other rows ≡ Some (length t.before + 1) = ap (row_of_entry ahead bases other) d.are ∙ s.told other (length t.before + 1) t.is_told in
+        let both : Some at ≡ Some (length t.before + 1) = sym is_at ∙ ap (λ p. row_of_entry ahead bases p rows) same ∙ now in
         let at_is : at ≡ length t.before + 1 = cc in
         let size = ap length t.are ∙ length-append t.before (t.row ∷ t.later) in
         let taken = d.taken in

@@ -9,7 +9,7 @@ use Rattle.sc_base.specs.Definitions.{Among}
 use Rattle.sc_cmd.specs.declared.cores.Base.{Base}
 use Rattle.sc_ideal.specs.Definitions.{AreApart}
 use Rattle.sc_ideal.specs.declared.Entry.{Entry}
-use Rattle.sc_sound.specs.Definitions.{Ahead, history_at, issues, issued_from, issue_row, told_from}
+use Rattle.sc_sound.specs.Definitions.{Ahead, history_at, issues, issued_from, issue_row, row_of_entry_from}
 use Rattle.sc_law_entries.specs.logs.Definitions.{Rows}
 
 -- an element of a list has a place in it
@@ -36,21 +36,21 @@ one_place entries once place other one another at there who number =
 
 -- ---- the rows that decide
 
-past_rows : (ahead : Ahead) (bases : List Base) (place : ℕ) (before rows : Rows) (at : ℕ) → told_from ahead bases place before rows ≡ Some at → length before + 1 ≤ at
+past_rows : (ahead : Ahead) (bases : List Base) (place : ℕ) (before rows : Rows) (at : ℕ) → row_of_entry_from ahead bases place before rows ≡ Some at → length before + 1 ≤ at
 past_rows ahead bases place before [] at e = cc
 past_rows ahead bases place before (row ∷ rows) at e =
-    cond_both (nat_lt place (length (history_at ahead bases (before ++ row ∷ [])))) (Some (length before + 1)) (told_from ahead bases place (before ++ row ∷ []) rows) (λ o. o ≡ Some at → length before + 1 ≤ at)
+    cond_both (nat_lt place (length (history_at ahead bases (before ++ row ∷ [])))) (Some (length before + 1)) (row_of_entry_from ahead bases place (before ++ row ∷ []) rows) (λ o. o ≡ Some at → length before + 1 ≤ at)
     (λ _ k. (let same : length before + 1 ≡ at = cc in omega (arith, same)))
     (λ _ k. (let later = past_rows ahead bases place (before ++ row ∷ []) rows at k in let longer = length_push before row in omega (arith, later, longer))) e
 
 -- an earlier entry is decided no later
-pub decided_in_order : (ahead : Ahead) (bases : List Base) (place other : ℕ) → place ≤ other → (before rows : Rows) (at then : ℕ) → told_from ahead bases place before rows ≡ Some at → told_from ahead bases other before rows ≡ Some then → at ≤ then
+pub decided_in_order : (ahead : Ahead) (bases : List Base) (place other : ℕ) → place ≤ other → (before rows : Rows) (at then : ℕ) → row_of_entry_from ahead bases place before rows ≡ Some at → row_of_entry_from ahead bases other before rows ≡ Some then → at ≤ then
 decided_in_order ahead bases place other le before [] at then first second = cc
 decided_in_order ahead bases place other le before (row ∷ rows) at then first second =
     let told = history_at ahead bases (before ++ row ∷ []) in
     elim (cases_Bool (nat_lt place (length told))) [
       | inl t ↦ (
-          let now : Some (length before + 1) ≡ Some at = sym (cond-true (nat_lt place (length told)) (Some (length before + 1)) (told_from ahead bases place (before ++ row ∷ []) rows) t) ∙ first in
+          let now : Some (length before + 1) ≡ Some at = sym (cond-true (nat_lt place (length told)) (Some (length before + 1)) (row_of_entry_from ahead bases place (before ++ row ∷ []) rows) t) ∙ first in
           let same : length before + 1 ≡ at = cc in
           let past = past_rows ahead bases other before (row ∷ rows) then second in
           omega (arith, same, past))
@@ -58,8 +58,8 @@ decided_in_order ahead bases place other le before (row ∷ rows) at then first 
           let out = ltb-false place (length told) f in
           let later = le-ltb other (length told) (omega (arith, out, le)) in
           decided_in_order ahead bases place other le (before ++ row ∷ []) rows at then
-          (sym (cond-false (nat_lt place (length told)) (Some (length before + 1)) (told_from ahead bases place (before ++ row ∷ []) rows) f) ∙ first)
-          (sym (cond-false (nat_lt other (length told)) (Some (length before + 1)) (told_from ahead bases other (before ++ row ∷ []) rows) later) ∙ second))
+          (sym (cond-false (nat_lt place (length told)) (Some (length before + 1)) (row_of_entry_from ahead bases place (before ++ row ∷ []) rows) f) ∙ first)
+          (sym (cond-false (nat_lt other (length told)) (Some (length before + 1)) (row_of_entry_from ahead bases other (before ++ row ∷ []) rows) later) ∙ second))
     ]
 
 -- ---- the row that issues

@@ -138,7 +138,7 @@ module _ (sources : Sources) (ahead : Ahead) (bases : List Base) (start : BeginI
             → ((was : Group) × (named_group name world.groups ≡ Some was)) ⊎ ((child : Base) × IsNew child × (child.core.id ≡ name))
         pub news : List Entry
         pub history : (world_after world (entries_from turn.name slot cs)).history ≡ world.history ++ news
-        pub calls : (entry : Entry) → Among entry news → (base : Base) × IsFound ahead bases before base × Among (Call entry.client entry.seq entry.op) (added base)
+        pub backlog : (entry : Entry) → Among entry news → (base : Base) × IsFound ahead bases before base × Among (Call entry.client entry.seq entry.op) (added base)
 
       -- a group of another name gets nothing, and names no child
       pub others_idle : (base : Base) → IsFound ahead bases before base → (base.core.id ≡ turn.name → ⊥) → added base ≡ []
@@ -166,7 +166,7 @@ module _ (sources : Sources) (ahead : Ahead) (bases : List Base) (start : BeginI
           who = λ name it e. inl (it, e);
           news = [];
           history = sym (append-nil world.history);
-          calls = λ entry a. absurd a;
+          backlog = λ entry a. absurd a;
         }
 
       -- ---- for one group
@@ -207,7 +207,7 @@ module _ (sources : Sources) (ahead : Ahead) (bases : List Base) (start : BeginI
           who = λ name it e. elim (births.who name it e) [ inl was ↦ inl was | inr (child, a, same) ↦ inr (child, (group, found, a), same) ];
           news = done_by (decided_state ahead group before) (added group);
           history = births.history;
-          calls = λ entry a. (group, found, calls_of (decided_state ahead group before) (added group) entry a);
+          backlog = λ entry a. (group, found, calls_of (decided_state ahead group before) (added group) entry a);
         }
 
       by_birth : (o : Option Base) → birth_at ahead bases before turn.name ≡ o → Decides

@@ -1,7 +1,7 @@
 -- What an executed entry leaves in a replica, what is sent for it, and the children that it makes.
 use Rattle.std.proofs.Common.{ℕ, ◌&&◌, nat_lt, eqb, Bool, true, cond, List, [], ◌∷◌, ◌++◌, Option, Some, None}
 use Rattle.sc_base.specs.Definitions.{Each, is_member, least_of}
-use Rattle.sc_node_table.specs.Values.{Draw, Command, Call, Join, Leave, Base, Effect, Route, ToldResult, AnswerBody, Answer, Learn, Learnt}
+use Rattle.sc_node_table.specs.Values.{Draw, Command, Call, Join, Leave, Base, Effect, Route, OrderResult, AnswerBody, Answer, Learn, Learnt}
 use Rattle.sc_cmd.specs.declared.effects.Effect.TheVariants as Was
 use Rattle.sc_cmd.specs.Definitions.{result_of}
 use Rattle.sc_mail.specs.declared.bodies.AnswerBody.TheVariants as Says
@@ -9,7 +9,7 @@ use Rattle.sc_machine_table.specs.Definitions.{child_by, applied}
 use Rattle.sc_paxos_words.proofs.Lemmas.{Each-append}
 use Rattle.sc_paxos_words.specs.Definitions.{without_flight_at, LogState, next_of}
 use Rattle.sc_node_table.specs.declared.Before.{Before}
-use Rattle.sc_node_table.specs.Definitions.{at_slot, without_slot, ReplicaState, Place, Executed, childless, name_of, next, members, sent_others, order_number, elected, stopped, with_entry, entered, answer_of, told_call, order_result, told_effect, announced, learnt_to, welcomed, landed, left_gone, left, is_among, looked_for, looked, executed_one, child_at, next_child, has_room, next_ready, ending, executed_ready, executed, before_of, spoken}
+use Rattle.sc_node_table.specs.Definitions.{at_slot, without_slot, ReplicaState, Place, Executed, childless, name_of, next, members, sent_others, order_number, elected, stopped, with_entry, entered, answer_of, answered_or_put_back, order_result, effect_reported, announced, learnt_to, welcomed, landed, left_gone, left, is_among, looked_for, looked, executed_one, child_at, next_child, has_room, next_ready, ending, executed_ready, executed, before_of, spoken}
 use Rattle.sc_law_entries.specs.names.Definitions.{Opt, CoreNames, CommandNames, EffectNames, AnswerNames, ResultNames, ReplicaNames}
 use Rattle.sc_law_entries.proofs.NamesProofs.Lists.{opt_slot, slot_without, flight_without}
 use Rattle.sc_law_entries.proofs.NamesProofs.Machine.{applied_names, child_by_names}
@@ -38,7 +38,7 @@ module _ (K : Draw → Type 0) where
   unfolding entered
   entered_names command r c k =
       forgotten_names K (next r) _
-      (record { core = (applied_names K r.group command k.core c).core; log = entry_names command r.log c k.log; accepted = k.accepted; reports = k.reports; flights = k.flights; ready = k.ready; acts = k.acts; calls = k.calls })
+      (record { core = (applied_names K r.group command k.core c).core; log = entry_names command r.log c k.log; accepted = k.accepted; reports = k.reports; flights = k.flights; ready = k.ready; acts = k.acts; backlog = k.backlog })
 
   answer_names : (effect : Effect) → EffectNames K effect → Opt (AnswerNames K) (answer_of effect)
   answer_names (Was.Done reply) e = tt
@@ -48,8 +48,8 @@ module _ (K : Draw → Type 0) where
   answer_names (Was.Gone into) e = e
   answer_names _ e = tt
 
-  call_names : (answer : Option AnswerBody) (command : Command) (place : Place) → Opt (AnswerNames K) answer → F place → F (told_call answer command place)
-  unfolding told_call
+  call_names : (answer : Option AnswerBody) (command : Command) (place : Place) → Opt (AnswerNames K) answer → F place → F (answered_or_put_back answer command place)
+  unfolding answered_or_put_back
   call_names (Some answer) (Call client seq op) (r, mails) a f = (f.0, sent_names K r.me _ (Answer (name_of r) seq answer) mails (f.0.core.id, a) f.1)
   call_names None (Call client seq op) (r, mails) a f = (back_names K (Call client seq op) r tt f.0, f.1)
   call_names None _ place a f = f
@@ -64,16 +64,16 @@ module _ (K : Draw → Type 0) where
   order_result_names (Leave node order) effect e = result_names effect e
   order_result_names _ effect e = tt
 
-  told_effect_names : (result : Option ToldResult) (command : Command) (place : Place) → Opt (ResultNames K) result → F place → F (told_effect result command place)
-  unfolding told_effect
-  told_effect_names None command place r f = f
-  told_effect_names (Some result) command (replica, mails) r f = (f.0, reported_names K replica.me (order_number command) result mails r f.1)
+  effect_reported_names : (result : Option OrderResult) (command : Command) (place : Place) → Opt (ResultNames K) result → F place → F (effect_reported result command place)
+  unfolding effect_reported
+  effect_reported_names None command place r f = f
+  effect_reported_names (Some result) command (replica, mails) r f = (f.0, reported_names K replica.me (order_number command) result mails r f.1)
 
   announced_names : (counted : Bool) (effect : Effect) (command : Command) (place : Place) → EffectNames K effect → F place → F (announced counted effect command place)
   unfolding announced
   announced_names counted effect command place e f =
-      told_effect_names (order_result command effect) command (cond counted (told_call (answer_of effect) command place) place) (order_result_names command effect e)
-      (either_way F counted (told_call (answer_of effect) command place) place (call_names (answer_of effect) command place (answer_names effect e) f) f)
+      effect_reported_names (order_result command effect) command (cond counted (answered_or_put_back (answer_of effect) command place) place) (order_result_names command effect e)
+      (either_way F counted (answered_or_put_back (answer_of effect) command place) place (call_names (answer_of effect) command place (answer_names effect e) f) f)
 
   spoken_place : (counted : Bool) (before : Before) (effect : Effect) (command : Command) (place : Place) → BeforeNames K before → EffectNames K effect → CommandNames K command → F place → F (spoken counted before effect command place)
   unfolding spoken
@@ -98,7 +98,7 @@ module _ (K : Draw → Type 0) where
     flights = flight_without (CommandNames K) slot r.leader.flights k.flights;
     ready = slot_without (CommandNames K) r.ready slot k.ready;
     acts = k.acts;
-    calls = k.calls;
+    backlog = k.backlog;
   }
 
   -- ---- 5 and 6

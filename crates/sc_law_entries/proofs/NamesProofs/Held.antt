@@ -10,7 +10,7 @@ use Rattle.sc_machine_table.specs.Definitions.{base_of}
 use Rattle.sc_paxos_words.proofs.Lemmas.{Each-append, Each-filter}
 use Rattle.sc_paxos_words.specs.declared.answers.Must.TheVariants.{Value, Free as Open}
 use Rattle.sc_paxos_words.specs.Definitions.{choice, chosen_value, names_above, flight_at, must, must_without, below}
-use Rattle.sc_node_table.specs.Definitions.{ReplicaState, Place, name_of, next, flying, taken_at, under_way, is_idle, settled, may_offer, last_slot, born_replica, installed_replica, floor_of, forgotten, sent, answered_all, call_of, is_call_of, without_call, call_before, put_back, open_nodes, elected, ended, stopped, saw, install_to, asked_to_promise, welcomed_all, named, jumped, Found, is_act, refused_by, turned_down, from_calls, from_acts, from_queues, found_by, found_for, offered, pumped_from, pumped}
+use Rattle.sc_node_table.specs.Definitions.{ReplicaState, Place, name_of, next, flying, taken_at, under_way, is_idle, settled, may_offer, last_slot, born_replica, installed_replica, floor_of, forgotten, sent, answered_all, queued_number, is_request_of, without_request, request_before, put_back, open_nodes, elected, ended, stopped, saw, install_to, asked_to_promise, welcomed_all, named, jumped, Found, is_act, refused_by, turned_down, from_backlog, from_acts, from_queues, found_by, found_for, offered, pumped_from, pumped}
 use Rattle.sc_law_entries.specs.names.Definitions.{Opt, CoreNames, CommandNames, AnswerNames, ReplicaNames}
 use Rattle.sc_law_entries.proofs.NamesProofs.Lists.{opt_find, opt_map, opt_choice, Each-drop}
 use Rattle.sc_law_walks.proofs.Lemmas.{either_way, next_found}
@@ -31,28 +31,28 @@ module _ (K : Draw → Type 0) where
 
   -- ---- queues
 
-  pub without_names : (calls : List Command) (client : ℕ) → Cmds calls → Cmds (without_call calls client)
+  pub without_names : (backlog : List Command) (client : ℕ) → Cmds backlog → Cmds (without_request backlog client)
   without_names [] client c = tt
-  without_names (command ∷ calls) client c = either_way Cmds (is_call_of client command) _ _ c.1 (c.0, without_names calls client c.1)
+  without_names (command ∷ backlog) client c = either_way Cmds (is_request_of client command) _ _ c.1 (c.0, without_names backlog client c.1)
 
-  before_call : (o : Option ℕ) (client seq : ℕ) (command : Command) (calls : List Command) → CommandNames K command → Cmds calls → Cmds (call_before o client seq command calls)
-  before_call None client seq command calls n c = (n, c)
-  before_call (Some other) client seq command calls n c = either_way Cmds (nat_lt other seq) _ _ (n, without_names calls client c) c
+  before_call : (o : Option ℕ) (client seq : ℕ) (command : Command) (backlog : List Command) → CommandNames K command → Cmds backlog → Cmds (request_before o client seq command backlog)
+  before_call None client seq command backlog n c = (n, c)
+  before_call (Some other) client seq command backlog n c = either_way Cmds (nat_lt other seq) _ _ (n, without_names backlog client c) c
 
-  pub with_calls : (r : ReplicaState) (commands : List Command) → Cmds commands → R r → R (record r { calls = commands })
-  with_calls r commands c k = record { core = k.core; log = k.log; accepted = k.accepted; reports = k.reports; flights = k.flights; ready = k.ready; acts = k.acts; calls = c }
+  pub with_calls : (r : ReplicaState) (commands : List Command) → Cmds commands → R r → R (record r { backlog = commands })
+  with_calls r commands c k = record { core = k.core; log = k.log; accepted = k.accepted; reports = k.reports; flights = k.flights; ready = k.ready; acts = k.acts; backlog = c }
 
   pub with_acts : (r : ReplicaState) (commands : List Command) → Cmds commands → R r → R (record r { acts = commands })
-  with_acts r commands c k = record { core = k.core; log = k.log; accepted = k.accepted; reports = k.reports; flights = k.flights; ready = k.ready; acts = c; calls = k.calls }
+  with_acts r commands c k = record { core = k.core; log = k.log; accepted = k.accepted; reports = k.reports; flights = k.flights; ready = k.ready; acts = c; backlog = k.backlog }
 
   pub back_names : (command : Command) (r : ReplicaState) → CommandNames K command → R r → R (put_back command r)
   unfolding put_back
   back_names Noop r c k = k
-  back_names (Call client seq op) r c k = with_calls r (call_before (call_of r.calls client) client seq (Call client seq op) r.calls) (before_call (call_of r.calls client) client seq (Call client seq op) r.calls tt k.calls) k
-  back_names (Join node order) r c k = with_calls r (Join node order ∷ r.calls) (c, k.calls) k
-  back_names (Leave node order) r c k = with_calls r (Leave node order ∷ r.calls) (c, k.calls) k
-  back_names (Split at child order) r c k = with_calls r (Split at child order ∷ r.calls) (c, k.calls) k
-  back_names (Begin tx body order) r c k = with_calls r (Begin tx body order ∷ r.calls) (c, k.calls) k
+  back_names (Call client seq op) r c k = with_calls r (request_before (queued_number r.backlog client) client seq (Call client seq op) r.backlog) (before_call (queued_number r.backlog client) client seq (Call client seq op) r.backlog tt k.backlog) k
+  back_names (Join node order) r c k = with_calls r (Join node order ∷ r.backlog) (c, k.backlog) k
+  back_names (Leave node order) r c k = with_calls r (Leave node order ∷ r.backlog) (c, k.backlog) k
+  back_names (Split at child order) r c k = with_calls r (Split at child order ∷ r.backlog) (c, k.backlog) k
+  back_names (Begin tx body order) r c k = with_calls r (Begin tx body order ∷ r.backlog) (c, k.backlog) k
   back_names (Prepared tx offer) r c k = with_acts r (Prepared tx offer ∷ r.acts) (c, k.acts) k
   back_names (RecordVote tx vote by) r c k = with_acts r (RecordVote tx vote by ∷ r.acts) (c, k.acts) k
   back_names (GiveUp tx) r c k = with_acts r (GiveUp tx ∷ r.acts) (c, k.acts) k
@@ -72,15 +72,15 @@ module _ (K : Draw → Type 0) where
   unfolding elected
   elected_names (r, mails) f =
       either_way Fine (eqb r.top.round (2 ^ 32 - 1)) _ _ f (
-        record { core = f.0.core; log = f.0.log; accepted = f.0.accepted; reports = tt; flights = tt; ready = tt; acts = f.0.acts; calls = f.0.calls },
+        record { core = f.0.core; log = f.0.log; accepted = f.0.accepted; reports = tt; flights = tt; ready = tt; acts = f.0.acts; backlog = f.0.backlog },
         sent_all_names K r.me (open_nodes r.sets) (Prepare (name_of r) (record { round = r.top.round + 1; node = r.me }) (next r)) mails f.0.core.id f.1,
       )
 
   pub ended_names : (hint : Option ℕ) (answer : AnswerBody) (place : Place) → AnswerNames K answer → Fine place → Fine (ended hint answer place)
   unfolding ended
   ended_names hint answer (r, mails) a f = (
-    record { core = f.0.core; log = f.0.log; accepted = f.0.accepted; reports = tt; flights = tt; ready = tt; acts = tt; calls = tt },
-    dismissed_all_names K r.me (name_of r) hint answer r.calls (answered_all r.me (name_of r) answer (under_way r) mails) f.0.core.id a (answered_all_names K r.me (name_of r) answer (under_way r) mails f.0.core.id a f.1),
+    record { core = f.0.core; log = f.0.log; accepted = f.0.accepted; reports = tt; flights = tt; ready = tt; acts = tt; backlog = tt },
+    dismissed_all_names K r.me (name_of r) hint answer r.backlog (answered_all r.me (name_of r) answer (under_way r) mails) f.0.core.id a (answered_all_names K r.me (name_of r) answer (under_way r) mails f.0.core.id a f.1),
   )
 
   pub stopped_names : (hint : Option ℕ) (place : Place) → Fine place → Fine (stopped hint place)
@@ -118,7 +118,7 @@ module _ (K : Draw → Type 0) where
     flights = k.flights;
     ready = k.ready;
     acts = k.acts;
-    calls = k.calls;
+    backlog = k.backlog;
   }
 
   pub named_names : (group : Draw) (base : Base) → K group → CoreNames K base.core → CoreNames K (named group base).core
@@ -127,13 +127,13 @@ module _ (K : Draw → Type 0) where
   pub jumped_names : (slot : ℕ) (base : Base) (sets : List (List ℕ)) (r : ReplicaState) → CoreNames K base.core → R r → R (jumped slot base sets r)
   unfolding jumped
   jumped_names slot base sets r b k =
-      forgotten_names slot _ (record { core = named_names (name_of r) base k.core.id b; log = tt; accepted = k.accepted; reports = k.reports; flights = k.flights; ready = k.ready; acts = k.acts; calls = k.calls })
+      forgotten_names slot _ (record { core = named_names (name_of r) base k.core.id b; log = tt; accepted = k.accepted; reports = k.reports; flights = k.flights; ready = k.ready; acts = k.acts; backlog = k.backlog })
 
   pub installed_names : (me slot : ℕ) (base : Base) (sets : List (List ℕ)) → CoreNames K base.core → R (installed_replica me slot base sets)
-  installed_names me slot base sets b = forgotten_names slot _ (record { core = b; log = tt; accepted = tt; reports = tt; flights = tt; ready = tt; acts = tt; calls = tt })
+  installed_names me slot base sets b = forgotten_names slot _ (record { core = b; log = tt; accepted = tt; reports = tt; flights = tt; ready = tt; acts = tt; backlog = tt })
 
   pub born_names : (ahead me : ℕ) (base : Base) → CoreNames K base.core → R (born_replica ahead me base)
-  born_names ahead me base b = record { core = b; log = tt; accepted = tt; reports = tt; flights = tt; ready = tt; acts = tt; calls = tt }
+  born_names ahead me base b = record { core = b; log = tt; accepted = tt; reports = tt; flights = tt; ready = tt; acts = tt; backlog = tt }
 
   -- ---- the pump
 
@@ -148,15 +148,15 @@ module _ (K : Draw → Type 0) where
   turned_names core (Call client seq op) k = refused_names core.gone core op k.gone k
   turned_names core _ k = tt
 
-  calls_names : (place : Place) → Fine place → FoundNames (from_calls place)
-  unfolding from_calls
+  calls_names : (place : Place) → Fine place → FoundNames (from_backlog place)
+  unfolding from_backlog
   calls_names (r, mails) f =
-      let found = next_found r.me (is_idle r) r.group.core (λ calls mails. Cmds calls × Sent K mails) (λ found. Cmd found.0 × Cmds found.1 × Sent K found.2)
-      (λ calls mails q. (tt, q.0, q.1)) (λ command calls mails q. (q.0.0, q.0.1, q.1))
-      (λ command answer calls mails w e q. (
+      let found = next_found r.me (is_idle r) r.group.core (λ backlog mails. Cmds backlog × Sent K mails) (λ found. Cmd found.0 × Cmds found.1 × Sent K found.2)
+      (λ backlog mails q. (tt, q.0, q.1)) (λ command backlog mails q. (q.0.0, q.0.1, q.1))
+      (λ command answer backlog mails w e q. (
       let a : AnswerNames K answer = subst (λ (o : Option AnswerBody). Opt (AnswerNames K) o) e (turned_names r.group.core command f.0.core) in
       (q.0.1, answered_names K r.me r.group.core.id answer command mails f.0.core.id a q.1)))
-      r.calls mails (f.0.calls, f.1) in
+      r.backlog mails (f.0.backlog, f.1) in
       (found.0, (with_calls r _ found.1 f.0, found.2))
 
   acts_names : (acts : List Command) (place : Place) → Cmds acts → Fine place → FoundNames (from_acts acts place)
@@ -203,7 +203,7 @@ module _ (K : Draw → Type 0) where
       flights = Each-append (λ (flight : Flight Command). CommandNames K flight.value) r.leader.flights (record { slot = slot; value = command; voters = None } ∷ []) f.0.flights (c, tt);
       ready = f.0.ready;
       acts = f.0.acts;
-      calls = f.0.calls;
+      backlog = f.0.backlog;
     },
     sent_all_names K r.me set (Accept (name_of r) r.leader.ballot slot command) mails (f.0.core.id, c) f.1,
   )

@@ -6,7 +6,7 @@ use Rattle.sc_base.specs.Definitions.{Among, Drawer, next_name}
 use Rattle.sc_node_table.specs.Values.{Draw, Command, Order, OrderLine, OrderRefusal, Mail, Tick, Row, Node}
 use Rattle.sc_cmd.specs.declared.orders.Order.TheVariants as An
 use Rattle.sc_actor.specs.Definitions.{value}
-use Rattle.sc_node_table.specs.Definitions.{NodeState, group_of_order, names_after_ticks, ordered_command, takes_name, untaken, taken_or_told, ordered_row, names_after_tick, pumped, ReplicaState}
+use Rattle.sc_node_table.specs.Definitions.{NodeState, group_of_order, names_after_ticks, ordered_command, takes_name, untaken, queued_or_refused, ordered_row, names_after_tick, pumped, ReplicaState}
 use Rattle.sc_paxos_law.proofs.Lemmas.{Among-left, Among-right}
 use Rattle.sc_sound.specs.Definitions.{Ahead, Player, player_table, node_seat}
 use Rattle.sc_scenario.specs.declared.scenarios.Scenario.{Scenario}
@@ -94,7 +94,7 @@ wishes_are_allowed ahead scenario before row later line node older newer r takes
     subst (λ (group : Draw). IsAllowed sources stories group (ordered_command name line.number line.order)) (wished_of node.policy r line takes.wished)
     (allowed_for sources stories name line.number line.order at (wish_is_owned ahead scenario before row later line node older newer r takes))
 
-queued_by : (o : Option OrderRefusal) (number : ℕ) (command : Command) (r : ReplicaState) (mails : List Mail) → o ≡ None → taken_or_told o number command (r, mails) ≡ pumped (record r { calls = r.calls ++ command ∷ [] }, mails)
+queued_by : (o : Option OrderRefusal) (number : ℕ) (command : Command) (r : ReplicaState) (mails : List Mail) → o ≡ None → queued_or_refused o number command (r, mails) ≡ pumped (record r { backlog = r.backlog ++ command ∷ [] }, mails)
 queued_by None number command r mails e = refl
 queued_by (Some why) number command r mails e = cc
 

@@ -8,9 +8,9 @@ use Rattle.sc_node_table.specs.Values.{Draw, Op, Input, Got, Base, OrderLine, An
 use Rattle.sc_actor.specs.declared.rows.Input.TheVariants.{Tick, Go, Told}
 use Rattle.sc_client_table.specs.Definitions.{Client as ClientState, waiting_request, ClientStep, asked_of, sent_to, sent_where, chosen_for, request_sent, started, turned_on, client_ticked, waits_for, was_asked, redirected, answer_taken, got, table}
 use Rattle.sc_cmd.specs.declared.orders.OrderRefusal.TheVariants as Why
-use Rattle.sc_cmd.specs.declared.orders.ToldResult.TheVariants as Tells
+use Rattle.sc_cmd.specs.declared.orders.OrderResult.TheVariants as Tells
 use Rattle.sc_lookup.specs.declared.ways.Way.{Way}
-use Rattle.sc_lookup.specs.Definitions.{KnownGroups, way_to, better, chosen, target_in, changed, preferring, passed_on, starting, group_learnt, told_not_mine, told_gone, far, new_way, next_target}
+use Rattle.sc_lookup.specs.Definitions.{KnownGroups, way_to, better, chosen, target_in, changed, preferring, passed_on, starting, group_learnt, learnt_from_not_mine, learnt_from_gone, far, new_way, next_target}
 use Rattle.sc_mail.specs.declared.bodies.AnswerBody.TheVariants as Answers
 use Rattle.sc_node_table.specs.Definitions.{NodeState, replica_of, with_replica, is_before, with_new, group_of_mail, absent, with_made, unknown, may_come, with_born, with_children, taken_by, routed, on_mail, group_of_order, ordered_of, ticked, node_table, takes_name, untaken, ordered_row, names_after_tick, ReplicaState, Place, Executed, name_of, born_replica, last_slot, tick_row, made_by, mailed, slots_ahead}
 use Rattle.sc_paxos_words.proofs.Lemmas.{Each-append}
@@ -215,12 +215,12 @@ module _ (K : Draw → Type 0) where
       (with_known client (preferring group hint client.known) (changed_names (λ way. record way { preferred = Some hint }) group client.known (way_to group client.known) k.known) k)
   redirected_names group (Answers.NotLeader None) client g a k = turned_names group client g k
   redirected_names group (Answers.NotMine arc succ) client g a k =
-      request_names (record client { known = told_not_mine group arc succ client.known })
-      (with_known client (told_not_mine group arc succ client.known)
+      request_names (record client { known = learnt_from_not_mine group arc succ client.known })
+      (with_known client (learnt_from_not_mine group arc succ client.known)
       (learnt_names succ.group (end_of arc) succ.members (starting group arc.lo client.known) a (changed_names (λ way. record way { lo = arc.lo }) group client.known (way_to group client.known) k.known)) k)
   redirected_names group (Answers.Gone into) client g a k =
-      request_names (record client { known = told_gone group into client.known })
-      (with_known client (told_gone group into client.known)
+      request_names (record client { known = learnt_from_gone group into client.known })
+      (with_known client (learnt_from_gone group into client.known)
       (learnt_names into.group into.lo into.members (remove_entry (same_draw group) client.known) a (entry_names (same_draw group) client.known k.known)) k)
   redirected_names group (Answers.Value reply) client g a k = (k, tt)
   redirected_names group (Answers.Stale last) client g a k = (k, tt)

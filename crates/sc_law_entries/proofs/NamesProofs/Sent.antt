@@ -1,11 +1,11 @@
 -- What is sent names nothing new: answers, results for the desk, and what the parties of a transaction say to each other.
 use Rattle.std.proofs.Common.{ℕ, nat_le, nat_lt, eqb, Bool, cond, List, [], ◌∷◌, length, Option, Some, None}
 use Rattle.sc_base.specs.Definitions.{Each, least_of, united}
-use Rattle.sc_node_table.specs.Values.{Draw, Body, Offer, Watch, Command, Call, Join, Leave, Split, Begin, Prepared, RecordVote, GiveUp, Watched, RecordWatch, Core, Lock, Free, Coordinating, Promised, Watching, Effect, Link, ToldResult, Heard, Outcome, Past, Vote, AnswerBody, Mail, MailBody, Answer, TxPrepare, TxVote, TxOutcome, TxWatched, Told}
+use Rattle.sc_node_table.specs.Values.{Draw, Body, Offer, Watch, Command, Call, Join, Leave, Split, Begin, Prepared, RecordVote, GiveUp, Watched, RecordWatch, Core, Lock, Free, Coordinating, Promised, Watching, Effect, Link, OrderResult, Heard, Outcome, Past, Vote, AnswerBody, Mail, MailBody, Answer, TxPrepare, TxVote, TxOutcome, TxWatched, Told}
 use Rattle.sc_cmd.specs.declared.bodies.Body.TheVariants as At
 use Rattle.sc_cmd.specs.declared.effects.Effect.TheVariants as Was
 use Rattle.sc_cmd.specs.declared.orders.OrderRefusal.TheVariants as Why
-use Rattle.sc_cmd.specs.declared.orders.ToldResult.TheVariants as Tells
+use Rattle.sc_cmd.specs.declared.orders.OrderResult.TheVariants as Tells
 use Rattle.sc_cmd.specs.declared.votes.Outcome.TheVariants as Is
 use Rattle.sc_cmd.specs.declared.votes.Past.TheVariants as Cast
 use Rattle.sc_cmd.specs.declared.votes.Vote.TheVariants as Says
@@ -13,7 +13,7 @@ use Rattle.sc_cmd.specs.Definitions.{refused_result, result_of, decided_in, cast
 use Rattle.sc_machine_table.specs.Definitions.{Group, can_split, frozen_of, merged_link, right_link}
 use Rattle.sc_paxos_words.proofs.Lemmas.{Each-append}
 use Rattle.sc_node_table.specs.declared.Before.{Before}
-use Rattle.sc_node_table.specs.Definitions.{sent, sent_all, sent_others, answered, answered_all, told_order, dismissed, dismissed_all, offer_of, heard_question, question, asked_first, voted_to, watched_to, told_outcome, heard_from, before_in, before_of, outcome_result, decided_result, begun_result, spoken_number, told_result, told_begun, asked_on, begun_asks, vote_sent, watch_sent, aborted_to, aborted_watcher, given_up_by, vote_answered, released_to, watch_answered_by, went_on, spoken_mails}
+use Rattle.sc_node_table.specs.Definitions.{sent, sent_all, sent_others, answered, answered_all, order_reported, dismissed, dismissed_all, offer_of, heard_question, question, asked_first, voted_to, watched_to, outcome_sent, heard_from, before_in, before_of, outcome_result, decided_result, begun_result, spoken_number, result_reported, begun_reported, asked_on, begun_asks, vote_sent, watch_sent, aborted_to, aborted_watcher, given_up_by, vote_answered, released_to, watch_answered_by, went_on, spoken_mails}
 use Rattle.sc_law_entries.specs.names.Definitions.{Opt, BodyNames, OfferNames, WatchNames, PastNames, OutcomeNames, HeardNames, LockNames, CoreNames, CommandNames, EffectNames, ResultNames, AnswerNames, BodiesNames, MailNames}
 use Rattle.sc_law_walks.proofs.Lemmas.{either_way}
 
@@ -48,8 +48,8 @@ module _ (K : Draw → Type 0) where
   answered_all_names me group answer [] mails g a m = m
   answered_all_names me group answer (command ∷ commands) mails g a m = answered_all_names me group answer commands (answered me group answer command mails) g a (answered_names me group answer command mails g a m)
 
-  pub reported_names : (me number : ℕ) (result : ToldResult) (mails : List Mail) → ResultNames K result → Sent mails → Sent (told_order me number result mails)
-  unfolding told_order
+  pub reported_names : (me number : ℕ) (result : OrderResult) (mails : List Mail) → ResultNames K result → Sent mails → Sent (order_reported me number result mails)
+  unfolding order_reported
   reported_names me number result mails r m = either_way Sent (nat_lt 0 number) _ _ (sent_names me 0 (Told number result) mails r m) m
 
   dismissed_names : (me : ℕ) (group : Draw) (hint : Option ℕ) (answer : AnswerBody) (command : Command) (mails : List Mail) → K group → AnswerNames K answer → Sent mails → Sent (dismissed me group hint answer command mails)
@@ -104,7 +104,7 @@ module _ (K : Draw → Type 0) where
   watched_to_names me node tx watch (Cast.No why) mails t w v m = sent_names me node (TxWatched tx watch.coord watch.part (Cast.No why)) mails (t, w.coord, w.part, v) m
   watched_to_names me node tx watch Cast.Ended mails t w v m = m
 
-  pub outcome_names : (me node : ℕ) (tx part : Draw) (outcome : Outcome) (mails : List Mail) → K tx → K part → OutcomeNames K outcome → Sent mails → Sent (told_outcome me node tx part outcome mails)
+  pub outcome_names : (me node : ℕ) (tx part : Draw) (outcome : Outcome) (mails : List Mail) → K tx → K part → OutcomeNames K outcome → Sent mails → Sent (outcome_sent me node tx part outcome mails)
   outcome_names me node tx part outcome mails t p o m = sent_names me node (TxOutcome tx part outcome) mails (t, p, o) m
 
   -- ---- what is said of an executed entry
@@ -127,7 +127,7 @@ module _ (K : Draw → Type 0) where
   pub before_names : (core : Core) → CoreNames K core → BeforeNames (before_of core)
   before_names core k = before_in_names core.lock core k.lock k
 
-  abbrev ResultOf : Option ToldResult → Type 0
+  abbrev ResultOf : Option OrderResult → Type 0
   ResultOf o = Opt (ResultNames K) o
 
   refused_names : (effect : Effect) → EffectNames K effect → ResultOf (refused_result effect)
@@ -154,13 +154,13 @@ module _ (K : Draw → Type 0) where
   begun_names alone effect (RecordWatch tx vote by) e = decided_result_names effect
   begun_names alone effect _ e = tt
 
-  result_told : (me : ℕ) (result : Option ToldResult) (number : ℕ) (mails : List Mail) → ResultOf result → Sent mails → Sent (told_result me result number mails)
+  result_told : (me : ℕ) (result : Option OrderResult) (number : ℕ) (mails : List Mail) → ResultOf result → Sent mails → Sent (result_reported me result number mails)
   result_told me None number mails r m = m
   result_told me (Some result) number mails r m = reported_names me number result mails r m
 
-  told_begun_names : (me : ℕ) (before : Before) (effect : Effect) (command : Command) (mails : List Mail) → EffectNames K effect → Sent mails → Sent (told_begun me before effect command mails)
-  unfolding told_begun
-  told_begun_names me before effect command mails e m = result_told me (begun_result before.alone effect command) (spoken_number before.order command) mails (begun_names before.alone effect command e) m
+  begun_reported_names : (me : ℕ) (before : Before) (effect : Effect) (command : Command) (mails : List Mail) → EffectNames K effect → Sent mails → Sent (begun_reported me before effect command mails)
+  unfolding begun_reported
+  begun_reported_names me before effect command mails e m = result_told me (begun_result before.alone effect command) (spoken_number before.order command) mails (begun_names before.alone effect command e) m
 
   decided_names : (effect : Effect) → EffectNames K effect → Opt (OutcomeNames K) (decided_in effect)
   decided_names (Was.Decided outcome) e = e
@@ -204,7 +204,7 @@ module _ (K : Draw → Type 0) where
 
   released_names : (heard : Option (ℕ × Link)) (me : ℕ) (succ : Link) (tx : Draw) (by : ℕ) (outcome : Outcome) (mails : List Mail) → Opt (λ (h : ℕ × Link). K h.1.group) heard → K succ.group → K tx → OutcomeNames K outcome → Sent mails → Sent (released_to heard me succ tx by outcome mails)
   released_names None me succ tx by outcome mails h s t o m = outcome_names me by tx succ.group outcome mails t s o m
-  released_names (Some heard) me succ tx by outcome mails h s t o m = outcome_names me by tx heard.1.group outcome (told_outcome me heard.0 tx succ.group outcome mails) t h o (outcome_names me heard.0 tx succ.group outcome mails t s o m)
+  released_names (Some heard) me succ tx by outcome mails h s t o m = outcome_names me by tx heard.1.group outcome (outcome_sent me heard.0 tx succ.group outcome mails) t h o (outcome_names me heard.0 tx succ.group outcome mails t s o m)
 
   watch_answered_names : (outcome : Option Outcome) (vote : Past) (me : ℕ) (before : Before) (tx : Draw) (by : ℕ) (mails : List Mail) → Opt (OutcomeNames K) outcome → BeforeNames before → K tx → Sent mails → Sent (watch_answered_by outcome vote me before tx by mails)
   watch_answered_names None vote me before tx by mails o b t m = m
@@ -227,6 +227,6 @@ module _ (K : Draw → Type 0) where
   pub spoken_names : (counted : Bool) (me : ℕ) (group : Group) (before : Before) (effect : Effect) (command : Command) (mails : List Mail) → CoreNames K group.core → BeforeNames before → EffectNames K effect → CommandNames K command → Sent mails → Sent (spoken_mails counted me group before effect command mails)
   unfolding spoken_mails
   spoken_names counted me group before effect command mails k b e c m =
-      let told = told_begun_names me before effect command mails e m in
-      either_way Sent counted (went_on me group before effect command (told_begun me before effect command mails)) (told_begun me before effect command mails)
-      (went_on_names me group before effect command (told_begun me before effect command mails) k b e c told) told
+      let told = begun_reported_names me before effect command mails e m in
+      either_way Sent counted (went_on me group before effect command (begun_reported me before effect command mails)) (begun_reported me before effect command mails)
+      (went_on_names me group before effect command (begun_reported me before effect command mails) k b e c told) told

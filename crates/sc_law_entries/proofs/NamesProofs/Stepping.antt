@@ -7,13 +7,13 @@ use Rattle.sc_node_table.specs.Values.{Draw, Op, Offer, Watch, Command, Call, Pr
 use Rattle.sc_ideal.specs.Definitions.{key_of, holds_key}
 use Rattle.sc_cmd.specs.declared.orders.Order.TheVariants as An
 use Rattle.sc_cmd.specs.declared.orders.OrderRefusal.TheVariants as Why
-use Rattle.sc_cmd.specs.declared.orders.ToldResult.TheVariants as Tells
+use Rattle.sc_cmd.specs.declared.orders.OrderResult.TheVariants as Tells
 use Rattle.sc_cmd.specs.declared.votes.Past.TheVariants as Cast
 use Rattle.sc_cmd.specs.declared.votes.Vote.TheVariants as Says
 use Rattle.sc_machine_table.specs.Definitions.{Group, locked_in, refusal_of, frozen_of, is_locked_in}
 use Rattle.sc_paxos_words.proofs.Lemmas.{Each-append}
 use Rattle.sc_paxos_words.specs.Definitions.{entry_at}
-use Rattle.sc_node_table.specs.Definitions.{ReplicaState, Place, name_of, next, members, flying, is_idle, settled, last_slot, installed_replica, has_act, with_act, act_queued, elected, stopped, looked, named, jumped, sent_all, ordered_command, takes_name, has_drawn_all, named_refused, first_of_both, untaken, taken_or_told, ordered_row, group_of_order, wished_line, with_command, with_line, wishing, pumped, serves_calls, asked_link, question, call_of, without_call, patience, one_tick_more, waited_in, reminders, reminded, call_refusal, refused_at, queued, requested, request_row, looked_up, took_over, install_row, made_by, uncounted, asked_again, told_last, tick_row, mailed, noted_vote, noted_outcome, gone_vote, standing_by, standing_vote, sent_elsewhere, offered_by, offer_row, watched_by, watch_row, awaits_vote, awaits_watch, vote_queued, vote_met, vote_row, watch_queued, watch_met, watched_row, next_asked, asked_next, elsewhere_row, is_bound, outcome_row}
+use Rattle.sc_node_table.specs.Definitions.{ReplicaState, Place, name_of, next, members, flying, is_idle, settled, last_slot, installed_replica, has_act, with_act, act_queued, elected, stopped, looked, named, jumped, sent_all, ordered_command, takes_name, has_drawn_all, named_refused, first_of_both, untaken, queued_or_refused, ordered_row, group_of_order, wished_line, with_command, with_line, wishing, pumped, admits_requests, asked_link, question, queued_number, without_request, patience, one_tick_more, waited_in, reminders, reminded, request_refusal, refused_at, queued, requested, request_row, looked_up, took_over, install_row, made_by, uncounted, asked_again, last_entry_sent, tick_row, mailed, noted_vote, noted_outcome, gone_vote, standing_by, standing_vote, sent_elsewhere, offered_by, offer_row, watched_by, watch_row, awaits_vote, awaits_watch, vote_queued, vote_met, vote_row, watch_queued, watch_met, watched_row, next_asked, asked_next, elsewhere_row, is_bound, outcome_row}
 use Rattle.sc_law_entries.specs.names.Definitions.{Opt, OfferNames, WatchNames, VoteNames, PastNames, OutcomeNames, LockNames, CoreNames, CommandNames, RefusalNames, AnswerNames, BodiesNames, ReplicaNames, Owned, owned_by, drawn_for, waited, wished_at, drawn_wishing}
 use Rattle.sc_law_entries.proofs.NamesProofs.Lists.{opt_find, opt_map}
 use Rattle.sc_law_entries.proofs.NamesProofs.Machine.{refusal_names}
@@ -35,23 +35,23 @@ module _ (K : Draw → Type 0) where
   abbrev Ans : Option AnswerBody → Type 0
   Ans o = Opt (AnswerNames K) o
 
-  refusal_by : (gone : Option Route) (core : Core) (running : Bool) (hint : Option ℕ) (op : Op) → Opt (λ (into : Route). K into.group) gone → CoreNames K core → Ans (call_refusal gone core running hint op)
+  refusal_by : (gone : Option Route) (core : Core) (running : Bool) (hint : Option ℕ) (op : Op) → Opt (λ (into : Route). K into.group) gone → CoreNames K core → Ans (request_refusal gone core running hint op)
   refusal_by (Some into) core running hint op g k = g
-  refusal_by None core running hint op g k = either_way Ans (not running) _ _ tt (either_way Ans (serves_calls core.lock && not (holds_key core.arc (key_of op))) _ _ k.succ tt)
+  refusal_by None core running hint op g k = either_way Ans (not running) _ _ tt (either_way Ans (admits_requests core.lock && not (holds_key core.arc (key_of op))) _ _ k.succ tt)
 
   queued_names : (o : Option ℕ) (client seq : ℕ) (op : Op) (place : Place) → F place → F (queued o client seq op place)
   unfolding queued
   queued_names None client seq op (r, mails) f =
-      pumped_names K (record r { calls = r.calls ++ Call client seq op ∷ [] }, mails) (with_calls K r (r.calls ++ Call client seq op ∷ []) (Each-append (CommandNames K) r.calls (Call client seq op ∷ []) f.0.calls (tt, tt)) f.0, f.1)
+      pumped_names K (record r { backlog = r.backlog ++ Call client seq op ∷ [] }, mails) (with_calls K r (r.backlog ++ Call client seq op ∷ []) (Each-append (CommandNames K) r.backlog (Call client seq op ∷ []) f.0.backlog (tt, tt)) f.0, f.1)
   queued_names (Some other) client seq op (r, mails) f =
-      let calls : List Command = without_call r.calls client ++ Call client seq op ∷ [] in
-      either_way F (nat_le seq other) (r, mails) (pumped (record r { calls = calls }, mails)) f
-      (pumped_names K (record r { calls = calls }, mails) (with_calls K r calls (Each-append (CommandNames K) (without_call r.calls client) (Call client seq op ∷ []) (without_names K r.calls client f.0.calls) (tt, tt)) f.0, f.1))
+      let backlog : List Command = without_request r.backlog client ++ Call client seq op ∷ [] in
+      either_way F (nat_le seq other) (r, mails) (pumped (record r { backlog = backlog }, mails)) f
+      (pumped_names K (record r { backlog = backlog }, mails) (with_calls K r backlog (Each-append (CommandNames K) (without_request r.backlog client) (Call client seq op ∷ []) (without_names K r.backlog client f.0.backlog) (tt, tt)) f.0, f.1))
 
   requested_names : (o : Option AnswerBody) (client seq : ℕ) (op : Op) (place : Place) → Ans o → F place → F (requested o client seq op place)
   unfolding requested
   requested_names (Some answer) client seq op (r, mails) a f = (f.0, sent_names K r.me _ (Answer (name_of r) seq answer) mails (f.0.core.id, a) f.1)
-  requested_names None client seq op (r, mails) a f = queued_names (call_of r.calls client) client seq op (r, mails) f
+  requested_names None client seq op (r, mails) a f = queued_names (queued_number r.backlog client) client seq op (r, mails) f
 
   request_names : (client seq : ℕ) (op : Op) (place : Place) → F place → F (request_row client seq op place)
   unfolding request_row
@@ -104,8 +104,8 @@ module _ (K : Draw → Type 0) where
   again_names r slot [] mails k m = m
   again_names r slot (set ∷ sets) mails k m = again_by r slot set sets mails (flying r slot) (flying_names K r slot k) k m (λ more n. again_names r (slot + 1) sets more k n)
 
-  last_names : (o : Option Command) (r : ReplicaState) (mails : List Mail) → Cmd K o → R r → Sent K mails → Sent K (told_last o r mails)
-  unfolding told_last
+  last_names : (o : Option Command) (r : ReplicaState) (mails : List Mail) → Cmd K o → R r → Sent K mails → Sent K (last_entry_sent o r mails)
+  unfolding last_entry_sent
   last_names None r mails c k m = m
   last_names (Some command) r mails c k m = sent_others_names K r.me (members r) (Learn (name_of r) (next r - 1) command) mails (k.core.id, c) m
 
@@ -242,10 +242,10 @@ module _ (K : Draw → Type 0) where
       (either_way Refused (takes_name line.order && has_drawn_all drawer) (Some (Why.NotLeader r.hint)) None tt tt))
 
   -- whether the name of an order that is taken is known
-  taken_names : (o : Option OrderRefusal) (number : ℕ) (command : Command) (place : Place) → Refused o → (o ≡ None → CommandNames K command) → F place → F (taken_or_told o number command place)
+  taken_names : (o : Option OrderRefusal) (number : ℕ) (command : Command) (place : Place) → Refused o → (o ≡ None → CommandNames K command) → F place → F (queued_or_refused o number command place)
   taken_names (Some why) number command (r, mails) w c f = (f.0, sent_names K r.me 0 (Told number (Tells.Refused why)) mails w f.1)
   taken_names None number command (r, mails) w c f =
-      pumped_names K (record r { calls = r.calls ++ command ∷ [] }, mails) (with_calls K r (r.calls ++ command ∷ []) (Each-append (CommandNames K) r.calls (command ∷ []) f.0.calls (c refl, tt)) f.0, f.1)
+      pumped_names K (record r { backlog = r.backlog ++ command ∷ [] }, mails) (with_calls K r (r.backlog ++ command ∷ []) (Each-append (CommandNames K) r.backlog (command ∷ []) f.0.backlog (c refl, tt)) f.0, f.1)
 
   pub ordered_row_names : (drawer : Drawer) (line : OrderLine) (place : Place) → (untaken drawer line place.0 ≡ None → CommandNames K (ordered_command (next_name drawer) line.number line.order)) → F place → F (ordered_row drawer line place)
   unfolding ordered_row
@@ -264,7 +264,7 @@ module _ (K : Draw → Type 0) where
   -- ---- Tick, with what a policy orders
 
   command_names : (o : Option OrderRefusal) (command : Command) (r : ReplicaState) → (o ≡ None → CommandNames K command) → R r → R (with_command o command r)
-  command_names None command r c k = with_calls K r (r.calls ++ command ∷ []) (Each-append (CommandNames K) r.calls (command ∷ []) k.calls (c refl, tt)) k
+  command_names None command r c k = with_calls K r (r.backlog ++ command ∷ []) (Each-append (CommandNames K) r.backlog (command ∷ []) k.backlog (c refl, tt)) k
   command_names (Some why) command r c k = k
 
   -- what is drawn for an order, if it is taken and takes a name
@@ -291,7 +291,7 @@ module _ (K : Draw → Type 0) where
       let line = wished_line on (waited r) in
       let orders : wished_at on r ≡ line = cond-false (is_some r.group.core.gone || not (is_member (members r) r.me)) None (cond (not (settled r)) None line) here ∙ cond-false (not (settled r)) None line leads in
       let drawn = subst (λ (o : Option OrderLine). Each (λ (owned : Owned). K owned.name) (drawn_wishing drawer o (waited r))) orders d in
-      let told = told_last (entry_at (next r - 1) r.log) r mails in
+      let told = last_entry_sent (entry_at (next r - 1) r.log) r mails in
       let again = asked_again r (next r) r.sets mails in
       either_way F (is_idle r) (pumped (wishing on drawer (reminded (r, told)))) (pumped (wishing on drawer (reminded (r, again))))
       (pumped_names K (wishing on drawer (reminded (r, told))) (wishing_names on drawer (reminded (r, told)) drawn (reminded_names (r, told) (f.0, last_names (entry_at (next r - 1) r.log) r mails (held_names K (next r - 1) r f.0) f.0 f.1))))

@@ -36,7 +36,7 @@ module _ (K : Draw → Type 0) where
       (Each-filter (λ (report : Report Command). CommandNames K report.value) (λ (report : Report Command). nat_le from report.slot) state.accepted a, a) (tt, a)
 
   with_acceptor : (r : ReplicaState) (acceptor : AcceptorState Command) → ReportsNames K acceptor.accepted → R r → R (record r { acceptor = acceptor })
-  with_acceptor r acceptor a k = record { core = k.core; log = k.log; accepted = a; reports = k.reports; flights = k.flights; ready = k.ready; acts = k.acts; calls = k.calls }
+  with_acceptor r acceptor a k = record { core = k.core; log = k.log; accepted = a; reports = k.reports; flights = k.flights; ready = k.ready; acts = k.acts; backlog = k.backlog }
 
   hinted_names : (ballot : Ballot) (r : ReplicaState) → R r → R (hinted ballot r)
   hinted_names ballot r k = either_way R r.running r (record r { hint = Some ballot.node }) k k
@@ -92,7 +92,7 @@ module _ (K : Draw → Type 0) where
   Leads leader = ReportsNames K leader.reports × Flights (CommandNames K) leader.flights
 
   with_leader : (r : ReplicaState) (leader : LeaderState Command) → Leads leader → R r → R (record r { leader = leader })
-  with_leader r leader l k = record { core = k.core; log = k.log; accepted = k.accepted; reports = l.0; flights = l.1; ready = k.ready; acts = k.acts; calls = k.calls }
+  with_leader r leader l k = record { core = k.core; log = k.log; accepted = k.accepted; reports = l.0; flights = l.1; ready = k.ready; acts = k.acts; backlog = k.backlog }
 
   counted_names : (node : ℕ) (ballot : Ballot) (reports : List (Report Command)) (leader : LeaderState Command) → ReportsNames K reports → Leads leader → Leads (promise_counted node ballot reports leader).1
   counted_names node ballot reports leader r l =
@@ -129,7 +129,7 @@ module _ (K : Draw → Type 0) where
       (vote_at_names node slot members (flight_at slot leader.flights) leader (opt_find (λ (flight : Flight Command). CommandNames K flight.value) (λ (flight : Flight Command). eqb flight.slot slot) leader.flights l.1) l) (tt, l)
 
   with_ready : (r : ReplicaState) (slot : ℕ) (command : Command) → CommandNames K command → R r → R (record r { ready = with_slot r.ready slot command })
-  with_ready r slot command c k = record { core = k.core; log = k.log; accepted = k.accepted; reports = k.reports; flights = k.flights; ready = slot_with (CommandNames K) r.ready slot command c k.ready; acts = k.acts; calls = k.calls }
+  with_ready r slot command c k = record { core = k.core; log = k.log; accepted = k.accepted; reports = k.reports; flights = k.flights; ready = slot_with (CommandNames K) r.ready slot command c k.ready; acts = k.acts; backlog = k.backlog }
 
   -- what holds of the replica that a step leaves, the children that it makes aside
   abbrev FAll : Executed → Type 0

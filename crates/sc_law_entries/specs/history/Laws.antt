@@ -45,7 +45,7 @@ pub record IsDone (group : Group) (log : List Command) (place client seq : ℕ) 
 -- the calls of a log that take effect are the history of its group; each is a call of the log; a reply to a call is that of its entry; each has one place, and no request takes effect at two
 pub record LogMakesHistory (group : Group) (log : List Command) : Type 0 where
   pub tells : IsHistoryOf (done_by group log) (state_after group log)
-  pub calls : (entry : Entry) → Among entry (done_by group log) → Among (Call entry.client entry.seq entry.op) log
+  pub backlog : (entry : Entry) → Among entry (done_by group log) → Among (Call entry.client entry.seq entry.op) log
   pub replies : (client seq : ℕ) (op : Op) (reply : Reply) → IsReplied (applied (state_after group log) (Call client seq op)).1 reply
       → HasEntry (done_by group (log ++ Call client seq op ∷ [])) client seq reply
   pub places : (entry : Entry) → Among entry (done_by group log) → (place : ℕ) × IsDone group log place entry.client entry.seq

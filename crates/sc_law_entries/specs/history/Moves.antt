@@ -234,7 +234,7 @@ MovesKeepHistories = (request : RequestOf) (history : List Entry) (holdings : Ho
 
 -- what any table noted after any prefix of the moves has its entry in the history of all moves: who answers by an older table answers by the history
 abbrev pub NotesStay : Holdings → List Move → Type 0
-NotesStay holdings moves = (front more : List Move) → moves ≡ front ++ more → (group : Draw) (holding : Holding) → holdings_after_all holdings front group ≡ Some holding
+NotesStay holdings moves = (prefix more : List Move) → moves ≡ prefix ++ more → (group : Draw) (holding : Holding) → holdings_after_all holdings prefix group ≡ Some holding
     → HasNotes (history_by holdings moves) holding.clients
 
 -- moves that may be made from an empty start, one after another, have a legal history that matches what all groups hold after them, and what they noted before

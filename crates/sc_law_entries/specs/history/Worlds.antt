@@ -51,7 +51,7 @@ pub record IsQuiet (request : RequestOf) (entry : LogEntry) : Type 0 where
 
 -- what any group's own log ever made it note has its entry in the history of all entries: a replica that answers by an older state answers by the history
 abbrev pub LogNotesStay : List Base → List LogEntry → Type 0
-LogNotesStay bases entries = (front more : List LogEntry) → entries ≡ front ++ more → (name : Draw) (group : Group) → named_group name (world_of bases front).groups ≡ Some group
+LogNotesStay bases entries = (prefix more : List LogEntry) → entries ≡ prefix ++ more → (name : Draw) (group : Group) → named_group name (world_of bases prefix).groups ≡ Some group
     → HasNotes (world_of bases entries).history group.clients
 
 -- the history of a world is legal and matches what all groups hold, and each range's group has its part of the map

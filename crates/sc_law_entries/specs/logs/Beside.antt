@@ -48,11 +48,11 @@ pub record IsDecidedBefore (ahead : Ahead) (bases : List Base) (rows : Rows) (cl
   pub taken : answered ≡ length before + 1
   pub base : Base
   pub stands : Among base (groups_at ahead bases before)
-  pub front : List Command
+  pub prefix : List Command
   pub op : Op
   pub rest : List Command
-  pub log : decided_log ahead base before ≡ front ++ Call client seq op ∷ rest
-  pub replied : IsReplied (applied (state_after (group_of base) front) (Call client seq op)).1 reply
+  pub log : decided_log ahead base before ≡ prefix ++ Call client seq op ∷ rest
+  pub replied : IsReplied (applied (state_after (group_of base) prefix) (Call client seq op)).1 reply
 
 -- each reply that a client keeps was decided before the client took it, and so was one for each row that answers a request
 pub record RepliesAreDecided (ahead : Ahead) (scenario : Scenario) (rows : Rows) : Type 0 where

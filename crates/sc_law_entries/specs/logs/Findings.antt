@@ -10,7 +10,7 @@ use Rattle.sc_mail.specs.declared.bodies.Mail.{Mail}
 use Rattle.sc_actor.specs.declared.rows.Row.{Row}
 use Rattle.sc_ideal.specs.declared.Entry.{Entry}
 use Rattle.sc_machine_table.specs.Definitions.{group_of, state_after}
-use Rattle.sc_sound.specs.Definitions.{Ahead, children_of, children_by, groups_at, birth_at, log_at, state_at, entries_at, world_at, history_at, decided_log, decided_state, Continues, IsOneMap, told_row}
+use Rattle.sc_sound.specs.Definitions.{Ahead, children_of, children_by, groups_at, birth_at, log_at, state_at, entries_at, world_at, history_at, decided_log, decided_state, Continues, IsOneMap, row_of_entry}
 use Rattle.sc_log_entries.specs.declared.LogEntry.{LogEntry}
 use Rattle.sc_log_entries.specs.Definitions.{named_group}
 use Rattle.sc_law_entries.specs.history.Definitions.{log_in, HasNotes}
@@ -31,8 +31,8 @@ pub record AreFound (ahead : Ahead) (bases : List Base) (rows : Rows) : Type 0 w
   -- the children that a group's log creates are groups of the journal
   pub closed : (base : Base) → Among base (groups_at ahead bases rows) → (child : Base) → Among child (children_by ahead rows base) → Among child (groups_at ahead bases rows)
   -- the children that a prefix of a group's log creates are groups of the journal
-  pub prefixes : (base : Base) → Among base (groups_at ahead bases rows) → (front later : List Command) → decided_log ahead base rows ≡ front ++ later
-      → (child : Base) → Among child (children_of (group_of base) front) → Among child (groups_at ahead bases rows)
+  pub prefixes : (base : Base) → Among base (groups_at ahead bases rows) → (prefix later : List Command) → decided_log ahead base rows ≡ prefix ++ later
+      → (child : Base) → Among child (children_of (group_of base) prefix) → Among child (groups_at ahead bases rows)
   -- the groups of the journal are exactly those that descend from the scenario's
   pub all : (base : Base) → IsFound ahead bases rows base → Among base (groups_at ahead bases rows)
   pub only : (base : Base) → Among base (groups_at ahead bases rows) → IsFound ahead bases rows base
@@ -64,8 +64,8 @@ pub record AreItsLogs (ahead : Ahead) (bases : List Base) (rows : Rows) : Type 0
 -- the entries make one map, and what a group's log made it note, after each prefix of it, has its entry in the history
 pub record MakeOneMapWithNotes (ahead : Ahead) (bases : List Base) (rows : Rows) : Type 0 where
   pub map : IsOneMap (world_at ahead bases rows)
-  pub notes : (base : Base) → Among base (groups_at ahead bases rows) → (front later : List Command) → decided_log ahead base rows ≡ front ++ later
-      → HasNotes (history_at ahead bases rows) (state_after (group_of base) front).clients
+  pub notes : (base : Base) → Among base (groups_at ahead bases rows) → (prefix later : List Command) → decided_log ahead base rows ≡ prefix ++ later
+      → HasNotes (history_at ahead bases rows) (state_after (group_of base) prefix).clients
 
 -- ---- rows
 
@@ -75,7 +75,7 @@ pub record IsDecidedAt (ahead : Ahead) (bases : List Base) (rows : Rows) (place 
   pub row : Row Mail OrderLine
   pub later : Rows
   pub are : rows ≡ before ++ row ∷ later
-  pub is_told : told_row ahead bases place rows ≡ Some (length before + 1)
+  pub is_told : row_of_entry ahead bases place rows ≡ Some (length before + 1)
   -- the history has the entry after the row, and not before
   pub not_before : length (history_at ahead bases before) ≤ place
   pub after : place < length (history_at ahead bases (before ++ row ∷ []))
@@ -90,4 +90,4 @@ pub record StayRecorded (ahead : Ahead) (bases : List Base) (rows more : Rows) :
   pub logs : (base : Base) → Among base (groups_at ahead bases rows) → Continues (decided_log ahead base rows) (log_at ahead bases (rows ++ more) base.core.id)
   pub entries : (later : List LogEntry) × (entries_at ahead bases (rows ++ more) ≡ entries_at ahead bases rows ++ later)
   pub history : (later : List Entry) × (history_at ahead bases (rows ++ more) ≡ history_at ahead bases rows ++ later)
-  pub told : (place at : ℕ) → told_row ahead bases place rows ≡ Some at → told_row ahead bases place (rows ++ more) ≡ Some at
+  pub told : (place at : ℕ) → row_of_entry ahead bases place rows ≡ Some at → row_of_entry ahead bases place (rows ++ more) ≡ Some at

@@ -54,14 +54,14 @@ AllowedStaysAllowed = (sources : Sources) (ahead : Ahead) (bases : List Base) �
 -- where each row decides in turn, a command that an entry of a group's log makes allowed is allowed
 abbrev pub PrefixesAllow : Type 0
 PrefixesAllow = (sources : Sources) (ahead : Ahead) (bases : List Base) → BeginInPlace sources bases → (rows : Rows) → DecideInTurn sources ahead bases [] rows
-    → (base : Base) → Among base (groups_at ahead bases rows) → (front : List Command) (entry : Command) (later : List Command) → decided_log ahead base rows ≡ front ++ entry ∷ later
-    → (name : Draw) (command : Command) → MakesAllowed sources base.core.id (state_after (group_of base) front) entry name command → IsAllowed sources (stories_of bases (entries_at ahead bases rows)) name command
+    → (base : Base) → Among base (groups_at ahead bases rows) → (prefix : List Command) (entry : Command) (later : List Command) → decided_log ahead base rows ≡ prefix ++ entry ∷ later
+    → (name : Draw) (command : Command) → MakesAllowed sources base.core.id (state_after (group_of base) prefix) entry name command → IsAllowed sources (stories_of bases (entries_at ahead bases rows)) name command
 
 -- where each row decides in turn, a command that a group's state after a prefix of its log makes allowed is allowed
 abbrev pub StatesAllow : Type 0
 StatesAllow = (sources : Sources) (ahead : Ahead) (bases : List Base) → BeginInPlace sources bases → (rows : Rows) → DecideInTurn sources ahead bases [] rows
-    → (base : Base) → Among base (groups_at ahead bases rows) → (front later : List Command) → decided_log ahead base rows ≡ front ++ later
-    → (name : Draw) (command : Command) → AllowsAsItStands sources base.core.id (state_after (group_of base) front) name command → IsAllowed sources (stories_of bases (entries_at ahead bases rows)) name command
+    → (base : Base) → Among base (groups_at ahead bases rows) → (prefix later : List Command) → decided_log ahead base rows ≡ prefix ++ later
+    → (name : Draw) (command : Command) → AllowsAsItStands sources base.core.id (state_after (group_of base) prefix) name command → IsAllowed sources (stories_of bases (entries_at ahead bases rows)) name command
 
 -- each group makes allowed what follows from its lock and from its entries that vote or decide
 abbrev pub GroupsAllowOthers : Type 0

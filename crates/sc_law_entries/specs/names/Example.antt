@@ -3,7 +3,7 @@ use Rattle.std.specs.Prelude.{false, [], ◌∷◌}
 use Rattle.sc_node_table.specs.Values.{Draw, Split, OrderLine, Accept, Told as ToldMail}
 use Rattle.sc_cmd.specs.declared.orders.Order.TheVariants as An
 use Rattle.sc_cmd.specs.declared.orders.OrderRefusal.TheVariants as Why
-use Rattle.sc_cmd.specs.declared.orders.ToldResult.TheVariants as Tells
+use Rattle.sc_cmd.specs.declared.orders.OrderResult.TheVariants as Tells
 use Rattle.sc_actor.specs.declared.rows.Event.TheVariants.{Told}
 use Rattle.sc_scenario.specs.Definitions.{lone_group, lone_name}
 use Rattle.sc_scenario.specs.declared.scenarios.SchedLine.TheVariants as line

@@ -80,7 +80,7 @@ pub record TakesOrder (ahead : Ahead) (scenario : Scenario) (before : Rows) (row
 -- where an order is taken its command is queued last, and the pump follows
 abbrev pub OrdersAreQueued : Type 0
 OrdersAreQueued = (drawer : Drawer) (line : OrderLine) (r : ReplicaState) (mails : List Mail) → untaken drawer line r ≡ None
-    → ordered_row drawer line (r, mails) ≡ pumped (record r { calls = r.calls ++ ordered_command (next_name drawer) line.number line.order ∷ [] }, mails)
+    → ordered_row drawer line (r, mails) ≡ pumped (record r { backlog = r.backlog ++ ordered_command (next_name drawer) line.number line.order ∷ [] }, mails)
 
 -- the command that is queued for an order, which names no place or a position of the ring, is allowed in the log of the order's group, whatever the stories are, by the owners of any journal that continues these rows
 abbrev pub TakenOrdersAreAllowed : Type 0

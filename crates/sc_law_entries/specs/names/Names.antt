@@ -1,12 +1,12 @@
 -- The names that stand in what groups keep and send: names of groups, of children and of transactions. Each definition says that all of them are of one kind K, such as 'drawn so far'.
 use Rattle.std.specs.Prelude.{ℕ, List, Option, Some, None}
 use Rattle.sc_base.specs.Definitions.{Each}
-use Rattle.sc_node_table.specs.Values.{Draw, Body, Offer, Watch, Command, Noop, Call, Join, Leave, Split, Begin, Prepared, RecordVote, GiveUp, Finish, Watched, RecordWatch, Core, Lock, Free, Coordinating, Promised, Watching, Effect, Route, OrderRefusal, ToldResult, Heard, No, Outcome, Past, Vote, AnswerBody, Mail, MailBody, Request, Answer, Prepare, Promise, Accept, Accepted, Nack, Learn, Ask, Install, TxPrepare, TxVote, TxOutcome, TxElsewhere, TxWatch, TxWatched, Told, Flight, Report, Node, Client}
+use Rattle.sc_node_table.specs.Values.{Draw, Body, Offer, Watch, Command, Noop, Call, Join, Leave, Split, Begin, Prepared, RecordVote, GiveUp, Finish, Watched, RecordWatch, Core, Lock, Free, Coordinating, Promised, Watching, Effect, Route, OrderRefusal, OrderResult, Heard, No, Outcome, Past, Vote, AnswerBody, Mail, MailBody, Request, Answer, Prepare, Promise, Accept, Accepted, Nack, Learn, Ask, Install, TxPrepare, TxVote, TxOutcome, TxElsewhere, TxWatch, TxWatched, Told, Flight, Report, Node, Client}
 use Rattle.sc_client_table.specs.Definitions.{Client as ClientState}
 use Rattle.sc_cmd.specs.declared.bodies.Body.TheVariants as At
 use Rattle.sc_cmd.specs.declared.effects.Effect.TheVariants as Was
 use Rattle.sc_cmd.specs.declared.orders.OrderRefusal.TheVariants as Why
-use Rattle.sc_cmd.specs.declared.orders.ToldResult.TheVariants as Tells
+use Rattle.sc_cmd.specs.declared.orders.OrderResult.TheVariants as Tells
 use Rattle.sc_cmd.specs.declared.votes.No.TheVariants as Because
 use Rattle.sc_cmd.specs.declared.votes.Outcome.TheVariants as Is
 use Rattle.sc_cmd.specs.declared.votes.Past.TheVariants as Cast
@@ -136,7 +136,7 @@ EffectNames K (Was.Refused why) = RefusalNames K why
 -- ---- names in mail
 
 -- all names in a result that the desk gets are of kind K
-abbrev pub ResultNames : (Draw → Type 0) → ToldResult → Type 0
+abbrev pub ResultNames : (Draw → Type 0) → OrderResult → Type 0
 ResultNames K Tells.Done = Unit {0}
 ResultNames K Tells.Committed = Unit {0}
 ResultNames K Tells.Aborted = Unit {0}
@@ -189,11 +189,11 @@ pub record HeldNames (K : Draw → Type 0) (of : Core) (entries : List Command) 
   pub flights : Each (λ (flight : Flight Command). CommandNames K flight.value) flying
   pub ready : Each (λ (e : ℕ × Command). CommandNames K e.1) counted
   pub acts : Each (CommandNames K) parties
-  pub calls : Each (CommandNames K) others
+  pub backlog : Each (CommandNames K) others
 
 -- all names in a replica are of kind K
 abbrev pub ReplicaNames : (Draw → Type 0) → ReplicaState → Type 0
-ReplicaNames K r = HeldNames K r.group.core r.log.entries r.acceptor.accepted r.leader.reports r.leader.flights r.ready r.acts r.calls
+ReplicaNames K r = HeldNames K r.group.core r.log.entries r.acceptor.accepted r.leader.reports r.leader.flights r.ready r.acts r.backlog
 
 -- all names in the replicas of a node are of kind K
 abbrev pub NodeNames : (Draw → Type 0) → NodeState → Type 0

@@ -98,7 +98,7 @@ module _ (ahead : Ahead) (base : Base) (made : Command → Type 0) (heard : Mail
         prepares = k.prepares;
         count = k.count;
         sets = k.sets;
-        calls = k.calls;
+        backlog = k.backlog;
         acts = k.acts;
         flights = k.flights;
         ready = k.ready;
@@ -143,7 +143,7 @@ module _ (ahead : Ahead) (base : Base) (made : Command → Type 0) (heard : Mail
     prepares = k.prepares;
     count = k.count;
     sets = k.sets;
-    calls = k.calls;
+    backlog = k.backlog;
     acts = k.acts;
     flights = Each-without_flight _ slot r.leader.flights k.flights;
     ready = each_with_slot _ r.ready slot c k.ready t;
@@ -176,7 +176,7 @@ module _ (ahead : Ahead) (base : Base) (made : Command → Type 0) (heard : Mail
     prepares = k.prepares;
     count = k.count;
     sets = k.sets;
-    calls = k.calls;
+    backlog = k.backlog;
     acts = k.acts;
     flights = each_with_voters _ slot voters r.leader.flights k.flights new;
     ready = k.ready;

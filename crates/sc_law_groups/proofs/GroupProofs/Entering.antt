@@ -69,7 +69,7 @@ module _ (ahead : Ahead) (base : Base) (made : Command → Type 0) (me : ℕ) wh
         count = rest_length r.sets (applied r.group c).0.core.members (omega (arith, count, one)) ∙ k.count;
         sets = subst (λ n. AreSets ahead base (log ++ c ∷ []) (n + 1) (rest_of r.sets ++ (applied r.group c).0.core.members ∷ [])) (sym longer)
             (more_sets ahead base log c r.sets (applied r.group c).0.core.members k.count (ap (λ (g : Group). g.core.members) has.group_is) k.sets);
-        calls = k.calls;
+        backlog = k.backlog;
         acts = k.acts;
         flights = k.flights;
         ready = k.ready;

@@ -2,7 +2,7 @@
 use Rattle.std.proofs.Common.{◌≡◌, ℕ, ◌+◌, ◌<◌, ◌&&◌, nat_lt, Bool, true, false, cond, eqb, List, [], ◌∷◌, ◌++◌, length, Option, Some, None, ◌⊎◌, inl, inr, refl, sym, ◌∙◌, subst, arith}
 use Rattle.std.proofs.lemmas.Bool.{cases_Bool, eqb-true, eqb-false, and_parts, cond_both}
 use Rattle.sc_base.specs.Definitions.{client_actor, is_member, least_of, Among, Each}
-use Rattle.sc_node_table.specs.Values.{Op, Reply, Route, Command, Noop, Call, Join, Leave, Split, Begin, Base, Effect, AnswerBody, Mail, MailBody, Answer, Told, ToldResult, Flight}
+use Rattle.sc_node_table.specs.Values.{Op, Reply, Route, Command, Noop, Call, Join, Leave, Split, Begin, Base, Effect, AnswerBody, Mail, MailBody, Answer, Told, OrderResult, Flight}
 use Rattle.sc_cmd.specs.declared.effects.Effect.TheVariants as Was
 use Rattle.sc_mail.specs.declared.bodies.AnswerBody.TheVariants as Says
 use Rattle.sc_machine_table.specs.Definitions.{Group, applied}
@@ -10,7 +10,7 @@ use Rattle.sc_paxos_words.specs.Definitions.{LogState, next_of, flight_at, witho
 use Rattle.sc_paxos_words.proofs.Lemmas.{Each-among, find_found}
 use Rattle.sc_paxos_law.specs.Definitions.{IsLog}
 use Rattle.sc_paxos_law.proofs.Lemmas.{earlier}
-use Rattle.sc_node_table.specs.Definitions.{at_slot, without_slot, ReplicaState, Place, Executed, childless, name_of, next, members, flying, forgotten, sent, order_number, told_order, call_of, without_call, call_before, put_back, entered, answer_of, told_call, order_result, told_effect, announced, learnt_to, landed, left_gone, left, is_among, looked_for, looked, executed_one, next_child, has_room, next_ready, ending, executed_ready, executed, before_of, begun_result, spoken_number, told_result, told_begun, went_on, spoken_mails, spoken}
+use Rattle.sc_node_table.specs.Definitions.{at_slot, without_slot, ReplicaState, Place, Executed, childless, name_of, next, members, flying, forgotten, sent, order_number, order_reported, queued_number, without_request, request_before, put_back, entered, answer_of, answered_or_put_back, order_result, effect_reported, announced, learnt_to, landed, left_gone, left, is_among, looked_for, looked, executed_one, next_child, has_room, next_ready, ending, executed_ready, executed, before_of, begun_result, spoken_number, result_reported, begun_reported, went_on, spoken_mails, spoken}
 use Rattle.sc_node_table.specs.declared.Before.{Before}
 use Rattle.sc_law_entries.specs.history.Definitions.{IsReplied}
 use Rattle.sc_sound.specs.Definitions.{Ahead}
@@ -21,7 +21,7 @@ use Rattle.sc_law_groups.proofs.GroupProofs.Midway.{Fine, turn, says}
 use Rattle.sc_law_groups.proofs.GroupProofs.Putting.{puts_went_on}
 use Rattle.sc_law_groups.proofs.GroupProofs.Saying.{log_before, says_all}
 use Rattle.sc_law_groups.proofs.GroupProofs.Sending.{name_is, learnt_others, fine_elected, fine_ended, fine_stopped}
-use Rattle.sc_law_groups.proofs.GroupProofs.Parts.{Each-without_flight, among_without_flight, Each-without_slot, among_without_slot, slot_among, Each-without_call, flying_found}
+use Rattle.sc_law_groups.proofs.GroupProofs.Parts.{Each-without_flight, among_without_flight, Each-without_slot, among_without_slot, slot_among, Each-without_request, flying_found}
 use Rattle.sc_law_groups.proofs.GroupProofs.Offering.{with_calls, with_acts, fine_pumped}
 use Rattle.sc_law_groups.proofs.GroupProofs.Entering.{entered_has, entered_replica, entered_next, entered_runs}
 use Rattle.sc_law_groups.proofs.GroupProofs.Welcoming.{welcomed_place}
@@ -37,18 +37,18 @@ module _ (ahead : Ahead) (base : Base) (made : Command → Type 0) (heard : Mail
 
   -- ---- a command goes back
 
-  before_calls : (o : Option ℕ) (client seq : ℕ) (c : Command) (calls : List Command) → made c → Each made calls → Each made (call_before o client seq c calls)
-  before_calls None client seq c calls m e = (m, e)
-  before_calls (Some other) client seq c calls m e = cond_both (nat_lt other seq) (c ∷ without_call calls client) calls (Each made) (λ _. (m, Each-without_call made calls client e)) (λ _. e)
+  before_calls : (o : Option ℕ) (client seq : ℕ) (c : Command) (backlog : List Command) → made c → Each made backlog → Each made (request_before o client seq c backlog)
+  before_calls None client seq c backlog m e = (m, e)
+  before_calls (Some other) client seq c backlog m e = cond_both (nat_lt other seq) (c ∷ without_request backlog client) backlog (Each made) (λ _. (m, Each-without_request made backlog client e)) (λ _. e)
 
   back_replica : (h : Steps) (c : Command) (r : ReplicaState) → made c → Replica h r → Replica h (put_back c r)
   unfolding put_back
   back_replica h Noop r m k = k
-  back_replica h (Call client seq op) r m k = with_calls ahead base made heard me older before speaks some h r _ k (before_calls (call_of r.calls client) client seq (Call client seq op) r.calls m k.calls)
-  back_replica h (Join node order) r m k = with_calls ahead base made heard me older before speaks some h r (Join node order ∷ r.calls) k (m, k.calls)
-  back_replica h (Leave node order) r m k = with_calls ahead base made heard me older before speaks some h r (Leave node order ∷ r.calls) k (m, k.calls)
-  back_replica h (Split at child order) r m k = with_calls ahead base made heard me older before speaks some h r (Split at child order ∷ r.calls) k (m, k.calls)
-  back_replica h (Begin tx body order) r m k = with_calls ahead base made heard me older before speaks some h r (Begin tx body order ∷ r.calls) k (m, k.calls)
+  back_replica h (Call client seq op) r m k = with_calls ahead base made heard me older before speaks some h r _ k (before_calls (queued_number r.backlog client) client seq (Call client seq op) r.backlog m k.backlog)
+  back_replica h (Join node order) r m k = with_calls ahead base made heard me older before speaks some h r (Join node order ∷ r.backlog) k (m, k.backlog)
+  back_replica h (Leave node order) r m k = with_calls ahead base made heard me older before speaks some h r (Leave node order ∷ r.backlog) k (m, k.backlog)
+  back_replica h (Split at child order) r m k = with_calls ahead base made heard me older before speaks some h r (Split at child order ∷ r.backlog) k (m, k.backlog)
+  back_replica h (Begin tx body order) r m k = with_calls ahead base made heard me older before speaks some h r (Begin tx body order ∷ r.backlog) k (m, k.backlog)
   back_replica h c r m k = with_acts ahead base made heard me older before speaks some h r (c ∷ r.acts) k (m, k.acts)
 
   back_runs : (c : Command) (r : ReplicaState) → (put_back c r).running ≡ r.running
@@ -110,8 +110,8 @@ module _ (ahead : Ahead) (base : Base) (made : Command → Type 0) (heard : Mail
 
   told_place : (counted : Bool) (slot : ℕ) (d : Command) (g : Group) (o : Option AnswerBody) (c : Command) (r : ReplicaState) (mails : List Mail) → (p : Past counted slot d g (r, mails)) → made c
       → ((client seq : ℕ) (op : Op) (answer : AnswerBody) → c ≡ Call client seq op → o ≡ Some answer → IsTrueAnswer ahead base (p.fine.newer ++ before) (client_actor client) seq answer)
-      → Past counted slot d g (told_call o c (r, mails))
-  unfolding told_call says turn
+      → Past counted slot d g (answered_or_put_back o c (r, mails))
+  unfolding answered_or_put_back says turn
   told_place counted slot d g (Some answer) (Call client seq op) r mails p m t = record {
     fine = says ahead base made heard me older before r mails (record { from = r.me; to = client_actor client; body = Answer (name_of r) seq answer }) p.fine refl (name_is ahead base made heard me older before (p.fine.newer ++ before) r p.fine.replica) (λ _. t client seq op answer refl refl);
     group_is = p.group_is;
@@ -130,8 +130,8 @@ module _ (ahead : Ahead) (base : Base) (made : Command → Type 0) (heard : Mail
   told_place counted slot d g None c r mails p m t = p
 
   -- what an order came to is reported
-  result_place : (counted : Bool) (slot : ℕ) (d : Command) (g : Group) (o : Option ToldResult) (number : ℕ) (r : ReplicaState) (mails : List Mail) → Past counted slot d g (r, mails) → Past counted slot d g (r, told_result r.me o number mails)
-  unfolding told_order says
+  result_place : (counted : Bool) (slot : ℕ) (d : Command) (g : Group) (o : Option OrderResult) (number : ℕ) (r : ReplicaState) (mails : List Mail) → Past counted slot d g (r, mails) → Past counted slot d g (r, result_reported r.me o number mails)
+  unfolding order_reported says
   result_place counted slot d g None number r mails p = p
   result_place counted slot d g (Some result) number r mails p =
       cond_both (nat_lt 0 number) (sent r.me 0 (Told number result) mails) mails (λ ms. Past counted slot d g (r, ms))
@@ -144,8 +144,8 @@ module _ (ahead : Ahead) (base : Base) (made : Command → Type 0) (heard : Mail
       })
       (λ _. p)
 
-  ordered_place : (counted : Bool) (slot : ℕ) (d : Command) (g : Group) (o : Option ToldResult) (c : Command) (place : Place) → Past counted slot d g place → Past counted slot d g (told_effect o c place)
-  unfolding told_effect
+  ordered_place : (counted : Bool) (slot : ℕ) (d : Command) (g : Group) (o : Option OrderResult) (c : Command) (place : Place) → Past counted slot d g place → Past counted slot d g (effect_reported o c place)
+  unfolding effect_reported
   ordered_place counted slot d g None c place p = p
   ordered_place counted slot d g (Some result) c (r, mails) p = result_place counted slot d g (Some result) (order_number c) r mails p
 
@@ -153,9 +153,9 @@ module _ (ahead : Ahead) (base : Base) (made : Command → Type 0) (heard : Mail
 
   spoken_place : (counted : Bool) (slot : ℕ) (d : Command) (g : Group) (was : Before) (effect : Effect) (c : Command) (place : Place) → ((who : ℕ) → AreSaid heard (went_on who g was effect c []))
       → Past counted slot d g place → Past counted slot d g (spoken counted was effect c place)
-  unfolding spoken spoken_mails told_begun says_all
+  unfolding spoken spoken_mails begun_reported says_all
   spoken_place counted slot d g was effect c (r, mails) said p =
-      let before_it = told_result r.me (begun_result was.alone effect c) (spoken_number was.order c) mails in
+      let before_it = result_reported r.me (begun_result was.alone effect c) (spoken_number was.order c) mails in
       let told = result_place counted slot d g (begun_result was.alone effect c) (spoken_number was.order c) r mails p in
       cond_both counted (went_on r.me r.group was effect c before_it) before_it (λ ms. Past counted slot d g (r, ms))
       (λ _. subst (λ ms. Past counted slot d g (r, ms)) (sym (puts_went_on r.me r.group was effect c before_it))
@@ -192,7 +192,7 @@ module _ (ahead : Ahead) (base : Base) (made : Command → Type 0) (heard : Mail
     prepares = k.prepares;
     count = k.count;
     sets = k.sets;
-    calls = k.calls;
+    backlog = k.backlog;
     acts = k.acts;
     flights = Each-without_flight _ slot r.leader.flights k.flights;
     ready = Each-without_slot _ r.ready slot k.ready;
@@ -250,7 +250,7 @@ module _ (ahead : Ahead) (base : Base) (made : Command → Type 0) (heard : Mail
     prepares = k.prepares;
     count = k.count;
     sets = k.sets;
-    calls = k.calls;
+    backlog = k.backlog;
     acts = k.acts;
     flights = k.flights;
     ready = k.ready;
@@ -305,7 +305,7 @@ module _ (ahead : Ahead) (base : Base) (made : Command → Type 0) (heard : Mail
       subst (λ (x : Group). AreSaid heard (went_on who (applied x c).0 (before_of x.core) (applied x c).1 c [])) (sym k.log_is.group_is) (speaks.goes_on log c logged k.log_is.all_made m who)) in
       let replies : (client seq : ℕ) (op : Op) (reply : Reply) → c ≡ Call client seq op → IsReplied effect reply → IsReplyAt ahead base h client seq reply = λ client seq op reply is replied. (
       record {
-        front = log;
+        prefix = log;
         op = op;
         is_log = subst (λ d. IsLog (rule ahead base) h (log ++ d ∷ [])) is has.is_log;
         replied = subst (λ (g : Group). IsReplied (applied g (Call client seq op)).1 reply) k.log_is.group_is (subst (λ d. IsReplied (applied r.group d).1 reply) is replied);
@@ -313,8 +313,8 @@ module _ (ahead : Ahead) (base : Base) (made : Command → Type 0) (heard : Mail
       let answers : (client seq : ℕ) (op : Op) (answer : AnswerBody) → c ≡ Call client seq op → answer_of effect ≡ Some answer → IsTrueAnswer ahead base h (client_actor client) seq answer = λ client seq op answer is e.
       (true_answer h client seq effect (λ reply replied. replies client seq op reply is replied) answer e) in
       let start : Past counted (next r) c g (entered c r, mails) = record { fine = place; group_is = entered_group c r; learnt_is = t; executed_is = up; runs_is = λ e. entered_runs ahead base made me c r ∙ runs e } in
-      let answered_it : Past counted (next r) c g (cond counted (told_call (answer_of effect) c (entered c r, mails)) (entered c r, mails)) = (
-      cond_both counted (told_call (answer_of effect) c (entered c r, mails)) (entered c r, mails) (Past counted (next r) c g)
+      let answered_it : Past counted (next r) c g (cond counted (answered_or_put_back (answer_of effect) c (entered c r, mails)) (entered c r, mails)) = (
+      cond_both counted (answered_or_put_back (answer_of effect) c (entered c r, mails)) (entered c r, mails) (Past counted (next r) c g)
       (λ _. told_place counted (next r) c g (answer_of effect) c (entered c r) mails start m answers) (λ _. start)) in
       let heard_of : Past counted (next r) c g (announced counted effect c (entered c r, mails)) = ordered_place counted (next r) c g (order_result c effect) c _ answered_it in
       let spoke = spoken_place counted (next r) c g (before_of r.group.core) effect c (announced counted effect c (entered c r, mails)) speech heard_of in

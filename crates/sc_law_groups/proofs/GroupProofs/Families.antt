@@ -3,7 +3,7 @@ use Rattle.std.proofs.Common.{◌≡◌, ℕ, ◌+◌, ◌≤◌, false, List, [
 use Rattle.std.specs.Prelude.{slice_get}
 use Rattle.sc_node_table.specs.Values.{Ballot, Reply, Command, Base, Route, OrderLine, Mail, MailBody, Row, Node as ANode, Client as AClient}
 use Rattle.sc_base.specs.Definitions.{client_actor, Among, Each}
-use Rattle.sc_actor.specs.Definitions.{mails, value, has_gone}
+use Rattle.sc_actor.specs.Definitions.{mails, value, has_started}
 use Rattle.sc_actor.proofs.Lemmas.{mails-snoc}
 use Rattle.sc_client_table.specs.Definitions.{Client}
 use Rattle.sc_node_table.specs.Definitions.{NodeState}
@@ -63,7 +63,7 @@ module _ (ahead : Ahead) (scenario : Scenario) (firsts bases : List Base) (route
     pub client : Client
     pub value_is : value player_table (client_seat route asks) rows ≡ AClient client
     pub is : IsClient ahead bases (h_of rows) asks client
-    pub fresh : has_gone rows (client_actor asks.client) ≡ false → (client.replies ≡ []) × (client.waiting ≡ None)
+    pub fresh : has_started rows (client_actor asks.client) ≡ false → (client.replies ≡ []) × (client.waiting ≡ None)
 
   -- a client's replies in a journal
   abbrev pub replies_in : Asks → Journal → List Reply

@@ -2,13 +2,13 @@
 use Rattle.std.proofs.Common.{◌≡◌, ℕ, ◌+◌, ◌≤◌, ◌||◌, not, nat_lt, true, false, eqb, List, [], ◌∷◌, ◌++◌, length, Option, Some, None, refl, sym, ◌∙◌, ap, subst, arith}
 use Rattle.std.proofs.lemmas.Bool.{eqb-true, ltb-false, or_parts, not-false, cond_both}
 use Rattle.std.proofs.lemmas.List.{drop_all}
-use Rattle.sc_node_table.specs.Values.{Ballot, Draw, Command, Base, OrderLine, OrderRefusal, ToldResult, Refused, Mail, MailBody, Told}
+use Rattle.sc_node_table.specs.Values.{Ballot, Draw, Command, Base, OrderLine, OrderRefusal, OrderResult, Refused, Mail, MailBody, Told}
 use Rattle.sc_machine_table.specs.Definitions.{Group, group_of}
 use Rattle.sc_base.specs.Definitions.{is_member, Among, Each, Drawer, next_name}
 use Rattle.sc_paxos_words.specs.Definitions.{born_acceptor, installed, first_leader}
 use Rattle.sc_paxos_words.proofs.Lemmas.{Each-among, Each-append}
 use Rattle.sc_paxos_law.specs.Definitions.{Offered, IsLawfulHistory}
-use Rattle.sc_node_table.specs.Definitions.{ReplicaState, Place, first_ballot, name_of, next, members, last_slot, forgotten, waits_in, installed_replica, told_desk, ended, stopped, named, jumped, looked_up, took_over, install_row, made_by, ordered_command, untaken, taken_or_told, ordered_row}
+use Rattle.sc_node_table.specs.Definitions.{ReplicaState, Place, first_ballot, name_of, next, members, last_slot, forgotten, waits_in, installed_replica, result_sent, ended, stopped, named, jumped, looked_up, took_over, install_row, made_by, ordered_command, untaken, queued_or_refused, ordered_row}
 use Rattle.sc_law_entries.proofs.HistoryProofs.Lemmas.{state_same}
 use Rattle.sc_sound.specs.Definitions.{Ahead}
 use Rattle.sc_law_groups.proofs.GroupProofs.Growth.{IsFresh, fresh_state}
@@ -66,7 +66,7 @@ module _ (ahead : Ahead) (base : Base) (made : Command → Type 0) (heard : Mail
         prepares = λ b start a own. (let le = k.prepares b start a own in omega (arith, le, at, up, count));
         count = many ∙ k.count;
         sets = state_sets h slot from sets t;
-        calls = k.calls;
+        backlog = k.backlog;
         acts = k.acts;
         flights = k.flights;
         ready = k.ready;
@@ -137,7 +137,7 @@ module _ (ahead : Ahead) (base : Base) (made : Command → Type 0) (heard : Mail
         ready = [];
         sets = sets;
         acts = [];
-        calls = [];
+        backlog = [];
         waits = 0;
       }) = record {
         me_is = mine;
@@ -148,7 +148,7 @@ module _ (ahead : Ahead) (base : Base) (made : Command → Type 0) (heard : Mail
         prepares = λ b start a yes. absurd (Each-among _ before _ fresh a yes);
         count = many;
         sets = state_sets before slot state sets t;
-        calls = tt;
+        backlog = tt;
         acts = tt;
         flights = tt;
         ready = tt;
@@ -167,15 +167,15 @@ module _ (ahead : Ahead) (base : Base) (made : Command → Type 0) (heard : Mail
 
   -- ---- an order
 
-  told_place : (number : ℕ) (result : ToldResult) (r : ReplicaState) (mails : List Mail) → Ok (r, mails) → Ok (r, told_desk r.me number result mails)
+  told_place : (number : ℕ) (result : OrderResult) (r : ReplicaState) (mails : List Mail) → Ok (r, mails) → Ok (r, result_sent r.me number result mails)
   told_place number result r mails f = says ahead base made heard me older before r mails (record { from = r.me; to = 0; body = Told number result }) f refl tt tt
 
-  queued_place : (o : Option OrderRefusal) (number : ℕ) (c : Command) (r : ReplicaState) (mails : List Mail) → Ok (r, mails) → (o ≡ None → made c) → Ok (taken_or_told o number c (r, mails))
+  queued_place : (o : Option OrderRefusal) (number : ℕ) (c : Command) (r : ReplicaState) (mails : List Mail) → Ok (r, mails) → (o ≡ None → made c) → Ok (queued_or_refused o number c (r, mails))
   queued_place (Some why) number c r mails f m = told_place number (Refused why) r mails f
   queued_place None number c r mails f m =
       fine_pumped ahead base made heard me older before speaks some _
-      (turn ahead base made heard me older before r (record r { calls = r.calls ++ c ∷ [] }) mails f
-      (with_calls ahead base made heard me older before speaks some (f.newer ++ before) r (r.calls ++ c ∷ []) f.replica (Each-append made r.calls (c ∷ []) f.replica.calls (m refl, tt))))
+      (turn ahead base made heard me older before r (record r { backlog = r.backlog ++ c ∷ [] }) mails f
+      (with_calls ahead base made heard me older before speaks some (f.newer ++ before) r (r.backlog ++ c ∷ []) f.replica (Each-append made r.backlog (c ∷ []) f.replica.backlog (m refl, tt))))
 
   -- Told: an order whose command may be queued where it is taken
   pub fine_ordered_row : (drawer : Drawer) (line : OrderLine) (r : ReplicaState) → (untaken drawer line r ≡ None → made (ordered_command (next_name drawer) line.number line.order)) → (mails : List Mail) → Ok (r, mails) → Ok (ordered_row drawer line (r, mails))

@@ -139,7 +139,7 @@ module _ (ahead : Ahead) (base : Base) where
     pub count : length r.sets ≡ ahead.slots
     pub sets : AreSets whole (length whole + 1) r.sets
     -- what waits was requested, what is in flight was offered, and what is ready is chosen
-    pub calls : Each made r.calls
+    pub backlog : Each made r.backlog
     pub acts : Each made r.acts
     pub flights : Each (IsFlying h r.leader.ballot) r.leader.flights
     pub ready : Each (λ e. IsLearnt rule h e.0 e.1) r.ready
@@ -161,7 +161,7 @@ module _ (ahead : Ahead) (base : Base) where
     prepares = k.prepares;
     count = k.count;
     sets = k.sets;
-    calls = k.calls;
+    backlog = k.backlog;
     acts = k.acts;
     flights = k.flights;
     ready = k.ready;
@@ -173,10 +173,10 @@ module _ (ahead : Ahead) (base : Base) where
 
   -- the log begins so, and the call that comes next in it has this reply, be it new or again
   pub record IsReplyAt (h : Steps) (client seq : ℕ) (reply : Reply) : Type 0 where
-    pub front : List Command
+    pub prefix : List Command
     pub op : Op
-    pub is_log : IsLog rule h (front ++ Call client seq op ∷ [])
-    pub replied : IsReplied (applied (state_after birth front) (Call client seq op)).1 reply
+    pub is_log : IsLog rule h (prefix ++ Call client seq op ∷ [])
+    pub replied : IsReplied (applied (state_after birth prefix) (Call client seq op)).1 reply
 
   -- a reply is that of an entry of the log
   abbrev pub IsTrueAnswer : Steps → ℕ → ℕ → AnswerBody → Type 0
@@ -235,7 +235,7 @@ module _ (ahead : Ahead) (base : Base) where
 
   -- a reply of the log stays one
   pub grown_reply : (newer h : Steps) (client seq : ℕ) (reply : Reply) → IsReplyAt h client seq reply → IsReplyAt (newer ++ h) client seq reply
-  grown_reply newer h client seq reply t = record { front = t.front; op = t.op; is_log = later_logs rule newer h (t.front ++ Call client seq t.op ∷ []) t.is_log; replied = t.replied }
+  grown_reply newer h client seq reply t = record { prefix = t.prefix; op = t.op; is_log = later_logs rule newer h (t.prefix ++ Call client seq t.op ∷ []) t.is_log; replied = t.replied }
 
   grown_answer : (newer h : Steps) (to seq : ℕ) (answer : AnswerBody) → IsTrueAnswer h to seq answer → IsTrueAnswer (newer ++ h) to seq answer
   grown_answer newer h to seq (Says.Value reply) t = λ client e. grown_reply newer h client seq reply (t client e)
@@ -289,7 +289,7 @@ module _ (ahead : Ahead) (base : Base) where
       prepares = λ b from a own. elim a [ inl e ↦ prepares b from e own | inr o ↦ k.prepares b from o own ];
       count = k.count;
       sets = k.sets;
-      calls = k.calls;
+      backlog = k.backlog;
       acts = k.acts;
       flights = Each-weaker _ _ (λ f p. later_flying s h r.leader.ballot f p) r.leader.flights k.flights;
       ready = Each-weaker _ _ (λ e p. later_learnt rule s h e.0 e.1 p) r.ready k.ready;
@@ -331,7 +331,7 @@ module _ (ahead : Ahead) (base : Base) where
     prepares = k.prepares;
     count = k.count;
     sets = k.sets;
-    calls = Each-weaker made more f r.calls k.calls;
+    backlog = Each-weaker made more f r.backlog k.backlog;
     acts = Each-weaker made more f r.acts k.acts;
     flights = k.flights;
     ready = k.ready;

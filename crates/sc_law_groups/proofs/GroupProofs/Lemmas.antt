@@ -17,7 +17,7 @@ pub use Rattle.sc_law_groups.proofs.GroupProofs.Places.{or_now, issue-push, Jour
 pub use Rattle.sc_law_groups.proofs.GroupProofs.Orders.{TellsSo, GivesAllowedOrder, told_induction}
 pub use Rattle.sc_law_groups.proofs.GroupProofs.Clients.{IsAnswered, IsIssued}
 pub use Rattle.sc_law_groups.proofs.GroupProofs.Families.{h_of, Kept, IsLater, Moved, push, decided_made, entry_offered, Part, IsNodeAt, IsClientAt, Stepped, log_goes_on}
-pub use Rattle.sc_law_groups.proofs.GroupProofs.Replies.{front_is}
+pub use Rattle.sc_law_groups.proofs.GroupProofs.Replies.{prefix_is}
 pub use Rattle.sc_law_groups.proofs.GroupProofs.Replicated.{one_value, is_log, longest, executed_is}
 pub use Rattle.sc_law_groups.proofs.GroupProofs.Births.{first_of, at_start}
 pub use Rattle.sc_law_groups.proofs.GroupProofs.RowSteps.{number_among, among_numbers}

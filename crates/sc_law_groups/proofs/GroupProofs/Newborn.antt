@@ -39,7 +39,7 @@ born_replica_is ahead base made h n fresh = record {
       let r = get_replicate ahead.slots base.core.members set k e in
       let need = needed (rule ahead base) (1 + k) in
       (r.0 ∙ ap (rule ahead base).members (sym (take_none {X = Command} need)), (let lt = r.1 in omega (arith, lt))));
-  calls = tt;
+  backlog = tt;
   acts = tt;
   flights = tt;
   ready = tt;

@@ -1,12 +1,12 @@
 -- What holds of a node with its replicas, and what comes of mail and orders.
 use Rattle.std.proofs.Common.{◌≡◌, ℕ, ◌||◌, not, nat_lt, true, false, cond, eqb, List, [], ◌∷◌, ◌++◌, length, Option, Some, None, is_some, inl, inr, refl, sym, ◌∙◌, ap, subst, append-nil}
 use Rattle.std.proofs.lemmas.Bool.{cases_Bool, cond_both}
-use Rattle.sc_node_table.specs.Values.{Draw, Command, Base, OrderLine, Mail, MailBody, Request, Answer, Prepare, Promise, Accept, Accepted as AcceptedMail, Nack, Learn, Ask, Install, TxPrepare, TxVote, TxOutcome, TxElsewhere, TxWatch, TxWatched, Told, ToldResult, Refused, Event}
+use Rattle.sc_node_table.specs.Values.{Draw, Command, Base, OrderLine, Mail, MailBody, Request, Answer, Prepare, Promise, Accept, Accepted as AcceptedMail, Nack, Learn, Ask, Install, TxPrepare, TxVote, TxOutcome, TxElsewhere, TxWatch, TxWatched, Told, OrderResult, Refused, Event}
 use Rattle.sc_base.specs.Definitions.{same_draw, Among, Each, Drawer, next_name}
 use Rattle.sc_cmd.specs.declared.orders.OrderRefusal.TheVariants.{NotLeader}
 use Rattle.sc_paxos_words.proofs.Lemmas.{Each-among, Each-from, Each-weaker, find_found}
 use Rattle.sc_paxos_law.specs.Definitions.{IsLawfulHistory}
-use Rattle.sc_node_table.specs.Definitions.{NodeState, replica_of, with_replica, with_new, group_of_mail, absent, with_made, unknown, may_come, with_born, with_children, taken_by, routed, on_mail, group_of_order, ordered_of, on_order, ordered_command, ordered_row, names_after, untaken, slots_ahead, told_desk, ReplicaState, Place, name_of, born_replica, last_slot, prepare_row, made_by, mailed}
+use Rattle.sc_node_table.specs.Definitions.{NodeState, replica_of, with_replica, with_new, group_of_mail, absent, with_made, unknown, may_come, with_born, with_children, taken_by, routed, on_mail, group_of_order, ordered_of, on_order, ordered_command, ordered_row, names_after, untaken, slots_ahead, result_sent, ReplicaState, Place, name_of, born_replica, last_slot, prepare_row, made_by, mailed}
 use Rattle.sc_sound.specs.Definitions.{Ahead}
 use Rattle.sc_law_groups.specs.group.Definitions.{asked_in}
 use Rattle.sc_law_groups.proofs.GroupProofs.Growth.{By}
@@ -393,9 +393,9 @@ module _ (ahead : Ahead) (bases : List Base) (made : Base → Command → Type 0
     abbrev Asked : NodeState × List Mail → Type 0
     Asked step = NodeEnded (λ base. asked_in base.core.id step.1 (h base)) step
 
-    desk_ended : (number : ℕ) (result : ToldResult) (node : NodeState) → IsNode h me node → Asked (node, told_desk node.me number result [])
+    desk_ended : (number : ℕ) (result : OrderResult) (node : NodeState) → IsNode h me node → Asked (node, result_sent node.me number result [])
     desk_ended number result node k =
-        unchanged _ node (told_desk node.me number result []) k (λ base a. refl)
+        unchanged _ node (result_sent node.me number result []) k (λ base a. refl)
         (λ m a. elim a [ inl e ↦ subst (λ (x : Mail). IsNamedIn heard bases x.body) e tt | inr n ↦ absurd n ])
         (λ base b m a. elim a [ inl e ↦ subst (λ (x : Mail). IsTrue ahead base (made base) heard (h base) x x.body) e tt | inr n ↦ absurd n ])
 

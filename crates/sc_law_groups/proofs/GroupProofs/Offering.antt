@@ -12,7 +12,7 @@ use Rattle.sc_paxos_words.specs.Definitions.{below, choice, names_above, must, m
 use Rattle.sc_paxos_words.proofs.Lemmas.{choice_among, Each-among, Each-weaker, Each-append}
 use Rattle.sc_paxos_law.specs.Definitions.{Step, Offered, needed, members_of, CountedPromise, MayOffer}
 use Rattle.sc_paxos_law.proofs.Lemmas.{Among-left, Among-right, from_flat_map, was_offered, report_accepted, elected_by}
-use Rattle.sc_node_table.specs.Definitions.{Found, is_act, refused_by, turned_down, next_call, from_calls, from_acts, from_queues, found_by, found_for, offered, pumped_from, pumped, sent_all, at_slot, ReplicaState, Place, name_of, next, flying, either, taken_at, may_offer, settled, under_way, is_idle, last_slot}
+use Rattle.sc_node_table.specs.Definitions.{Found, is_act, refused_by, turned_down, next_queued, from_backlog, from_acts, from_queues, found_by, found_for, offered, pumped_from, pumped, sent_all, at_slot, ReplicaState, Place, name_of, next, flying, either, taken_at, may_offer, settled, under_way, is_idle, last_slot}
 use Rattle.sc_sound.specs.Definitions.{Ahead}
 use Rattle.sc_law_groups.proofs.GroupProofs.Growth.{later_learnt}
 use Rattle.sc_law_groups.proofs.GroupProofs.Invariant.{Steps, rule, first, later_has, IsTaken, AreSets, IsReplica, next_after, IsTrueAnswer, later_flying}
@@ -105,7 +105,7 @@ module _ (ahead : Ahead) (base : Base) (made : Command → Type 0) (heard : Mail
         prepares = λ b from a own. elim a [ inl e ↦ cc | inr o ↦ k.prepares b from o own ];
         count = k.count;
         sets = k.sets;
-        calls = k.calls;
+        backlog = k.backlog;
         acts = k.acts;
         flights = Each-append _ r.leader.flights (new ∷ []) (Each-weaker _ _ (λ f p. later_flying ahead base made me s h r.leader.ballot f p) r.leader.flights k.flights) ((inl refl, tt), tt);
         ready = Each-weaker _ _ (λ e p. later_learnt (rule ahead base) s h e.0 e.1 p) r.ready k.ready;
@@ -188,7 +188,7 @@ module _ (ahead : Ahead) (base : Base) (made : Command → Type 0) (heard : Mail
     pub command : IfSome found.0 (λ c. made c × Obeys (must slot r.leader) c)
 
   -- other calls that were made may wait
-  pub with_calls : (h : Steps) (r : ReplicaState) (commands : List Command) → IsReplica ahead base made h me r → Each made commands → IsReplica ahead base made h me (record r { calls = commands })
+  pub with_calls : (h : Steps) (r : ReplicaState) (commands : List Command) → IsReplica ahead base made h me r → Each made commands → IsReplica ahead base made h me (record r { backlog = commands })
   with_calls h r commands k e = record {
     me_is = k.me_is;
     whole = k.whole;
@@ -198,7 +198,7 @@ module _ (ahead : Ahead) (base : Base) (made : Command → Type 0) (heard : Mail
     prepares = k.prepares;
     count = k.count;
     sets = k.sets;
-    calls = e;
+    backlog = e;
     acts = k.acts;
     flights = k.flights;
     ready = k.ready;
@@ -217,7 +217,7 @@ module _ (ahead : Ahead) (base : Base) (made : Command → Type 0) (heard : Mail
     prepares = k.prepares;
     count = k.count;
     sets = k.sets;
-    calls = k.calls;
+    backlog = k.backlog;
     acts = e;
     flights = k.flights;
     ready = k.ready;
@@ -243,18 +243,18 @@ module _ (ahead : Ahead) (base : Base) (made : Command → Type 0) (heard : Mail
   turned_dull core (Call client seq op) answer e = refused_dull core.gone core op answer e
   turned_dull core _ answer e = cc
 
-  called : (idle : Bool) (core : Core) → core.id ≡ base.core.id → (calls : List Command) (r : ReplicaState) (mails : List Mail) → Ok (r, mails) → Each made calls → IsCalled r (next_call r.me idle core calls mails)
-  called idle core named calls r mails f e =
+  called : (idle : Bool) (core : Core) → core.id ≡ base.core.id → (backlog : List Command) (r : ReplicaState) (mails : List Mail) → Ok (r, mails) → Each made backlog → IsCalled r (next_queued r.me idle core backlog mails)
+  called idle core named backlog r mails f e =
       next_found r.me idle core (λ cs ms. Ok (r, ms) × Each made cs) (IsCalled r) (λ cs ms q. record { fine = q.0; rest = q.1; command = tt }) (λ c cs ms q. record { fine = q.0; rest = q.1.1; command = q.1.0 })
-      (λ c answer cs ms w is q. (answered_one ahead base made heard me older before r ms core.id answer named (turned_dull core c answer is) c q.0, q.1.1)) calls mails (f, e)
+      (λ c answer cs ms w is q. (answered_one ahead base made heard me older before r ms core.id answer named (turned_dull core c answer is) c q.0, q.1.1)) backlog mails (f, e)
 
-  found_in_calls : (slot : ℕ) (r : ReplicaState) (mails : List Mail) → must slot r.leader ≡ Open → Ok (r, mails) → IsFound slot r (from_calls (r, mails))
-  unfolding from_calls turn
+  found_in_calls : (slot : ℕ) (r : ReplicaState) (mails : List Mail) → must slot r.leader ≡ Open → Ok (r, mails) → IsFound slot r (from_backlog (r, mails))
+  unfolding from_backlog turn
   found_in_calls slot r mails free f =
-      let x = next_call r.me (is_idle r) r.group.core r.calls mails in
-      let got = called (is_idle r) r.group.core (name_is ahead base made heard me older before (f.newer ++ before) r f.replica) r.calls r mails f f.replica.calls in
+      let x = next_queued r.me (is_idle r) r.group.core r.backlog mails in
+      let got = called (is_idle r) r.group.core (name_is ahead base made heard me older before (f.newer ++ before) r f.replica) r.backlog r mails f f.replica.backlog in
       record {
-        fine = turn ahead base made heard me older before r (record r { calls = x.1 }) x.2 got.fine (with_calls (got.fine.newer ++ before) r x.1 got.fine.replica got.rest);
+        fine = turn ahead base made heard me older before r (record r { backlog = x.1 }) x.2 got.fine (with_calls (got.fine.newer ++ before) r x.1 got.fine.replica got.rest);
         log_is = refl;
         sets_is = refl;
         runs_is = refl;

@@ -22,12 +22,12 @@ use Rattle.sc_law_groups.proofs.GroupProofs.Counting.{ready_place, set_is, count
 
 -- the child of a prefix of the log at a node: the log begins so, and the command that comes next makes it
 pub record IsChildOf (ahead : Ahead) (base : Base) (made : Command → Type 0) (me : ℕ) (h : Steps) (child : Base) : Type 0 where
-  pub front : List Command
+  pub prefix : List Command
   pub command : Command
-  pub is_log : IsLog (rule ahead base) h (front ++ command ∷ [])
-  pub all_made : Each made front
+  pub is_log : IsLog (rule ahead base) h (prefix ++ command ∷ [])
+  pub all_made : Each made prefix
   pub is_made : made command
-  pub child_is : child_by (state_after (birth ahead base) front) command ≡ Some child
+  pub child_is : child_by (state_after (birth ahead base) prefix) command ≡ Some child
   pub member : is_member child.core.members me ≡ true
 
 module _ (ahead : Ahead) (base : Base) (made : Command → Type 0) (heard : MailBody → Type 0) (me : ℕ) (before : Steps) (speaks : Speaks ahead base made heard before)
@@ -55,7 +55,7 @@ module _ (ahead : Ahead) (base : Base) (made : Command → Type 0) (heard : Mail
           let chosen = by_own_log (rule ahead base) (first ahead base) h f.lawful (length log + 1) c (subst (λ n. IsLearnt (rule ahead base) h n c) (next_after ahead base made h me r k) t) log k.log_is.is_log known in
           let has = entered_has ahead base made me h c r k m chosen in (
             record {
-              front = log;
+              prefix = log;
               command = c;
               is_log = fewer_log (rule ahead base) h before
                   (λ node b slot d a. all_asked base.core.id f.sent before node b slot d (subst (Among (Accepted node b slot d)) (sym f.are) a)) (log ++ c ∷ []) has.is_log;

@@ -10,7 +10,7 @@ use Rattle.sc_paxos_words.proofs.Lemmas.{Each-append, find_found}
 use Rattle.sc_node_table.specs.Values.{Seat, Row, Event, Deliver, Drop, Again, Go, Tick, Crash, Line, Settle, Storm}
 use Rattle.sc_actor.specs.declared.rows.Event.TheVariants.{Told}
 use Rattle.sc_actor.specs.declared.schedules.Line.TheVariants.{Go as GoLine, Deliver as DeliverLine, Drop as DropLine, Again as AgainLine, Tick as TickLine, Crash as CrashLine, Told as ToldLine, Free}
-use Rattle.sc_actor.specs.Definitions.{mails, numbered, may_get, has_crashed, System, acts, row_of, network, waiting, kth, numbers_of, has_gone, IsStep, Task, Once, Settles, Frees, Storms, WalkPlace, Allows, MayAdd, IsWalk, IsLawful, onward, is_over, after_row, start, rest_of_all, tasks_of, storm_steps, delivery, repeat_of, picked, storm_row}
+use Rattle.sc_actor.specs.Definitions.{mails, numbered, may_get, has_crashed, System, acts, row_of, network, waiting, kth, numbers_of, has_started, IsStep, Task, Once, Settles, Frees, Storms, WalkPlace, Allows, MayAdd, IsWalk, IsLawful, onward, is_over, after_row, start, rest_of_all, tasks_of, storm_steps, delivery, repeat_of, picked, storm_row}
 use Rattle.sc_actor.proofs.Lemmas.{MayAdd-step, onward-rows}
 
 given : {Y : Type 0} (b : Bool) (o : Option Y) (y : Y) → cond b None o ≡ Some y → o ≡ Some y
@@ -98,7 +98,7 @@ module _ {O : Type 0} (Q : ℕ → O → Type 0) where
           network_so (Again mail) row (λ who. tt) q.1
 
       row_so : (line : Line O) (row : Row M O) → TellsSo line → Allows s rows (Once line) row → GivesAllowedOrder row.who row.event
-      row_so (GoLine who) row q e = acts_so who Go row tt (given (has_gone rows who) (acts s rows who Go) row e)
+      row_so (GoLine who) row q e = acts_so who Go row tt (given (has_started rows who) (acts s rows who Go) row e)
       row_so (DeliverLine who k) row q e = let p = and_then-some (λ mail. acts s rows who (Deliver mail)) (kth (waiting s rows (Some who)) k) row e in acts_so who (Deliver p.0) row tt p.2
       row_so (DropLine who k) row q e = let p = map-some (λ mail. network (Drop mail)) (kth (waiting s rows (Some who)) k) row e in network_so (Drop p.0) row (λ who. tt) p.2
       row_so (AgainLine mail) row q e = repeat_so mail row e

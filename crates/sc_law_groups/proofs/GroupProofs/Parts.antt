@@ -7,7 +7,7 @@ use Rattle.std.proofs.lemmas.List.{length_push}
 use Rattle.sc_node_table.specs.Values.{Command, Flight}
 use Rattle.sc_base.specs.Definitions.{Among, Each}
 use Rattle.sc_paxos_words.specs.Definitions.{without_flight}
-use Rattle.sc_node_table.specs.Definitions.{rest_of, at_slot, without_slot, is_call_of, without_call}
+use Rattle.sc_node_table.specs.Definitions.{rest_of, at_slot, without_slot, is_request_of, without_request}
 
 -- what holds of each flight holds with one less
 pub Each-without_flight : (P : Flight Command → Type 0) (slot : ℕ) (fs : List (Flight Command)) → Each P fs → Each P (without_flight slot fs)
@@ -48,9 +48,9 @@ slot_among (x ∷ es) slot c e =
     ]
 
 -- what holds of each call holds with one less
-pub Each-without_call : (P : Command → Type 0) (cs : List Command) (client : ℕ) → Each P cs → Each P (without_call cs client)
-Each-without_call P [] client e = tt
-Each-without_call P (c ∷ cs) client e = cond_both (is_call_of client c) cs (c ∷ without_call cs client) (Each P) (λ _. e.1) (λ _. (e.0, Each-without_call P cs client e.1))
+pub Each-without_request : (P : Command → Type 0) (cs : List Command) (client : ℕ) → Each P cs → Each P (without_request cs client)
+Each-without_request P [] client e = tt
+Each-without_request P (c ∷ cs) client e = cond_both (is_request_of client c) cs (c ∷ without_request cs client) (Each P) (λ _. e.1) (λ _. (e.0, Each-without_request P cs client e.1))
 
 -- one is left out at the start and one put at the end
 pub rest_length : {X : Type 0} (xs : List X) (x : X) → 1 ≤ length xs → length (rest_of xs ++ x ∷ []) ≡ length xs

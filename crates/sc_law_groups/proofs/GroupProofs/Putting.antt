@@ -7,7 +7,7 @@ use Rattle.sc_cmd.specs.declared.votes.Past.TheVariants as Cast
 use Rattle.sc_cmd.specs.declared.votes.Vote.TheVariants as Vows
 use Rattle.sc_cmd.specs.Definitions.{decided_in, cast_in}
 use Rattle.sc_machine_table.specs.Definitions.{Group}
-use Rattle.sc_node_table.specs.Definitions.{sent_all, asked_first, asked_node, asked_link, reminders, asked_on, begun_asks, vote_sent, watch_sent, aborted_to, aborted_watcher, given_up_by, vote_answered, released_to, watch_answered_by, went_on, voted_to, watched_to, told_outcome, next_asked, asked_next}
+use Rattle.sc_node_table.specs.Definitions.{sent_all, asked_first, asked_node, asked_link, reminders, asked_on, begun_asks, vote_sent, watch_sent, aborted_to, aborted_watcher, given_up_by, vote_answered, released_to, watch_answered_by, went_on, voted_to, watched_to, outcome_sent, next_asked, asked_next}
 use Rattle.sc_node_table.specs.declared.Before.{Before}
 use Rattle.sc_base.specs.Definitions.{same_draw}
 
@@ -83,7 +83,7 @@ puts_answered (Some outcome) (Vows.No why) me was tx by mails = sym (append-nil 
 puts_released : (o : Option (ℕ × Link)) (me : ℕ) (succ : Link) (tx : Draw) (by : ℕ) (outcome : Outcome) → Puts (released_to o me succ tx by outcome)
 puts_released None me succ tx by outcome mails = refl
 puts_released (Some heard) me succ tx by outcome mails =
-    puts_after (told_outcome me heard.0 tx succ.group outcome) (told_outcome me by tx heard.1.group outcome) (λ ms. refl) (λ ms. refl) mails
+    puts_after (outcome_sent me heard.0 tx succ.group outcome) (outcome_sent me by tx heard.1.group outcome) (λ ms. refl) (λ ms. refl) mails
 
 puts_watch_answered : (o : Option Outcome) (vote : Past) (me : ℕ) (was : Before) (tx : Draw) (by : ℕ) → Puts (watch_answered_by o vote me was tx by)
 puts_watch_answered None vote me was tx by mails = sym (append-nil mails)

@@ -11,7 +11,7 @@ use Rattle.sc_law_groups.proofs.GroupProofs.Invariant.{Steps, rule, first, birth
 use Rattle.sc_law_groups.proofs.GroupProofs.Projected.{only, only_steps, log_from_only, after_from_only, log_to_only}
 use Rattle.sc_law_groups.proofs.GroupProofs.Places.{Journal}
 use Rattle.sc_law_groups.proofs.GroupProofs.Families.{h_of, decided_is}
-use Rattle.sc_law_groups.proofs.GroupProofs.Replies.{front_is}
+use Rattle.sc_law_groups.proofs.GroupProofs.Replies.{prefix_is}
 
 module _ (ahead : Ahead) (base : Base) (rows : Journal) (lawful : IsLawfulHistory (rule ahead base) (first ahead base) (h_of rows base)) where
   abbrev h : Steps
@@ -46,17 +46,17 @@ module _ (ahead : Ahead) (base : Base) (rows : Journal) (lawful : IsLawfulHistor
   -- each other log is a prefix of it
   pub longest : (other : List Command) → IsLog (rule ahead base) (accepts base.core.id rows) other → Continues other log
   longest other is =
-      let front = front_is ahead base rows lawful other (log_of_steps other is) in
-      (drop (length other) log, sym (take-append-drop (length other) log) ∙ ap (λ xs. xs ++ drop (length other) log) front.1)
+      let prefix = prefix_is ahead base rows lawful other (log_of_steps other is) in
+      (drop (length other) log, sym (take-append-drop (length other) log) ∙ ap (λ xs. xs ++ drop (length other) log) prefix.1)
 
   -- a replica has executed a prefix of it
   pub executed_is : (made : Command → Type 0) (n : ℕ) (r : ReplicaState) → IsReplica ahead base made h n r → HasRun ahead base rows r
   executed_is made n r is =
-      let front = front_is ahead base rows lawful is.whole is.log_is.is_log in
+      let prefix = prefix_is ahead base rows lawful is.whole is.log_is.is_log in
       record {
         count = length is.whole;
-        within = front.0;
+        within = prefix.0;
         next_is = next_after ahead base made h n r is;
-        entries = is.log_is.entries_are ∙ ap (drop r.log.base) (sym front.1);
-        group_is = is.log_is.group_is ∙ ap (state_after (birth ahead base)) (sym front.1);
+        entries = is.log_is.entries_are ∙ ap (drop r.log.base) (sym prefix.1);
+        group_is = is.log_is.group_is ∙ ap (state_after (birth ahead base)) (sym prefix.1);
       }

@@ -2,7 +2,7 @@
 use Rattle.std.proofs.Common.{◌≡◌, ◌≤◌, List, length, take, sym, subst}
 use Rattle.sc_node_table.specs.Values.{Command, Base}
 use Rattle.sc_paxos_law.specs.Definitions.{IsLog, IsLawfulHistory}
-use Rattle.sc_paxos_law.proofs.Lemmas.{front_of_log}
+use Rattle.sc_paxos_law.proofs.Lemmas.{prefix_of_log}
 use Rattle.sc_sound.specs.Definitions.{Ahead, decided_log}
 use Rattle.sc_law_groups.proofs.GroupProofs.Invariant.{rule, first}
 use Rattle.sc_law_groups.proofs.GroupProofs.Places.{Journal}
@@ -13,5 +13,5 @@ module _ (ahead : Ahead) (base : Base) (rows : Journal) (lawful : IsLawfulHistor
   log = decided_log ahead base rows
 
   -- a log of the steps is a prefix of the decided one
-  pub front_is : (l : List Command) → IsLog (rule ahead base) (h_of rows base) l → (length l ≤ length log) × (take (length l) log ≡ l)
-  front_is l is = subst (λ whole. (length l ≤ length whole) × (take (length l) whole ≡ l)) (sym (decided_is ahead base rows)) (front_of_log (rule ahead base) (first ahead base) (h_of rows base) lawful l is)
+  pub prefix_is : (l : List Command) → IsLog (rule ahead base) (h_of rows base) l → (length l ≤ length log) × (take (length l) log ≡ l)
+  prefix_is l is = subst (λ whole. (length l ≤ length whole) × (take (length l) whole ≡ l)) (sym (decided_is ahead base rows)) (prefix_of_log (rule ahead base) (first ahead base) (h_of rows base) lawful l is)

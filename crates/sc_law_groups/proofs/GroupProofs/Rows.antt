@@ -11,7 +11,7 @@ use Rattle.sc_paxos_words.specs.Definitions.{entry_at, flight_at}
 use Rattle.sc_paxos_words.proofs.Lemmas.{Each-among, Each-append, find_found}
 use Rattle.sc_paxos_law.specs.Definitions.{Offered}
 use Rattle.sc_paxos_law.proofs.Lemmas.{chosen_by, earlier}
-use Rattle.sc_node_table.specs.Definitions.{ReplicaState, Place, Executed, name_of, next, members, settled, may_offer, first_set, flying, is_idle, last_slot, sent, sent_all, call_of, without_call, ordered_command, untaken, wished_line, with_command, with_line, wishing, serves_calls, waited_in, reminded, nack_row, refused_at, queued, requested, request_row, learn_row, taught, most_taught, ask_answered, ask_row, uncounted, asked_again, told_last, tick_row}
+use Rattle.sc_node_table.specs.Definitions.{ReplicaState, Place, Executed, name_of, next, members, settled, may_offer, first_set, flying, is_idle, last_slot, sent, sent_all, queued_number, without_request, ordered_command, untaken, wished_line, with_command, with_line, wishing, admits_requests, waited_in, reminded, nack_row, refused_at, queued, requested, request_row, learn_row, taught, most_taught, ask_answered, ask_row, uncounted, asked_again, last_entry_sent, tick_row}
 use Rattle.sc_sound.specs.Definitions.{Ahead}
 use Rattle.sc_law_groups.proofs.GroupProofs.Growth.{IsLearnt}
 use Rattle.sc_law_groups.proofs.GroupProofs.Invariant.{Steps, rule, IsReplica, IsTrueAnswer}
@@ -19,7 +19,7 @@ use Rattle.sc_law_groups.proofs.GroupProofs.Speech.{Speaks}
 use Rattle.sc_law_groups.proofs.GroupProofs.Midway.{Fine, turn, says}
 use Rattle.sc_law_groups.proofs.GroupProofs.Sending.{name_is, offered_again, learnt_others, fine_elected, fine_saw}
 use Rattle.sc_law_groups.proofs.GroupProofs.Offering.{with_calls, fine_pumped}
-use Rattle.sc_law_groups.proofs.GroupProofs.Parts.{Each-without_call, flying_found}
+use Rattle.sc_law_groups.proofs.GroupProofs.Parts.{Each-without_request, flying_found}
 use Rattle.sc_law_groups.proofs.GroupProofs.Held.{get_dropped}
 use Rattle.sc_law_groups.proofs.GroupProofs.Welcoming.{installed_place}
 use Rattle.sc_law_groups.proofs.GroupProofs.Executing.{fine_executed}
@@ -105,27 +105,27 @@ module _ (ahead : Ahead) (base : Base) (made : Command → Type 0) (heard : Mail
   refused_dull None op r answer e h to seq =
       cond_both (not r.running) (Some (Says.NotLeader r.hint)) _ (λ o. o ≡ Some answer → IsTrueAnswer ahead base h to seq answer)
       (λ _ k. (let same : Says.NotLeader r.hint ≡ answer = cc in subst (IsTrueAnswer ahead base h to seq) same tt))
-      (λ _ k. cond_both (serves_calls r.group.core.lock && not (holds_key r.group.core.arc (key_of op))) (Some (Says.NotMine r.group.core.arc r.group.core.succ)) None
+      (λ _ k. cond_both (admits_requests r.group.core.lock && not (holds_key r.group.core.arc (key_of op))) (Some (Says.NotMine r.group.core.arc r.group.core.succ)) None
       (λ o. o ≡ Some answer → IsTrueAnswer ahead base h to seq answer)
       (λ _ j. (let same : Says.NotMine r.group.core.arc r.group.core.succ ≡ answer = cc in subst (IsTrueAnswer ahead base h to seq) same tt)) (λ _ j. cc) k) e
 
-  with_calls_place : (r : ReplicaState) (calls : List Command) (mails : List Mail) → (f : Ok (r, mails)) → Each made calls → Ok (record r { calls = calls }, mails)
-  with_calls_place r calls mails f e = turn ahead base made heard me older before r (record r { calls = calls }) mails f (with_calls ahead base made heard me older before speaks some (f.newer ++ before) r calls f.replica e)
+  with_calls_place : (r : ReplicaState) (backlog : List Command) (mails : List Mail) → (f : Ok (r, mails)) → Each made backlog → Ok (record r { backlog = backlog }, mails)
+  with_calls_place r backlog mails f e = turn ahead base made heard me older before r (record r { backlog = backlog }) mails f (with_calls ahead base made heard me older before speaks some (f.newer ++ before) r backlog f.replica e)
 
   fine_queued : (o : Option ℕ) (client seq : ℕ) (op : Op) (r : ReplicaState) (mails : List Mail) → Ok (r, mails) → made (Call client seq op) → Ok (queued o client seq op (r, mails))
   unfolding queued
-  fine_queued None client seq op r mails f m = fine_pumped ahead base made heard me older before speaks some _ (with_calls_place r (r.calls ++ Call client seq op ∷ []) mails f (Each-append made r.calls (Call client seq op ∷ []) f.replica.calls (m, tt)))
+  fine_queued None client seq op r mails f m = fine_pumped ahead base made heard me older before speaks some _ (with_calls_place r (r.backlog ++ Call client seq op ∷ []) mails f (Each-append made r.backlog (Call client seq op ∷ []) f.replica.backlog (m, tt)))
   fine_queued (Some other) client seq op r mails f m =
       cond_both (nat_le seq other) _ _ Ok (λ _. f)
-      (λ _. fine_pumped ahead base made heard me older before speaks some _ (with_calls_place r (without_call r.calls client ++ Call client seq op ∷ []) mails f
-      (Each-append made (without_call r.calls client) (Call client seq op ∷ []) (Each-without_call made r.calls client f.replica.calls) (m, tt))))
+      (λ _. fine_pumped ahead base made heard me older before speaks some _ (with_calls_place r (without_request r.backlog client ++ Call client seq op ∷ []) mails f
+      (Each-append made (without_request r.backlog client) (Call client seq op ∷ []) (Each-without_request made r.backlog client f.replica.backlog) (m, tt))))
 
   fine_requested : (o : Option AnswerBody) (client seq : ℕ) (op : Op) (r : ReplicaState) (mails : List Mail) → ((answer : AnswerBody) → o ≡ Some answer → (h : Steps) (to seq : ℕ) → IsTrueAnswer ahead base h to seq answer)
       → Ok (r, mails) → made (Call client seq op) → Ok (requested o client seq op (r, mails))
   unfolding requested
   fine_requested (Some answer) client seq op r mails dull f m =
       says ahead base made heard me older before r mails (record { from = r.me; to = client_actor client; body = Answer (name_of r) seq answer }) f refl (named r mails f) (λ _. dull answer refl (f.newer ++ before) (client_actor client) seq)
-  fine_requested None client seq op r mails dull f m = fine_queued (call_of r.calls client) client seq op r mails f m
+  fine_requested None client seq op r mails dull f m = fine_queued (queued_number r.backlog client) client seq op r mails f m
 
   -- the row of a Request keeps what holds
   pub fine_request_row : (client seq : ℕ) (op : Op) (r : ReplicaState) (mails : List Mail) → Ok (r, mails) → made (Call client seq op) → Ok (request_row client seq op (r, mails))
@@ -151,8 +151,8 @@ module _ (ahead : Ahead) (base : Base) (made : Command → Type 0) (heard : Mail
       go rest None e = rest mails f
       go rest (Some c) e = rest _ (offered_again ahead base made heard me older before (uncounted r slot set) r mails r.leader.ballot slot c f own (flying_offered (f.newer ++ before) slot r c f.replica e))
 
-  fine_told_last : (o : Option Command) (r : ReplicaState) (mails : List Mail) → entry_at (next r - 1) r.log ≡ o → Ok (r, mails) → Ok (r, told_last o r mails)
-  unfolding told_last
+  fine_told_last : (o : Option Command) (r : ReplicaState) (mails : List Mail) → entry_at (next r - 1) r.log ≡ o → Ok (r, mails) → Ok (r, last_entry_sent o r mails)
+  unfolding last_entry_sent
   fine_told_last None r mails e f = f
   fine_told_last (Some c) r mails e f =
       learnt_others ahead base made heard me older before (members r) r mails (name_of r) (next r - 1) c (named r mails f) f (entry_learnt (f.newer ++ before) (next r - 1) r c f.replica e)
@@ -161,7 +161,7 @@ module _ (ahead : Ahead) (base : Base) (made : Command → Type 0) (heard : Mail
   settled_runs r e = (and_parts r.running (may_offer r (first_set r.sets)) (not-false (settled r) e)).0
 
   commanded : (o : Option OrderRefusal) (c : Command) (r : ReplicaState) (mails : List Mail) → (o ≡ None → made c) → Ok (r, mails) → Ok (with_command o c r, mails)
-  commanded None c r mails m f = with_calls_place r (r.calls ++ c ∷ []) mails f (Each-append made r.calls (c ∷ []) f.replica.calls (m refl, tt))
+  commanded None c r mails m f = with_calls_place r (r.backlog ++ c ∷ []) mails f (Each-append made r.backlog (c ∷ []) f.replica.backlog (m refl, tt))
   commanded (Some why) c r mails m f = f
 
   lined : (drawer : Drawer) (o : Option OrderLine) (r : ReplicaState) (mails : List Mail) → ((line : OrderLine) → o ≡ Some line → untaken drawer line r ≡ None → made (ordered_command (next_name drawer) line.number line.order)) → Ok (r, mails)

@@ -2,14 +2,14 @@
 use Rattle.std.proofs.Common.{◌≡◌, ℕ, ◌+◌, ◌≤◌, ◌-◌, ◌^◌, ◌&&◌, true, false, cond, eqb, nat_lt, List, [], ◌∷◌, ◌++◌, Option, Some, inl, refl, ◌∙◌, ap, subst, arith}
 use Rattle.std.proofs.lemmas.Bool.{cond-true, cond_both}
 use Rattle.sc_base.specs.Definitions.{client_actor, same_draw, Among}
-use Rattle.sc_node_table.specs.Values.{Ballot, Draw, Command, Call, Base, ToldResult, Refused, AnswerBody, Mail, MailBody, Answer, Prepare, Accept, Learn, Told}
+use Rattle.sc_node_table.specs.Values.{Ballot, Draw, Command, Call, Base, OrderResult, Refused, AnswerBody, Mail, MailBody, Answer, Prepare, Accept, Learn, Told}
 use Rattle.sc_cmd.specs.declared.orders.OrderRefusal.TheVariants.{NotLeader}
 use Rattle.sc_mail.specs.declared.bodies.AnswerBody.TheVariants as Says
 use Rattle.sc_machine_table.specs.Definitions.{Group}
 use Rattle.sc_paxos_words.specs.Definitions.{below, new_leader}
 use Rattle.sc_law_walks.proofs.Lemmas.{below_round}
 use Rattle.sc_paxos_law.specs.Definitions.{Step, Prepared, Offered}
-use Rattle.sc_node_table.specs.Definitions.{elected, ended, stopped, saw, open_nodes, sent, sent_all, sent_others, answered, answered_all, order_number, told_order, dismissed, dismissed_all, ReplicaState, Place, name_of, next, under_way}
+use Rattle.sc_node_table.specs.Definitions.{elected, ended, stopped, saw, open_nodes, sent, sent_all, sent_others, answered, answered_all, order_number, order_reported, dismissed, dismissed_all, ReplicaState, Place, name_of, next, under_way}
 use Rattle.sc_sound.specs.Definitions.{Ahead}
 use Rattle.sc_law_entries.proofs.HistoryProofs.Lemmas.{state_same}
 use Rattle.sc_law_groups.specs.group.Definitions.{proposer_steps}
@@ -99,8 +99,8 @@ module _ (ahead : Ahead) (base : Base) (made : Command → Type 0) (heard : Mail
 
   -- ---- the reports of orders
 
-  pub told_one : (r : ReplicaState) (mails : List Mail) (number : ℕ) (result : ToldResult) → Ok (r, mails) → Ok (r, told_order r.me number result mails)
-  unfolding told_order
+  pub told_one : (r : ReplicaState) (mails : List Mail) (number : ℕ) (result : OrderResult) → Ok (r, mails) → Ok (r, order_reported r.me number result mails)
+  unfolding order_reported
   told_one r mails number result f =
       cond_both (nat_lt 0 number) (sent r.me 0 (Told number result) mails) mails (λ ms. Ok (r, ms))
       (λ _. says ahead base made heard me older before r mails (record { from = r.me; to = 0; body = Told number result }) f refl tt tt) (λ _. f)
@@ -131,7 +131,7 @@ module _ (ahead : Ahead) (base : Base) (made : Command → Type 0) (heard : Mail
     prepares = k.prepares;
     count = k.count;
     sets = k.sets;
-    calls = k.calls;
+    backlog = k.backlog;
     acts = k.acts;
     flights = tt;
     ready = tt;
@@ -160,7 +160,7 @@ module _ (ahead : Ahead) (base : Base) (made : Command → Type 0) (heard : Mail
   -- ---- an end
 
   ended_replica : (h : Steps) (r : ReplicaState) (hint : Option ℕ) → Replica h r
-      → Replica h (record r { running = false; leader = new_leader r.leader.ballot (next r); ready = []; acts = []; calls = []; hint = hint })
+      → Replica h (record r { running = false; leader = new_leader r.leader.ballot (next r); ready = []; acts = []; backlog = []; hint = hint })
   ended_replica h r hint k = record {
     me_is = k.me_is;
     whole = k.whole;
@@ -170,7 +170,7 @@ module _ (ahead : Ahead) (base : Base) (made : Command → Type 0) (heard : Mail
     prepares = k.prepares;
     count = k.count;
     sets = k.sets;
-    calls = tt;
+    backlog = tt;
     acts = tt;
     flights = tt;
     ready = tt;
@@ -182,7 +182,7 @@ module _ (ahead : Ahead) (base : Base) (made : Command → Type 0) (heard : Mail
   unfolding ended
   fine_ended hint answer dull r mails f =
       let named = name_is (f.newer ++ before) r f.replica in
-      let told = dismissed_each r (answered_all r.me (name_of r) answer (under_way r) mails) (name_of r) hint answer named dull r.calls
+      let told = dismissed_each r (answered_all r.me (name_of r) answer (under_way r) mails) (name_of r) hint answer named dull r.backlog
       (answered_each r mails (name_of r) answer named dull (under_way r) f) in
       turn ahead base made heard me older before r _ _ told (ended_replica (told.newer ++ before) r hint told.replica)
 
@@ -202,7 +202,7 @@ module _ (ahead : Ahead) (base : Base) (made : Command → Type 0) (heard : Mail
     prepares = k.prepares;
     count = k.count;
     sets = k.sets;
-    calls = k.calls;
+    backlog = k.backlog;
     acts = k.acts;
     flights = k.flights;
     ready = k.ready;

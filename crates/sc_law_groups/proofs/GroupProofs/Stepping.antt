@@ -6,7 +6,7 @@ use Rattle.std.proofs.lemmas.Bool.{cases_Bool, eqb-true, eqb-false, eq-eqb, ne_e
 use Rattle.sc_node_table.specs.Values.{Draw, Op, Command, Call, Base, OrderLine, Mail, MailBody, Row, Event, Deliver, Tick, Go, Crash, Drop, Again, Input, Got, Seat, Ballot, Route, Node as ANode, Client as AClient}
 use Rattle.sc_actor.specs.declared.rows.Event.TheVariants.{Told}
 use Rattle.sc_actor.specs.declared.rows.Input.TheVariants.{Tick as TickInput, Go as GoInput, Told as ToldInput}
-use Rattle.sc_actor.specs.Definitions.{mails, value, acted, input_of, row_of, network, has_gone, is_go, IsOpen, ActorStep, IsStep}
+use Rattle.sc_actor.specs.Definitions.{mails, value, acted, input_of, row_of, network, has_started, is_go, IsOpen, ActorStep, IsStep}
 use Rattle.sc_actor.proofs.Lemmas.{value-snoc}
 use Rattle.sc_client_table.specs.Definitions.{Client, table, request_of, InTurn}
 use Rattle.sc_client_table.proofs.TurnLemmas.{sends_in_turn}
@@ -83,7 +83,7 @@ module _ (ahead : Ahead) (words : ℕ → ℕ → ℕ × ℕ) (scenario : Scenar
       → value player_table seat (rows ++ row ∷ []) ≡ (acted player_table (value player_table seat rows) (input_of (mails rows) row.event)).0
   own_value seat rows row e = value-snoc player_table seat rows row ∙ cond-true (eqb row.who seat.who) _ _ (eq-eqb row.who seat.who e)
 
-  still_gone : (rows : Journal) (row : Row Mail OrderLine) (who : ℕ) → has_gone (rows ++ row ∷ []) who ≡ false → has_gone rows who ≡ false
+  still_gone : (rows : Journal) (row : Row Mail OrderLine) (who : ℕ) → has_started (rows ++ row ∷ []) who ≡ false → has_started rows who ≡ false
   still_gone rows row who e = (any_push (λ r. eqb r.who who && is_go r.event) rows row e).0
 
   client_still : (rows : Journal) (row : Row Mail OrderLine) → HaveGrown ahead bases (h_of rows) (h_of (rows ++ row ∷ [])) → (asks : Asks) → IsClientAt ahead scenario firsts bases route made_by heard_by rows asks → eqb row.who (client_actor asks.client) ≡ false

@@ -140,7 +140,7 @@ module _ (ahead : Ahead) (base : Base) (made : Command → Type 0) (heard : Mail
     prepares = k.prepares;
     count = k.count;
     sets = k.sets;
-    calls = k.calls;
+    backlog = k.backlog;
     acts = k.acts;
     flights = k.flights;
     ready = k.ready;

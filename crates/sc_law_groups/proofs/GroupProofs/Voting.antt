@@ -2,14 +2,14 @@
 use Rattle.std.proofs.Common.{◌≡◌, ℕ, ◌&&◌, ◌||◌, not, nat_le, nat_lt, true, false, cond, eqb, List, [], ◌∷◌, ◌++◌, Option, Some, inl, inr, refl, sym, ◌∙◌, ap, subst, append-nil, arith}
 use Rattle.std.specs.List.{flat_map, list_any}
 use Rattle.std.proofs.lemmas.Bool.{eq-eqb, leb-false, and_parts, and_from, cond-true, cond_both}
-use Rattle.sc_node_table.specs.Values.{Ballot, Draw, Command, Call, Base, AnswerBody, Mail, MailBody, Request, Answer, Promise, Accepted as AcceptedMail, Nack, Ask, Install, Told, TxElsewhere, ToldResult, Refused, Report, PrepareAnswer, AcceptAnswer}
+use Rattle.sc_node_table.specs.Values.{Ballot, Draw, Command, Call, Base, AnswerBody, Mail, MailBody, Request, Answer, Promise, Accepted as AcceptedMail, Nack, Ask, Install, Told, TxElsewhere, OrderResult, Refused, Report, PrepareAnswer, AcceptAnswer}
 use Rattle.sc_base.specs.Definitions.{same_draw, same_ballot, Among, Each}
 use Rattle.sc_cmd.specs.declared.orders.OrderRefusal.TheVariants.{NotLeader}
 use Rattle.sc_paxos_words.specs.Definitions.{AcceptorState, may_promise, may_accept, after_promise, after_accept, reports_from, below}
 use Rattle.sc_paxos_words.proofs.Lemmas.{Each-weaker, Each-append}
 use Rattle.sc_paxos_law.specs.Definitions.{Step, Prepared, Promised, Offered, Accepted, state_of, IsLawfulStep, IsLawfulHistory}
 use Rattle.sc_paxos_law.proofs.Lemmas.{Among-right, Among-either}
-use Rattle.sc_node_table.specs.Definitions.{sent, answered, answered_all, order_number, told_order, dismissed, dismissed_all, install_to, ended, saw, ReplicaState, Place, name_of, hinted, promise_to, promised, prepare_row, accepted_to, took, accept_row}
+use Rattle.sc_node_table.specs.Definitions.{sent, answered, answered_all, order_number, order_reported, dismissed, dismissed_all, install_to, ended, saw, ReplicaState, Place, name_of, hinted, promise_to, promised, prepare_row, accepted_to, took, accept_row}
 use Rattle.sc_sound.specs.Definitions.{is_accepted, Ahead}
 use Rattle.sc_law_groups.specs.group.Definitions.{asked_in, promised_by}
 use Rattle.sc_law_groups.proofs.GroupProofs.Growth.{By, later_learnt}
@@ -44,8 +44,8 @@ unfolding answered
 answered_replies me group answer (Call client seq op) mails e = Each-append _ mails _ e (tt, tt)
 answered_replies me group answer _ mails e = e
 
-told_replies : (me number : ℕ) (result : ToldResult) (mails : List Mail) → ArePlain mails → ArePlain (told_order me number result mails)
-unfolding told_order
+told_replies : (me number : ℕ) (result : OrderResult) (mails : List Mail) → ArePlain mails → ArePlain (order_reported me number result mails)
+unfolding order_reported
 told_replies me number result mails e = cond_both (nat_lt 0 number) (sent me 0 (Told number result) mails) mails ArePlain (λ _. Each-append _ mails _ e (tt, tt)) (λ _. e)
 
 dismissed_replies : (me : ℕ) (group : Draw) (hint : Option ℕ) (answer : AnswerBody) (c : Command) (mails : List Mail) → ArePlain mails → ArePlain (dismissed me group hint answer c mails)
@@ -65,7 +65,7 @@ all_replies me group answer (c ∷ cs) mails e = all_replies me group answer cs 
 
 ended_replies : (hint : Option ℕ) (answer : AnswerBody) (r : ReplicaState) (mails : List Mail) → ArePlain mails → ArePlain (ended hint answer (r, mails)).1
 unfolding ended
-ended_replies hint answer r mails e = all_dismissed r.me (name_of r) hint answer r.calls _ (all_replies r.me (name_of r) answer _ mails e)
+ended_replies hint answer r mails e = all_dismissed r.me (name_of r) hint answer r.backlog _ (all_replies r.me (name_of r) answer _ mails e)
 
 pub saw_replies : (b : Ballot) (r : ReplicaState) (mails : List Mail) → ArePlain mails → ArePlain (saw b (r, mails)).1
 unfolding saw
@@ -181,7 +181,7 @@ module _ (ahead : Ahead) (base : Base) (made : Command → Type 0) (heard : Mail
     prepares = λ b from a own. elim a [ inl e ↦ absurd (no_prepare b from e) | inr o ↦ k.prepares b from o own ];
     count = k.count;
     sets = k.sets;
-    calls = k.calls;
+    backlog = k.backlog;
     acts = k.acts;
     flights = Each-weaker _ _ (λ f p. later_flying ahead base made me s h r.leader.ballot f p) r.leader.flights k.flights;
     ready = Each-weaker _ _ (λ e p. later_learnt (rule ahead base) s h e.0 e.1 p) r.ready k.ready;

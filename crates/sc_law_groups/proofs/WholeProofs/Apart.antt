@@ -172,7 +172,7 @@ silent ahead base rows row e = nothing_decided (none_accepted base.core.id rows 
     nothing_decided is = ap (log_of (rule_of ahead base)) is
 
 -- what is said of other groups is true in this one, where it is true in another
-module _ (ahead : Ahead) (base other : Base) (made made_there : Command → Type 0) (heard : MailBody → Type 0) (calls : (client seq : ℕ) (op : Op) → made_there (Call client seq op) → made (Call client seq op)) where
+module _ (ahead : Ahead) (base other : Base) (made made_there : Command → Type 0) (heard : MailBody → Type 0) (backlog : (client seq : ℕ) (op : Op) → made_there (Call client seq op) → made (Call client seq op)) where
   -- an answer of another group says nothing of this one
   apart_answer : (h : Steps) (mail : Mail) (group : Draw) (seq : ℕ) (answer : AnswerBody) → IsApartAnswer base.core.id group answer → IsTrue ahead base made heard h mail (Answer group seq answer)
   apart_answer h mail group seq (Says.Value reply) e = λ t. (let no_way : true ≡ false = sym t ∙ e in absurd (cc))
@@ -180,7 +180,7 @@ module _ (ahead : Ahead) (base other : Base) (made made_there : Command → Type
 
   -- a mail of another group, whatever it is, is true apart from this one
   pub apart_true : (h there : Steps) (mail : Mail) (body : MailBody) → IsApart base.core.id body → IsTrue ahead other made_there heard there mail body → IsTrue ahead base made heard h mail body
-  apart_true h there mail (Request group client seq op) e t = calls client seq op t
+  apart_true h there mail (Request group client seq op) e t = backlog client seq op t
   apart_true h there mail (Answer group seq answer) e t = apart_answer h mail group seq answer e
   apart_true h there mail (Nack group promised) e t = tt
   apart_true h there mail (Ask group from_slot) e t = tt

@@ -22,7 +22,7 @@ use Rattle.sc_law_groups.specs.whole.Definitions.{stories_at, MayQueue, IsHeardA
 use Rattle.sc_law_groups.proofs.WholeProofs.Coming.{Binds}
 use Rattle.sc_law_groups.proofs.WholeProofs.Locks.{Ever, WatchesIt, watching_since, DecidesIt, decided_since, yes_binds}
 use Rattle.sc_law_groups.proofs.WholeProofs.Asking.{hears_merges, BeginsShared, splits_fit, none_split}
-use Rattle.sc_law_groups.proofs.WholeProofs.Fronts.{goes_on_from}
+use Rattle.sc_law_groups.proofs.WholeProofs.WholePrefixes.{goes_on_from}
 use Rattle.sc_law_groups.proofs.WholeProofs.Speaking.{stands_watch, stands_offer, Stands, said_question, said_reminders, told_by, goes_on}
 
 -- only a Yes that is noted stands
@@ -78,8 +78,8 @@ module _ (sources : Sources) (ahead : Ahead) (scenario : Scenario) (start : Begi
   state_allows log is other c stands = states_allow sources ahead scenario.groups start rows turn base among log (drop (length log) decided) (on log is) other c stands
 
   -- what an entry of its log makes allowed
-  prefix_allows : (front : List Command) (entry : Command) (later : List Command) → decided ≡ front ++ entry ∷ later → (other : Draw) (c : Command) → MakesAllowed sources name (after front) entry other c → IsAllowed sources told other c
-  prefix_allows front entry later e other c makes = prefixes_allow sources ahead scenario.groups start rows turn base among front entry later e other c makes
+  prefix_allows : (prefix : List Command) (entry : Command) (later : List Command) → decided ≡ prefix ++ entry ∷ later → (other : Draw) (c : Command) → MakesAllowed sources name (after prefix) entry other c → IsAllowed sources told other c
+  prefix_allows prefix entry later e other c makes = prefixes_allow sources ahead scenario.groups start rows turn base among prefix entry later e other c makes
 
   -- what the last entry of a log makes allowed
   entry_allows : (log : List Command) (c : Command) → Log (log ++ c ∷ []) → (other : Draw) (d : Command) → MakesAllowed sources name (after log) c other d → IsAllowed sources told other d
@@ -87,11 +87,11 @@ module _ (sources : Sources) (ahead : Ahead) (scenario : Scenario) (start : Begi
       prefix_allows log c (drop (length (log ++ c ∷ [])) decided) (on (log ++ c ∷ []) is ∙ append_assoc log (c ∷ []) (drop (length (log ++ c ∷ [])) decided)) other d makes
 
   -- what an earlier entry of a log makes allowed
-  ever_allows : (log : List Command) → Log log → (Did : Group → Command → Type 0) (since : Ever Did (group_of base) log) → (other : Draw) (c : Command) → MakesAllowed sources name (after since.front) since.entry other c → IsAllowed sources told other c
+  ever_allows : (log : List Command) → Log log → (Did : Group → Command → Type 0) (since : Ever Did (group_of base) log) → (other : Draw) (c : Command) → MakesAllowed sources name (after since.prefix) since.entry other c → IsAllowed sources told other c
   ever_allows log is Did since other c makes =
       let rest = drop (length log) decided in
-      prefix_allows since.front since.entry (since.later ++ rest)
-      (on log is ∙ ap (λ l. l ++ rest) since.is ∙ append_assoc since.front (since.entry ∷ since.later) rest) other c makes
+      prefix_allows since.prefix since.entry (since.later ++ rest)
+      (on log is ∙ ap (λ l. l ++ rest) since.is ∙ append_assoc since.prefix (since.entry ∷ since.later) rest) other c makes
 
   -- what is begun has a participant
   shared : (c : Command) → Queues c → BeginsShared c
@@ -111,8 +111,8 @@ module _ (sources : Sources) (ahead : Ahead) (scenario : Scenario) (start : Begi
       let since = watching_since tx watch (group_of base) log fresh.free e in
       let did = since.did in
       ever_allows log is (WatchesIt tx watch) since name (RecordWatch tx Cast.Yes 0)
-      (subst (λ d. MakesAllowed sources name (after since.front) d name (RecordWatch tx Cast.Yes 0)) (sym did.command)
-      ((al (after since.front)).watches tx watch (ap (λ d. (applied (after since.front) d).1) (sym did.command) ∙ did.effect) name 0))
+      (subst (λ d. MakesAllowed sources name (after since.prefix) d name (RecordWatch tx Cast.Yes 0)) (sym did.command)
+      ((al (after since.prefix)).watches tx watch (ap (λ d. (applied (after since.prefix) d).1) (sym did.command) ∙ did.effect) name 0))
 
   -- a decision that is noted
   ended : (log : List Command) → Log log → (tx : Draw) (outcome : Outcome) → noted_outcome (after log).core tx ≡ Some outcome → (part : Draw) → IsAllowed sources told part (Finish tx outcome)
@@ -122,7 +122,7 @@ module _ (sources : Sources) (ahead : Ahead) (scenario : Scenario) (start : Begi
       let pair : got.0 ≡ (tx, outcome) = pair_is got.0 (draw_is got.0.0 tx there.1) got.2 in
       let since = decided_since tx outcome (group_of base) log fresh.decided (subst (λ p. Among p (after log).core.decided) pair there.0) in
       let did = since.did in
-      told_by sources told fit name al (after since.front) since.entry tx outcome (ever_allows log is (DecidesIt tx outcome) since) did.ends did.effect part
+      told_by sources told fit name al (after since.prefix) since.entry tx outcome (ever_allows log is (DecidesIt tx outcome) since) did.ends did.effect part
     where
       pair_is : (p : Draw × Outcome) → p.0 ≡ tx → p.1 ≡ outcome → p ≡ (tx, outcome)
       pair_is p one other = ap (λ d. (let q : Draw × Outcome = (d, p.1) in q)) one ∙ ap (λ o. (let q : Draw × Outcome = (tx, o) in q)) other

@@ -39,7 +39,7 @@ module _ (heard : MailBody → Type 0) (bases more : List Base) (all : (b : Base
   more_named _ one = one
 
 module _ (ahead : Ahead) (scenario : Scenario) (firsts bases more : List Base) (route : Route) (made : Journal → Base → Command → Type 0) (heard : Journal → MailBody → Type 0) (rows : Journal) (all : (b : Base) → Among b bases → Among b more)
-    (calls : (b other : Base) (client seq : ℕ) (op : Op) → made rows b (Call client seq op) → made rows other (Call client seq op)) where
+    (backlog : (b other : Base) (client seq : ℕ) (op : Op) → made rows b (Call client seq op) → made rows other (Call client seq op)) where
   module _ (k : Kept ahead scenario firsts bases route made heard rows) (old : (b : Base) → Among b more → IsOldOrNew bases b) where
     -- no mail has a new name
     apart_all : (b : Base) → IsNew bases b.core.id → (m : Mail) → Among m (mails rows) → IsApart b.core.id m.body
@@ -55,7 +55,7 @@ module _ (ahead : Ahead) (scenario : Scenario) (firsts bases more : List Base) (
     part_of b (inr (new, (parent, pa))) = record {
       lawful = subst (IsLawfulHistory (rule ahead b) (first ahead b)) (sym (empty b new)) tt;
       requested = λ ballot slot c a. absurd (subst (Among (Offered ballot slot c)) (empty b new) a);
-      true_mail = λ m a. apart_true ahead b parent (made rows b) (made rows parent) (heard rows) (calls parent b) (h_of rows b) (h_of rows parent) m m.body (apart_all b new m a) ((k.parts parent pa).true_mail m a);
+      true_mail = λ m a. apart_true ahead b parent (made rows b) (made rows parent) (heard rows) (backlog parent b) (h_of rows b) (h_of rows parent) m m.body (apart_all b new m a) ((k.parts parent pa).true_mail m a);
     }
 
     -- no replica has a new name

@@ -5,7 +5,7 @@ pub use Rattle.sc_law_groups.proofs.WholeProofs.Children.{fresh_children, listed
 pub use Rattle.sc_law_groups.proofs.WholeProofs.Coming.{IsDull, comes, EndsIt, voting_group}
 pub use Rattle.sc_law_groups.proofs.WholeProofs.Distinct.{parties_are_apart, dull_same}
 pub use Rattle.sc_law_groups.proofs.WholeProofs.Fitting.{merges_fit, no_vote}
-pub use Rattle.sc_law_groups.proofs.WholeProofs.Fronts.{goes_on_from}
+pub use Rattle.sc_law_groups.proofs.WholeProofs.WholePrefixes.{goes_on_from}
 pub use Rattle.sc_law_groups.proofs.WholeProofs.Granting.{speaks}
 pub use Rattle.sc_law_groups.proofs.WholeProofs.Growing.{grown}
 pub use Rattle.sc_law_groups.proofs.WholeProofs.Journals.{holds}

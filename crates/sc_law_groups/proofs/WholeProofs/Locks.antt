@@ -17,11 +17,11 @@ use Rattle.sc_law_groups.proofs.WholeProofs.Coming.{EndsIt, Binds, comes}
 
 -- an entry of a log of which this holds, after the entries before it
 pub record Ever (Did : Group → Command → Type 0) (group : Group) (log : List Command) : Type 0 where
-  pub front : List Command
+  pub prefix : List Command
   pub entry : Command
   pub later : List Command
-  pub is : log ≡ front ++ entry ∷ later
-  pub did : Did (state_after group front) entry
+  pub is : log ≡ prefix ++ entry ∷ later
+  pub did : Did (state_after group prefix) entry
 
 -- what a log brings about held before it, or an entry brought it about
 pub ever : (Q : Group → Type 0) (Did : Group → Command → Type 0) → ((group : Group) (c : Command) → Q (applied group c).0 → Q group ⊎ Did group c) → (group : Group) (log : List Command)
@@ -31,9 +31,9 @@ ever Q Did step group (c ∷ log) q =
     elim (ever Q Did step (applied group c).0 log q) [
       | inl here ↦ elim (step group c here) [
         | inl old ↦ inl old
-        | inr did ↦ inr (record { front = []; entry = c; later = log; is = refl; did = did })
+        | inr did ↦ inr (record { prefix = []; entry = c; later = log; is = refl; did = did })
       ]
-      | inr e ↦ inr (record { front = c ∷ e.front; entry = e.entry; later = e.later; is = ap (λ cs. c ∷ cs) e.is; did = e.did })
+      | inr e ↦ inr (record { prefix = c ∷ e.prefix; entry = e.entry; later = e.later; is = ap (λ cs. c ∷ cs) e.is; did = e.did })
     ]
 
 -- what each entry keeps holds after a log

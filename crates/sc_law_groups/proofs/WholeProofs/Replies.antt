@@ -17,7 +17,7 @@ use Rattle.sc_scenario.specs.declared.scenarios.Scenario.{Scenario}
 use Rattle.sc_law_entries.specs.logs.Definitions.{IsDecidedBefore, RepliesAreDecided, Rows}
 use Rattle.sc_law_groups.proofs.GroupProofs.Lemmas.{IsAnswered, h_of, rule, first}
 use Rattle.sc_law_groups.specs.whole.Definitions.{HasSeats}
-use Rattle.sc_law_groups.proofs.WholeProofs.Fronts.{goes_on_from}
+use Rattle.sc_law_groups.proofs.WholeProofs.WholePrefixes.{goes_on_from}
 
 -- ---- the group that clients ask first
 
@@ -58,9 +58,9 @@ route_is ahead scenario route seats group others is asks stands =
 -- ---- rows that answer
 
 -- rows that are some have a last one
-has_last : {X : Type 0} (x : X) (xs : List X) → (front : List X) × (last : X) × (x ∷ xs ≡ front ++ last ∷ [])
+has_last : {X : Type 0} (x : X) (xs : List X) → (prefix : List X) × (last : X) × (x ∷ xs ≡ prefix ++ last ∷ [])
 has_last x [] = ([], x, refl)
-has_last {X} x (y ∷ ys) = (let (front, last, is) = has_last y ys in (x ∷ front, last, ap (λ (l : List X). x ∷ l) is))
+has_last {X} x (y ∷ ys) = (let (prefix, last, is) = has_last y ys in (x ∷ prefix, last, ap (λ (l : List X). x ∷ l) is))
 
 -- a place within a list has an element
 has_place : {X : Type 0} (xs : List X) (place : ℕ) → suc place ≤ length xs → (x : X) × (slice_get xs place ≡ Some x)
@@ -71,12 +71,12 @@ has_place xs place within = elim (slice_get_cases xs place).1 [
 
 -- the row that answers a request, after which its client has a reply to it
 record IsAnswerRow (route : Route) (asks : Asks) (seq : ℕ) (before rows : Rows) (answered : ℕ) : Type 0 where
-  pub front : Rows
+  pub prefix : Rows
   pub row : Row Mail OrderLine
   pub later : Rows
-  pub are : before ++ rows ≡ front ++ row ∷ later
-  pub taken : answered ≡ length front + 1
-  pub within : seq ≤ length (kept_replies route asks (front ++ row ∷ []))
+  pub are : before ++ rows ≡ prefix ++ row ∷ later
+  pub taken : answered ≡ length prefix + 1
+  pub within : seq ≤ length (kept_replies route asks (prefix ++ row ∷ []))
 
 -- a row that answers is one of those with the replies so far
 answer_found : (route : Route) (asks : Asks) (seq : ℕ) (before rows : Rows) (answered : ℕ) → answered_from route asks seq before rows ≡ Some answered → IsAnswerRow route asks seq before rows answered
@@ -86,10 +86,10 @@ answer_found route asks seq before (row ∷ rows) answered e =
     elim (cases_Bool now) [
       | inl t ↦ (
           let here : Some (length before + 1) ≡ Some answered = sym (cond-true now (Some (length before + 1)) (answered_from route asks seq (before ++ row ∷ []) rows) t) ∙ e in
-          record { front = before; row = row; later = rows; are = refl; taken = cc; within = leb-true seq (length (kept_replies route asks (before ++ row ∷ []))) t })
+          record { prefix = before; row = row; later = rows; are = refl; taken = cc; within = leb-true seq (length (kept_replies route asks (before ++ row ∷ []))) t })
       | inr f ↦ (
           let r = answer_found route asks seq (before ++ row ∷ []) rows answered (sym (cond-false now (Some (length before + 1)) (answered_from route asks seq (before ++ row ∷ []) rows) f) ∙ e) in
-          record { front = r.front; row = r.row; later = r.later; are = sym (append_assoc before (row ∷ []) rows) ∙ r.are; taken = r.taken; within = r.within })
+          record { prefix = r.prefix; row = r.row; later = r.later; are = sym (append_assoc before (row ∷ []) rows) ∙ r.are; taken = r.taken; within = r.within })
     ]
 
 -- ---- what was decided
@@ -100,7 +100,7 @@ module _ (ahead : Ahead) (scenario : Scenario) (rows : Rows) where
       → ((b : Base) → Among b (groups_at ahead scenario.groups before) → IsLawfulHistory (rule ahead b) (first ahead b) (h_of before b))
       → (client seq : ℕ) (reply : Reply) → IsAnswered ahead (groups_at ahead scenario.groups before) (h_of before) client seq reply → IsDecidedBefore ahead scenario.groups rows client seq reply (length before + 1)
   decided_before before row later are lawful client seq reply (b, a, at) =
-      let called = at.front ++ Call client seq at.op ∷ [] in
+      let called = at.prefix ++ Call client seq at.op ∷ [] in
       let log = decided_log ahead b before in
       record {
         before = before;
@@ -110,10 +110,10 @@ module _ (ahead : Ahead) (scenario : Scenario) (rows : Rows) where
         taken = refl;
         base = b;
         stands = a;
-        front = at.front;
+        prefix = at.prefix;
         op = at.op;
         rest = drop (length called) log;
-        log = goes_on_from ahead b before (lawful b a) called at.is_log ∙ append_assoc at.front (Call client seq at.op ∷ []) (drop (length called) log);
+        log = goes_on_from ahead b before (lawful b a) called at.is_log ∙ append_assoc at.prefix (Call client seq at.op ∷ []) (drop (length called) log);
         replied = at.replied;
       }
 
@@ -146,13 +146,13 @@ module _ (ahead : Ahead) (scenario : Scenario) (route : Route) (rows : Rows) whe
     answered_now : (seq : ℕ) → 1 ≤ seq → (answered : ℕ) → answer_row route asks seq rows ≡ Some answered → (reply : Reply) × IsDecidedBefore ahead scenario.groups rows asks.client seq reply answered
     answered_now seq some answered e =
         let r = answer_found route asks seq [] rows answered e in
-        let replies = kept_replies route asks (r.front ++ r.row ∷ []) in
+        let replies = kept_replies route asks (r.prefix ++ r.row ∷ []) in
         let within = r.within in
         let same : seq - 1 + 1 ≡ seq = omega (arith, some) in
         let (reply, at) = has_place replies (seq - 1) (omega (arith, some, within)) in (
           reply,
           subst (λ n. IsDecidedBefore ahead scenario.groups rows asks.client seq reply n) (sym r.taken)
-              (subst (λ n. IsDecidedBefore ahead scenario.groups rows asks.client n reply (length r.front + 1)) same (keep r.front r.row r.later r.are asks stands (seq - 1) reply at)),
+              (subst (λ n. IsDecidedBefore ahead scenario.groups rows asks.client n reply (length r.prefix + 1)) same (keep r.prefix r.row r.later r.are asks stands (seq - 1) reply at)),
         )
 
   -- so all replies were decided before

@@ -23,16 +23,16 @@ use Rattle.sc_law_groups.proofs.WholeProofs.Apart.{IsNew, IsOldOrNew, named_apar
 use Rattle.sc_law_groups.proofs.WholeProofs.Children.{fresh_children}
 use Rattle.sc_law_groups.proofs.WholeProofs.Distinct.{parties_are_apart}
 use Rattle.sc_law_groups.proofs.WholeProofs.Fitting.{merges_fit}
-use Rattle.sc_law_groups.proofs.WholeProofs.Fronts.{goes_on_from}
+use Rattle.sc_law_groups.proofs.WholeProofs.WholePrefixes.{goes_on_from}
 use Rattle.sc_law_groups.proofs.WholeProofs.Granting.{speaks}
 use Rattle.sc_law_groups.proofs.WholeProofs.Growing.{grown}
 use Rattle.sc_law_groups.proofs.WholeProofs.Members.{members_stay_rosters}
 
 -- the child of an entry is one of its log's
-child_in : (group : Group) (front : List Command) (c : Command) (child : Base) → birth_of (state_after group front) c (applied (state_after group front) c).1 ≡ Some child → Among child (children_of group (front ++ c ∷ []))
+child_in : (group : Group) (prefix : List Command) (c : Command) (child : Base) → birth_of (state_after group prefix) c (applied (state_after group prefix) c).1 ≡ Some child → Among child (children_of group (prefix ++ c ∷ []))
 child_in group [] c child e = Among-left child (option_to_list (birth_of group c (applied group c).1)) [] (subst (λ o. Among child (option_to_list o)) (sym e) (inl refl))
-child_in group (d ∷ front) c child e =
-    Among-right child (option_to_list (birth_of group d (applied group d).1)) (children_of (applied group d).0 (front ++ c ∷ [])) (child_in (applied group d).0 front c child e)
+child_in group (d ∷ prefix) c child e =
+    Among-right child (option_to_list (birth_of group d (applied group d).1)) (children_of (applied group d).0 (prefix ++ c ∷ [])) (child_in (applied group d).0 prefix c child e)
 
 -- a call that was issued was so with one more row
 issued_later : (scenario : Scenario) (rows : Rows) (row : Row Mail OrderLine) (c : Command) → IsIssuedCall scenario rows c → IsIssuedCall scenario (rows ++ row ∷ []) c
@@ -174,13 +174,13 @@ module _ (sources : Sources) (ahead : Ahead) (words : ℕ → ℕ → ℕ × ℕ
     -- a child that is created is one of the groups, under a name of its own
     offspring : KnowsOffspring ahead words scenario scenario.groups (bases rows) route made heard players rows
     offspring n b a child is =
-        let log = is.front ++ is.command ∷ [] in
+        let log = is.prefix ++ is.command ∷ [] in
         let decided = decided_log ahead b rows in
         let on = goes_on_from ahead b rows (h.kept.parts b a).lawful log is.is_log in
-        let birth = sym (births_are_children (state_after (group_of b) is.front) is.command) ∙ is.child_is in
+        let birth = sym (births_are_children (state_after (group_of b) is.prefix) is.command) ∙ is.child_is in
         record {
-          among = found.prefixes b a log (drop (length log) decided) on child (child_in (group_of b) is.front is.command child birth);
-          alone = λ other o same. found.apart other child o (found.prefixes b a log (drop (length log) decided) on child (child_in (group_of b) is.front is.command child birth)) same;
+          among = found.prefixes b a log (drop (length log) decided) on child (child_in (group_of b) is.prefix is.command child birth);
+          alone = λ other o same. found.apart other child o (found.prefixes b a log (drop (length log) decided) on child (child_in (group_of b) is.prefix is.command child birth)) same;
           open_slots = seats.open_slots;
         }
 

@@ -2,7 +2,7 @@
 use Rattle.std.specs.Prelude.{false, List, [], ◌∷◌}
 use Rattle.sc_node_table.specs.Values.{Ballot, Command, Join, OrderLine, Mail, Accept, Accepted, Install, Told as ToldMail, Row, Deliver}
 use Rattle.sc_cmd.specs.declared.orders.Order.TheVariants as An
-use Rattle.sc_cmd.specs.declared.orders.ToldResult.TheVariants as Tells
+use Rattle.sc_cmd.specs.declared.orders.OrderResult.TheVariants as Tells
 use Rattle.sc_machine_table.specs.Definitions.{Group, group_of, base_of, with_node}
 use Rattle.sc_actor.specs.declared.rows.Event.TheVariants.{Told}
 use Rattle.sc_scenario.specs.Definitions.{lone_name}

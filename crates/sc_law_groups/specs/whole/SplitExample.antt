@@ -2,7 +2,7 @@
 use Rattle.std.specs.Prelude.{ℕ, false, List, [], ◌∷◌}
 use Rattle.sc_node_table.specs.Values.{Ballot, Draw, Op, Put, Command, Call, Split, Base, Link, OrderLine, Mail, Request, Answer, Accept, Accepted, Learn, Told as ToldMail, Row, Deliver, Go}
 use Rattle.sc_cmd.specs.declared.orders.Order.TheVariants as An
-use Rattle.sc_cmd.specs.declared.orders.ToldResult.TheVariants as Tells
+use Rattle.sc_cmd.specs.declared.orders.OrderResult.TheVariants as Tells
 use Rattle.sc_mail.specs.declared.bodies.AnswerBody.TheVariants as Says
 use Rattle.sc_machine_table.specs.Definitions.{group_of, child_of}
 use Rattle.sc_actor.specs.declared.rows.Event.TheVariants.{Told}

@@ -5,7 +5,7 @@ use Rattle.sc_node_table.specs.Values.{Ballot, Draw, Command, Noop, Call, Join, 
 use Rattle.sc_paxos_words.specs.declared.answers.Must.TheVariants.{Value, Free as Open}
 use Rattle.sc_paxos_words.proofs.Lemmas.{Each-append, Each-filter}
 use Rattle.sc_paxos_words.specs.Definitions.{AcceptorState, LeaderState, flight_at, promise_counted, entry_at, kept_voters, voters_after, tallied, vote_at, counted, choice, chosen_value, names_above, must, must_without, without_flight_at}
-use Rattle.sc_node_table.specs.Definitions.{ReplicaState, floor_of, forgotten, flying, with_slot, without_slot, call_of, is_call_of, without_call, call_before, put_back}
+use Rattle.sc_node_table.specs.Definitions.{ReplicaState, floor_of, forgotten, flying, with_slot, without_slot, queued_number, is_request_of, without_request, request_before, put_back}
 use Rattle.sc_law_entries.specs.names.Definitions.{Opt}
 use Rattle.sc_law_entries.proofs.NamesProofs.Lists.{opt_find, opt_map, opt_get, opt_choice, Each-drop, slot_with, slot_without, flight_without, voters_with}
 use Rattle.sc_law_walks.proofs.Lemmas.{either_way}
@@ -64,7 +64,7 @@ module _ (W : Draw → Type 0) where
 
   -- so is each GiveUp that stands at a replica
   pub record Holds (r : ReplicaState) : Type 0 where
-    pub calls : Commands r.calls
+    pub backlog : Commands r.backlog
     pub acts : Commands r.acts
     pub flights : Flights r.leader.flights
     pub ready : Ready r.ready
@@ -86,38 +86,38 @@ module _ (W : Draw → Type 0) where
   -- ---- parts that hold no command
 
   pub with_top : (r : ReplicaState) (top : Ballot) → Holds r → Holds (record r { top = top })
-  with_top r top h = record { calls = h.calls; acts = h.acts; flights = h.flights; ready = h.ready; reports = h.reports; accepted = h.accepted; log = h.log }
+  with_top r top h = record { backlog = h.backlog; acts = h.acts; flights = h.flights; ready = h.ready; reports = h.reports; accepted = h.accepted; log = h.log }
 
   pub with_hint : (r : ReplicaState) (hint : Option ℕ) → Holds r → Holds (record r { hint = hint })
-  with_hint r hint h = record { calls = h.calls; acts = h.acts; flights = h.flights; ready = h.ready; reports = h.reports; accepted = h.accepted; log = h.log }
+  with_hint r hint h = record { backlog = h.backlog; acts = h.acts; flights = h.flights; ready = h.ready; reports = h.reports; accepted = h.accepted; log = h.log }
 
   pub with_waits : (r : ReplicaState) (waits : ℕ) → Holds r → Holds (record r { waits = waits })
-  with_waits r waits h = record { calls = h.calls; acts = h.acts; flights = h.flights; ready = h.ready; reports = h.reports; accepted = h.accepted; log = h.log }
+  with_waits r waits h = record { backlog = h.backlog; acts = h.acts; flights = h.flights; ready = h.ready; reports = h.reports; accepted = h.accepted; log = h.log }
 
   -- ---- queues
 
-  pub with_calls : (r : ReplicaState) (commands : List Command) → Commands commands → Holds r → Holds (record r { calls = commands })
-  with_calls r commands c h = record { calls = c; acts = h.acts; flights = h.flights; ready = h.ready; reports = h.reports; accepted = h.accepted; log = h.log }
+  pub with_calls : (r : ReplicaState) (commands : List Command) → Commands commands → Holds r → Holds (record r { backlog = commands })
+  with_calls r commands c h = record { backlog = c; acts = h.acts; flights = h.flights; ready = h.ready; reports = h.reports; accepted = h.accepted; log = h.log }
 
   pub with_acts : (r : ReplicaState) (commands : List Command) → Commands commands → Holds r → Holds (record r { acts = commands })
-  with_acts r commands a h = record { calls = h.calls; acts = a; flights = h.flights; ready = h.ready; reports = h.reports; accepted = h.accepted; log = h.log }
+  with_acts r commands a h = record { backlog = h.backlog; acts = a; flights = h.flights; ready = h.ready; reports = h.reports; accepted = h.accepted; log = h.log }
 
-  pub without_gives : (calls : List Command) (client : ℕ) → Commands calls → Commands (without_call calls client)
+  pub without_gives : (backlog : List Command) (client : ℕ) → Commands backlog → Commands (without_request backlog client)
   without_gives [] client c = tt
-  without_gives (command ∷ calls) client c = either_way Commands (is_call_of client command) calls (command ∷ without_call calls client) c.1 (c.0, without_gives calls client c.1)
+  without_gives (command ∷ backlog) client c = either_way Commands (is_request_of client command) backlog (command ∷ without_request backlog client) c.1 (c.0, without_gives backlog client c.1)
 
-  before_gives : (o : Option ℕ) (client seq : ℕ) (command : Command) (calls : List Command) → Gives W command → Commands calls → Commands (call_before o client seq command calls)
-  before_gives None client seq command calls n c = (n, c)
-  before_gives (Some other) client seq command calls n c = either_way Commands (nat_lt other seq) (command ∷ without_call calls client) calls (n, without_gives calls client c) c
+  before_gives : (o : Option ℕ) (client seq : ℕ) (command : Command) (backlog : List Command) → Gives W command → Commands backlog → Commands (request_before o client seq command backlog)
+  before_gives None client seq command backlog n c = (n, c)
+  before_gives (Some other) client seq command backlog n c = either_way Commands (nat_lt other seq) (command ∷ without_request backlog client) backlog (n, without_gives backlog client c) c
 
   pub back_gives : (command : Command) (r : ReplicaState) → Gives W command → Holds r → Holds (put_back command r)
   unfolding put_back
   back_gives Noop r c h = h
-  back_gives (Call client seq op) r c h = with_calls r (call_before (call_of r.calls client) client seq (Call client seq op) r.calls) (before_gives (call_of r.calls client) client seq (Call client seq op) r.calls tt h.calls) h
-  back_gives (Join node order) r c h = with_calls r (Join node order ∷ r.calls) (c, h.calls) h
-  back_gives (Leave node order) r c h = with_calls r (Leave node order ∷ r.calls) (c, h.calls) h
-  back_gives (Split at child order) r c h = with_calls r (Split at child order ∷ r.calls) (c, h.calls) h
-  back_gives (Begin tx body order) r c h = with_calls r (Begin tx body order ∷ r.calls) (c, h.calls) h
+  back_gives (Call client seq op) r c h = with_calls r (request_before (queued_number r.backlog client) client seq (Call client seq op) r.backlog) (before_gives (queued_number r.backlog client) client seq (Call client seq op) r.backlog tt h.backlog) h
+  back_gives (Join node order) r c h = with_calls r (Join node order ∷ r.backlog) (c, h.backlog) h
+  back_gives (Leave node order) r c h = with_calls r (Leave node order ∷ r.backlog) (c, h.backlog) h
+  back_gives (Split at child order) r c h = with_calls r (Split at child order ∷ r.backlog) (c, h.backlog) h
+  back_gives (Begin tx body order) r c h = with_calls r (Begin tx body order ∷ r.backlog) (c, h.backlog) h
   back_gives (Prepared tx offer) r c h = with_acts r (Prepared tx offer ∷ r.acts) (c, h.acts) h
   back_gives (RecordVote tx vote by) r c h = with_acts r (RecordVote tx vote by ∷ r.acts) (c, h.acts) h
   back_gives (GiveUp tx) r c h = with_acts r (GiveUp tx ∷ r.acts) (c, h.acts) h
@@ -128,13 +128,13 @@ module _ (W : Draw → Type 0) where
   -- ---- leaders
 
   pub with_leader : (r : ReplicaState) (leader : LeaderState Command) → Reports leader.reports → Flights leader.flights → Holds r → Holds (record r { leader = leader })
-  with_leader r leader p f h = record { calls = h.calls; acts = h.acts; flights = f; ready = h.ready; reports = p; accepted = h.accepted; log = h.log }
+  with_leader r leader p f h = record { backlog = h.backlog; acts = h.acts; flights = f; ready = h.ready; reports = p; accepted = h.accepted; log = h.log }
 
   pub with_ready : (r : ReplicaState) (slot : ℕ) (command : Command) → Gives W command → Holds r → Holds (record r { ready = with_slot r.ready slot command })
-  with_ready r slot command c h = record { calls = h.calls; acts = h.acts; flights = h.flights; ready = slot_with (Gives W) r.ready slot command c h.ready; reports = h.reports; accepted = h.accepted; log = h.log }
+  with_ready r slot command c h = record { backlog = h.backlog; acts = h.acts; flights = h.flights; ready = slot_with (Gives W) r.ready slot command c h.ready; reports = h.reports; accepted = h.accepted; log = h.log }
 
   pub landed_gives : (slot : ℕ) (r : ReplicaState) → Holds r → Holds (record r { leader = without_flight_at slot r.leader; ready = without_slot r.ready slot })
-  landed_gives slot r h = record { calls = h.calls; acts = h.acts; flights = flight_without (Gives W) slot r.leader.flights h.flights; ready = slot_without (Gives W) r.ready slot h.ready; reports = h.reports; accepted = h.accepted; log = h.log }
+  landed_gives slot r h = record { backlog = h.backlog; acts = h.acts; flights = flight_without (Gives W) slot r.leader.flights h.flights; ready = slot_without (Gives W) r.ready slot h.ready; reports = h.reports; accepted = h.accepted; log = h.log }
 
   pub flying_gives : (r : ReplicaState) (slot : ℕ) → Holds r → Maybe (flying r slot)
   flying_gives r slot h =
@@ -193,7 +193,7 @@ module _ (W : Draw → Type 0) where
   pub forgotten_gives : (last : ℕ) (r : ReplicaState) → Holds r → Holds (forgotten last r)
   unfolding forgotten
   forgotten_gives last r h = record {
-    calls = h.calls;
+    backlog = h.backlog;
     acts = h.acts;
     flights = h.flights;
     ready = h.ready;
@@ -203,4 +203,4 @@ module _ (W : Draw → Type 0) where
   }
 
   pub with_acceptor : (r : ReplicaState) (acceptor : AcceptorState Command) → Reports acceptor.accepted → Holds r → Holds (record r { acceptor = acceptor })
-  with_acceptor r acceptor a h = record { calls = h.calls; acts = h.acts; flights = h.flights; ready = h.ready; reports = h.reports; accepted = a; log = h.log }
+  with_acceptor r acceptor a h = record { backlog = h.backlog; acts = h.acts; flights = h.flights; ready = h.ready; reports = h.reports; accepted = a; log = h.log }

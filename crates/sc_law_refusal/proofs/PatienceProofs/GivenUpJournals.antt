@@ -214,7 +214,7 @@ mapped P f (x ∷ xs) command e (inl same) = subst P same e.0
 mapped P f (x ∷ xs) command e (inr a) = mapped P f xs command e.1 a
 
 stands_at : (W : Draw → Type 0) (r : ReplicaState) (tx : Draw) → Holds W r → StandsAt r (GiveUp tx) → W tx
-stands_at W r tx h (inl (inl a)) = Each-among (Gives W) r.calls (GiveUp tx) h.calls a
+stands_at W r tx h (inl (inl a)) = Each-among (Gives W) r.backlog (GiveUp tx) h.backlog a
 stands_at W r tx h (inl (inr (inl a))) = Each-among (Gives W) r.acts (GiveUp tx) h.acts a
 stands_at W r tx h (inl (inr (inr (inl a)))) = mapped (Gives W) (λ (flight : Flight Command). flight.value) r.leader.flights (GiveUp tx) h.flights a
 stands_at W r tx h (inl (inr (inr (inr (inl a))))) = mapped (Gives W) (λ (e : ℕ × Command). e.1) r.ready (GiveUp tx) h.ready a

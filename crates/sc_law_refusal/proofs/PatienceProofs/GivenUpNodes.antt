@@ -51,7 +51,7 @@ module _ (F : Draw → Draw → Type 0) (me : ℕ) where
   add new (r ∷ replicas) n k = either_way All (is_before (name_of r) (name_of new)) (r ∷ with_new new replicas) (new ∷ r ∷ replicas) (k.0, add new replicas n k.1) (n, k)
 
   pub born : (base : Base) → Keeps (born_replica slots_ahead me base)
-  born base = ((refl, refl, ((λ off. (refl, refl, refl)), tt, tt)), record { calls = tt; acts = tt; flights = tt; ready = tt; reports = tt; accepted = tt; log = tt })
+  born base = ((refl, refl, ((λ off. (refl, refl, refl)), tt, tt)), record { backlog = tt; acts = tt; flights = tt; ready = tt; reports = tt; accepted = tt; log = tt })
 
   child_step : (child : Base) (node : NodeState) (mails : List Mail) → Step (node, mails) → Step (with_born child node, mails)
   child_step child node mails k =
@@ -75,7 +75,7 @@ module _ (F : Draw → Draw → Type 0) (me : ℕ) where
 
   installed : (group : Draw) (slot : ℕ) (base : Base) (sets : List (List ℕ)) → length sets ≡ slots_ahead → Before (given_facts F me group) (installed_replica me slot (named group base) sets, [])
   installed group slot base sets many =
-      (installed_kept group slot base sets many, (installed_name group slot base sets, forgotten_gives (F group) slot _ (record { calls = tt; acts = tt; flights = tt; ready = tt; reports = tt; accepted = tt; log = tt }), tt))
+      (installed_kept group slot base sets many, (installed_name group slot base sets, forgotten_gives (F group) slot _ (record { backlog = tt; acts = tt; flights = tt; ready = tt; reports = tt; accepted = tt; log = tt }), tt))
 
   installed_off : (group : Draw) (slot : ℕ) (base : Base) (sets : List (List ℕ)) → (installed_replica me slot (named group base) sets).running ≡ false
   unfolding forgotten

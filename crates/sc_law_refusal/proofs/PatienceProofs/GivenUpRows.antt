@@ -5,7 +5,7 @@ use Rattle.sc_node_table.specs.Values.{Ballot, Draw, Command, Noop, Call, Base, 
 use Rattle.sc_paxos_words.specs.declared.answers.Learnt.{Learnt}
 use Rattle.sc_paxos_words.proofs.Lemmas.{Each-append, Each-filter, Each-weaker}
 use Rattle.sc_paxos_words.specs.Definitions.{below, counted, entry_at, LogState, learnt, next_of, reports_from, with_flight_at, after_accept, after_promise}
-use Rattle.sc_node_table.specs.Definitions.{ReplicaState, Place, name_of, next, entered, forgotten, jumped, put_back, sent, under_way, answered_all, ended, offered, open_nodes, without_call}
+use Rattle.sc_node_table.specs.Definitions.{ReplicaState, Place, name_of, next, entered, forgotten, jumped, put_back, sent, under_way, answered_all, ended, offered, open_nodes, without_request}
 use Rattle.sc_law_entries.specs.names.Definitions.{Opt}
 use Rattle.sc_law_entries.proofs.NamesProofs.Lists.{opt_slot, report_with}
 use Rattle.sc_law_walks.proofs.Ways.{either_way}
@@ -70,7 +70,7 @@ module _ (F : Draw → Draw → Type 0) (me : ℕ) (group : Draw) where
   enters : (command : Command) (r : ReplicaState) → Gives W command → Holds W r → Holds W (entered command r)
   unfolding entered
   enters command r c h =
-      forgotten_gives W (next r) _ (record { calls = h.calls; acts = h.acts; flights = h.flights; ready = h.ready; reports = h.reports; accepted = h.accepted; log = logged (next_of r.log) command r.log c h.log })
+      forgotten_gives W (next r) _ (record { backlog = h.backlog; acts = h.acts; flights = h.flights; ready = h.ready; reports = h.reports; accepted = h.accepted; log = logged (next_of r.log) command r.log c h.log })
 
   entry_parts : EntryParts me Stands (λ slot command. Gives W command) (λ command. Gives W command)
   entry_parts = record {
@@ -90,7 +90,7 @@ module _ (F : Draw → Draw → Type 0) (me : ℕ) (group : Draw) where
 
   jumps : (slot : ℕ) (base : Base) (sets : List (List ℕ)) (r : ReplicaState) → Holds W r → Holds W (jumped slot base sets r)
   unfolding jumped
-  jumps slot base sets r h = forgotten_gives W slot _ (record { calls = h.calls; acts = h.acts; flights = h.flights; ready = h.ready; reports = h.reports; accepted = h.accepted; log = tt })
+  jumps slot base sets r h = forgotten_gives W slot _ (record { backlog = h.backlog; acts = h.acts; flights = h.flights; ready = h.ready; reports = h.reports; accepted = h.accepted; log = tt })
 
   -- ---- leaders
 
@@ -98,13 +98,13 @@ module _ (F : Draw → Draw → Type 0) (me : ℕ) (group : Draw) where
   unfolding ended
   ends hint answer r mails k =
       let after : ReplicaState = ended_replica hint r in
-      let stands : Stands (after, mails) = (k.0, record { calls = tt; acts = tt; flights = tt; ready = tt; reports = tt; accepted = k.1.accepted; log = k.1.log }, k.2) in
-      all_dismissed r.me (λ ms. Stands (after, ms)) (talk after) (name_of r) hint answer r.calls (answered_all r.me (name_of r) answer (under_way r) mails)
+      let stands : Stands (after, mails) = (k.0, record { backlog = tt; acts = tt; flights = tt; ready = tt; reports = tt; accepted = k.1.accepted; log = k.1.log }, k.2) in
+      all_dismissed r.me (λ ms. Stands (after, ms)) (talk after) (name_of r) hint answer r.backlog (answered_all r.me (name_of r) answer (under_way r) mails)
       (all_answered r.me (λ ms. Stands (after, ms)) (talk after) (name_of r) answer (under_way r) mails stands)
 
   elects : (r : ReplicaState) (mails : List Mail) → Stands (r, mails) → Stands (elected_place (r, mails))
   elects r mails k =
-      (k.0, record { calls = k.1.calls; acts = k.1.acts; flights = tt; ready = tt; reports = tt; accepted = k.1.accepted; log = k.1.log }, all_sent r.me Said (Prepare (name_of r) (record { round = r.top.round + 1; node = r.me }) (next r)) (λ to ms q. say r.me to _ ms tt q) (open_nodes r.sets) mails k.2)
+      (k.0, record { backlog = k.1.backlog; acts = k.1.acts; flights = tt; ready = tt; reports = tt; accepted = k.1.accepted; log = k.1.log }, all_sent r.me Said (Prepare (name_of r) (record { round = r.top.round + 1; node = r.me }) (next r)) (λ to ms q. say r.me to _ ms tt q) (open_nodes r.sets) mails k.2)
 
   abbrev Round : Ballot → Type 0
   Round ballot = Unit {0}
@@ -131,14 +131,14 @@ module _ (F : Draw → Draw → Type 0) (me : ℕ) (group : Draw) where
     all_sent r.me Said (Accept (name_of r) r.leader.ballot slot command) (λ to ms q. say r.me to _ ms (own r command k.0 c) q) set mails k.2,
   )
 
-  queued_last : (r : ReplicaState) (command : Command) → Gives W command → Commands W r.calls → Commands W (r.calls ++ command ∷ [])
-  queued_last r command c h = Each-append (Gives W) r.calls (command ∷ []) h (c, tt)
+  queued_last : (r : ReplicaState) (command : Command) → Gives W command → Commands W r.backlog → Commands W (r.backlog ++ command ∷ [])
+  queued_last r command c h = Each-append (Gives W) r.backlog (command ∷ []) h (c, tt)
 
   first_act : (r : ReplicaState) (act : Command) (acts : List Command) → r.acts ≡ act ∷ acts → Holds W r → Gives W act × Commands W acts
   first_act r act acts e h = subst (λ (cs : List Command). Commands W cs) e h.acts
 
-  first_call : (r : ReplicaState) (command : Command) (calls : List Command) → r.calls ≡ command ∷ calls → Holds W r → Gives W command × Commands W calls
-  first_call r command calls e h = subst (λ (cs : List Command). Commands W cs) e h.calls
+  first_call : (r : ReplicaState) (command : Command) (backlog : List Command) → r.backlog ≡ command ∷ backlog → Holds W r → Gives W command × Commands W backlog
+  first_call r command backlog e h = subst (λ (cs : List Command). Commands W cs) e h.backlog
 
   -- ---- the walk
 
@@ -186,19 +186,19 @@ module _ (F : Draw → Draw → Type 0) (me : ℕ) (group : Draw) where
       say r.me from (Accepted (name_of r) report.ballot report.slot) mails tt k.2,
     );
     filed = λ act r mails on good e k. (k.0, with_acts W r (r.acts ++ act ∷ []) (Each-append (Gives W) r.acts (act ∷ []) k.1.acts (filed_gives W act good, tt)) k.1, k.2);
-    ordered = λ order r mails on good k. (k.0, with_calls W r (r.calls ++ order ∷ []) (queued_last r order (order_gives W order good) k.1.calls) k.1, k.2);
-    requested = λ client seq op r mails on e k. (k.0, with_calls W r (r.calls ++ Call client seq op ∷ []) (queued_last r (Call client seq op) tt k.1.calls) k.1, k.2);
+    ordered = λ order r mails on good k. (k.0, with_calls W r (r.backlog ++ order ∷ []) (queued_last r order (order_gives W order good) k.1.backlog) k.1, k.2);
+    requested = λ client seq op r mails on e k. (k.0, with_calls W r (r.backlog ++ Call client seq op ∷ []) (queued_last r (Call client seq op) tt k.1.backlog) k.1, k.2);
     requested_again = λ client seq other op r mails on e f k. (
       k.0,
-      with_calls W r (without_call r.calls client ++ Call client seq op ∷ []) (Each-append (Gives W) (without_call r.calls client) (Call client seq op ∷ []) (without_gives W r.calls client k.1.calls) (tt, tt)) k.1,
+      with_calls W r (without_request r.backlog client ++ Call client seq op ∷ []) (Each-append (Gives W) (without_request r.backlog client) (Call client seq op ∷ []) (without_gives W r.backlog client k.1.backlog) (tt, tt)) k.1,
       k.2,
     );
-    turned = λ command answer calls r mails same on e no k. (let after : ReplicaState = record r { calls = calls } in
-        one_answered r.me (λ ms. Stands (after, ms)) (talk after) r.group.core.id answer command mails (k.0, with_calls W r calls (first_call r command calls e k.1).1 k.1, k.2));
+    turned = λ command answer backlog r mails same on e no k. (let after : ReplicaState = record r { backlog = backlog } in
+        one_answered r.me (λ ms. Stands (after, ms)) (talk after) r.group.core.id answer command mails (k.0, with_calls W r backlog (first_call r command backlog e k.1).1 k.1, k.2));
     offers_value = λ slot set command r mails same on near free e k. offers slot set command r mails (must_gives W slot r command e k.1) k;
     offers_noop = λ slot set r mails same on near free k. offers slot set Noop r mails tt k;
     offers_act = λ slot set act acts r mails same on near free e k. (let first = first_act r act acts e k.1 in offers slot set act (record r { acts = acts }) mails first.0 (k.0, with_acts W r acts first.1 k.1, k.2));
-    offers_call = λ slot set command calls r mails same on near free e k. (let first = first_call r command calls e k.1 in offers slot set command (record r { calls = calls }) mails first.0 (k.0, with_calls W r calls first.1 k.1, k.2));
+    offers_call = λ slot set command backlog r mails same on near free e k. (let first = first_call r command backlog e k.1 in offers slot set command (record r { backlog = backlog }) mails first.0 (k.0, with_calls W r backlog first.1 k.1, k.2));
   }
 
   recalled : (to slot : ℕ) (command : Command) (r : ReplicaState) (mails : List Mail) → entry_at slot r.log ≡ Some command → Stands (r, mails) → Stands (r, sent r.me to (Learn (name_of r) slot command) mails)

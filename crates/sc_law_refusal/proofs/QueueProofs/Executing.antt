@@ -1,11 +1,11 @@
 -- The queue of requests while entries are executed.
 use Rattle.std.proofs.Common.{ℕ, eqb, Bool, true, cond, List, Option, Some, None}
-use Rattle.sc_node_table.specs.Values.{Command, Call, Effect, Route, ToldResult, AnswerBody}
+use Rattle.sc_node_table.specs.Values.{Command, Call, Effect, Route, OrderResult, AnswerBody}
 use Rattle.sc_mail.specs.declared.bodies.AnswerBody.TheVariants as Says
 use Rattle.sc_base.specs.Definitions.{is_member, least_of}
 use Rattle.sc_machine_table.specs.Definitions.{applied}
 use Rattle.sc_node_table.specs.declared.Before.{Before}
-use Rattle.sc_node_table.specs.Definitions.{elected, stopped, entered, answer_of, told_call, order_result, told_effect, announced, learnt_to, welcomed, landed, left_gone, left, is_among, looked_for, looked, executed_one, executed, ReplicaState, Place, next, members, forgotten, before_of, spoken}
+use Rattle.sc_node_table.specs.Definitions.{elected, stopped, entered, answer_of, answered_or_put_back, order_result, effect_reported, announced, learnt_to, welcomed, landed, left_gone, left, is_among, looked_for, looked, executed_one, executed, ReplicaState, Place, next, members, forgotten, before_of, spoken}
 use Rattle.sc_law_refusal.specs.queue.OneCall.{KeepsOneCall}
 use Rattle.sc_law_walks.proofs.Lemmas.{welcomed_place, executed_place, landed_place, either_way}
 use Rattle.sc_law_refusal.proofs.QueueProofs.Queueing.{Keeps, back_keeps, pumped_keeps, ended_keeps, elected_keeps, welcomed_keeps}
@@ -15,22 +15,22 @@ unfolding entered forgotten
 entered_keeps command r k = k
 
 -- a counted call that has no effect goes back
-told_keeps : (answer : Option AnswerBody) (command : Command) (place : Place) → Keeps place → Keeps (told_call answer command place)
-unfolding told_call
+told_keeps : (answer : Option AnswerBody) (command : Command) (place : Place) → Keeps place → Keeps (answered_or_put_back answer command place)
+unfolding answered_or_put_back
 told_keeps (Some answer) (Call client seq op) (r, mails) k = k
 told_keeps None (Call client seq op) (r, mails) k = back_keeps (Call client seq op) r k
 told_keeps (Some answer) _ place k = k
 told_keeps None _ place k = k
 
-effect_keeps : (result : Option ToldResult) (command : Command) (place : Place) → Keeps place → Keeps (told_effect result command place)
-unfolding told_effect
+effect_keeps : (result : Option OrderResult) (command : Command) (place : Place) → Keeps place → Keeps (effect_reported result command place)
+unfolding effect_reported
 effect_keeps None command place k = k
 effect_keeps (Some result) command (r, mails) k = k
 
 announced_keeps : (counted : Bool) (effect : Effect) (command : Command) (place : Place) → Keeps place → Keeps (announced counted effect command place)
 unfolding announced
 announced_keeps counted effect command place k =
-    effect_keeps (order_result command effect) command (cond counted (told_call (answer_of effect) command place) place) (either_way Keeps counted (told_call (answer_of effect) command place) place (told_keeps (answer_of effect) command place k) k)
+    effect_keeps (order_result command effect) command (cond counted (answered_or_put_back (answer_of effect) command place) place) (either_way Keeps counted (answered_or_put_back (answer_of effect) command place) place (told_keeps (answer_of effect) command place k) k)
 
 spoken_keeps : (counted : Bool) (before : Before) (effect : Effect) (command : Command) (place : Place) → Keeps place → Keeps (spoken counted before effect command place)
 unfolding spoken

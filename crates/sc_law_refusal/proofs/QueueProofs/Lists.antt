@@ -2,7 +2,7 @@
 use Rattle.std.proofs.Common.{◌≡◌, ℕ, ◌+◌, ◌≤◌, ◌++◌, refl, sym, ap, arith, eqb, Bool, true, false, cond, List, [], ◌∷◌, length, filter, Option, Some, None}
 use Rattle.std.proofs.lemmas.Bool.{cond_both, eqb-true}
 use Rattle.sc_node_table.specs.Values.{Op, Command, Call}
-use Rattle.sc_node_table.specs.Definitions.{call_of, is_call_of, without_call}
+use Rattle.sc_node_table.specs.Definitions.{queued_number, is_request_of, without_request}
 use Rattle.sc_law_walks.proofs.Lemmas.{either_way}
 use Rattle.sc_law_refusal.specs.queue.OneCall.{calls_of}
 
@@ -27,8 +27,8 @@ more_by : (b : Bool) (command : Command) (commands : List Command) → length (c
 more_by true command commands = omega arith
 more_by false command commands = omega arith
 
-pub more : (client : ℕ) (command : Command) (commands : List Command) → calls_of client (command ∷ commands) ≡ one_if (is_call_of client command) + calls_of client commands
-more client command commands = more_by (is_call_of client command) command (filter (λ c. is_call_of client c) commands)
+pub more : (client : ℕ) (command : Command) (commands : List Command) → calls_of client (command ∷ commands) ≡ one_if (is_request_of client command) + calls_of client commands
+more client command commands = more_by (is_request_of client command) command (filter (λ c. is_request_of client c) commands)
 
 fewer : (client : ℕ) (command : Command) (commands : List Command) → calls_of client commands ≤ calls_of client (command ∷ commands)
 fewer client command commands = omega (arith, more client command commands)
@@ -56,28 +56,28 @@ one_first client seq op commands none k other =
 
 -- ---- a call that is taken out
 
-without_fewer : (client other : ℕ) (commands : List Command) → calls_of other (without_call commands client) ≤ calls_of other commands
+without_fewer : (client other : ℕ) (commands : List Command) → calls_of other (without_request commands client) ≤ calls_of other commands
 without_fewer client other [] = omega arith
 without_fewer client other (command ∷ commands) =
-    either_way (λ (left : List Command). calls_of other left ≤ calls_of other (command ∷ commands)) (is_call_of client command) commands (command ∷ without_call commands client) (fewer other command commands)
-    (omega (arith, more other command (without_call commands client), more other command commands, without_fewer client other commands))
+    either_way (λ (left : List Command). calls_of other left ≤ calls_of other (command ∷ commands)) (is_request_of client command) commands (command ∷ without_request commands client) (fewer other command commands)
+    (omega (arith, more other command (without_request commands client), more other command commands, without_fewer client other commands))
 
-pub one_without : (client : ℕ) (commands : List Command) → One commands → One (without_call commands client)
+pub one_without : (client : ℕ) (commands : List Command) → One commands → One (without_request commands client)
 one_without client commands k other = omega (arith, without_fewer client other commands, k other)
 
 -- of at most one none is left
-pub none_left : (client : ℕ) (commands : List Command) → calls_of client commands ≤ 1 → calls_of client (without_call commands client) ≡ 0
+pub none_left : (client : ℕ) (commands : List Command) → calls_of client commands ≤ 1 → calls_of client (without_request commands client) ≡ 0
 none_left client [] k = refl
 none_left client (command ∷ commands) k =
-    cond_both (is_call_of client command) commands (command ∷ without_call commands client) (λ (left : List Command). calls_of client left ≡ 0)
-    (λ e. omega (arith, more client command commands, counts_one (is_call_of client command) e, k))
-    (λ e. omega (arith, more client command (without_call commands client), counts_none (is_call_of client command) e, none_left client commands (omega (arith, fewer client command commands, k))))
+    cond_both (is_request_of client command) commands (command ∷ without_request commands client) (λ (left : List Command). calls_of client left ≡ 0)
+    (λ e. omega (arith, more client command commands, counts_one (is_request_of client command) e, k))
+    (λ e. omega (arith, more client command (without_request commands client), counts_none (is_request_of client command) e, none_left client commands (omega (arith, fewer client command commands, k))))
 
 -- where none is found none is queued
-pub none_found : (client : ℕ) (commands : List Command) → call_of commands client ≡ None → calls_of client commands ≡ 0
+pub none_found : (client : ℕ) (commands : List Command) → queued_number commands client ≡ None → calls_of client commands ≡ 0
 none_found client [] e = refl
 none_found client (Call c seq op ∷ commands) e =
-    let both = cond_both (eqb c client) (Some seq) (call_of commands client) (λ (o : Option ℕ). o ≡ None → (one_if (eqb c client) ≡ 0) × (calls_of client commands ≡ 0)) (λ _ s. cc)
+    let both = cond_both (eqb c client) (Some seq) (queued_number commands client) (λ (o : Option ℕ). o ≡ None → (one_if (eqb c client) ≡ 0) × (calls_of client commands ≡ 0)) (λ _ s. cc)
     (λ f s. (counts_none (eqb c client) f, none_found client commands s)) e in
     omega (arith, more client (Call c seq op) commands, both.0, both.1)
 none_found client (_ ∷ commands) e = none_found client commands e

@@ -6,7 +6,7 @@ use Rattle.sc_node_table.specs.Values.{Ballot, Op, Command, Call, AnswerBody, Mu
 use Rattle.sc_mail.specs.declared.bodies.AnswerBody.TheVariants as Says
 use Rattle.sc_paxos_words.specs.declared.answers.Must.TheVariants.{Value, Free as Open}
 use Rattle.sc_paxos_words.specs.Definitions.{below, must}
-use Rattle.sc_node_table.specs.Definitions.{has_act, with_act, act_queued, elected, ended, saw, install_to, asked_to_promise, welcomed_all, Found, is_act, from_calls, from_acts, from_queues, found_by, found_for, offered, pumped_from, pumped, call_of, without_call, call_before, put_back, ReplicaState, Place, next, settled, may_offer, taken_at, under_way, is_idle, last_slot}
+use Rattle.sc_node_table.specs.Definitions.{has_act, with_act, act_queued, elected, ended, saw, install_to, asked_to_promise, welcomed_all, Found, is_act, from_backlog, from_acts, from_queues, found_by, found_for, offered, pumped_from, pumped, queued_number, without_request, request_before, put_back, ReplicaState, Place, next, settled, may_offer, taken_at, under_way, is_idle, last_slot}
 use Rattle.sc_law_refusal.specs.queue.OneCall.{KeepsOneCall}
 use Rattle.sc_law_refusal.proofs.QueueProofs.Lists.{One, one_none, one_rest, one_first, one_without, none_left, none_found}
 use Rattle.sc_law_walks.proofs.Lemmas.{either_way, next_found}
@@ -17,14 +17,14 @@ Keeps place = KeepsOneCall place.0
 
 -- ---- what goes back
 
-before_keeps : (o : Option ℕ) (client seq : ℕ) (op : Op) (calls : List Command) → call_of calls client ≡ o → One calls → One (call_before o client seq (Call client seq op) calls)
-before_keeps None client seq op calls e k = one_first client seq op calls (none_found client calls e) k
-before_keeps (Some other) client seq op calls e k =
-    either_way One (nat_lt other seq) (Call client seq op ∷ without_call calls client) calls (one_first client seq op (without_call calls client) (none_left client calls (k client)) (one_without client calls k)) k
+before_keeps : (o : Option ℕ) (client seq : ℕ) (op : Op) (backlog : List Command) → queued_number backlog client ≡ o → One backlog → One (request_before o client seq (Call client seq op) backlog)
+before_keeps None client seq op backlog e k = one_first client seq op backlog (none_found client backlog e) k
+before_keeps (Some other) client seq op backlog e k =
+    either_way One (nat_lt other seq) (Call client seq op ∷ without_request backlog client) backlog (one_first client seq op (without_request backlog client) (none_left client backlog (k client)) (one_without client backlog k)) k
 
 pub back_keeps : (command : Command) (r : ReplicaState) → KeepsOneCall r → KeepsOneCall (put_back command r)
 unfolding put_back
-back_keeps (Call client seq op) r k = before_keeps (call_of r.calls client) client seq op r.calls refl k
+back_keeps (Call client seq op) r k = before_keeps (queued_number r.backlog client) client seq op r.backlog refl k
 back_keeps _ r k = k
 
 -- ---- the pump
@@ -32,11 +32,11 @@ back_keeps _ r k = k
 abbrev FoundKeeps : Found → Type 0
 FoundKeeps found = Keeps found.1
 
-calls_keep : (place : Place) → Keeps place → FoundKeeps (from_calls place)
-unfolding from_calls
+calls_keep : (place : Place) → Keeps place → FoundKeeps (from_backlog place)
+unfolding from_backlog
 calls_keep (r, mails) k =
-    next_found r.me (is_idle r) r.group.core (λ calls mails. One calls) (λ found. One found.1) (λ calls mails q. q) (λ command calls mails q. one_rest command calls q)
-    (λ command answer calls mails w e q. one_rest command calls q) r.calls mails k
+    next_found r.me (is_idle r) r.group.core (λ backlog mails. One backlog) (λ found. One found.1) (λ backlog mails q. q) (λ command backlog mails q. one_rest command backlog q)
+    (λ command answer backlog mails w e q. one_rest command backlog q) r.backlog mails k
 
 acts_keep : (acts : List Command) (place : Place) → Keeps place → FoundKeeps (from_acts acts place)
 acts_keep [] place k = calls_keep place k

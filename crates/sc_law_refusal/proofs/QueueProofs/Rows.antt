@@ -10,7 +10,7 @@ use Rattle.sc_mail.specs.declared.bodies.AnswerBody.TheVariants as Says
 use Rattle.sc_paxos_words.specs.declared.answers.PrepareAnswer.TheVariants as Prepared
 use Rattle.sc_paxos_words.specs.declared.answers.AcceptAnswer.TheVariants as Asked
 use Rattle.sc_paxos_words.specs.Definitions.{prepared, accepted as accepted_by, AcceptorState, LeaderState, promise_counted, entry_at, counted}
-use Rattle.sc_node_table.specs.Definitions.{with_act, act_queued, stopped, saw, executed, has_room, named, jumped, ordered_command, untaken, taken_or_told, ordered_row, wished_line, with_command, with_line, wishing, pumped, call_of, without_call, patience, one_tick_more, waited_in, reminded, ReplicaState, Place, Executed, childless, next, members, settled, is_idle, set_at, last_slot, forgotten, installed_replica, refused_at, queued, requested, request_row, learn_row, ask_row, looked_up, took_over, install_row, made_by, asked_again, told_last, tick_row, mailed, with_slot, noted_outcome, standing_vote, sent_elsewhere, offered_by, offer_row, watched_by, watch_row, awaits_vote, awaits_watch, vote_queued, vote_met, vote_row, watch_queued, watch_met, watched_row, elsewhere_row, is_bound, outcome_row, hinted, promise_to, prepare_row, accepted_to, took, accept_row, leads, promise_row, readied, vote_tallied, voted, accepted_row, nack_row}
+use Rattle.sc_node_table.specs.Definitions.{with_act, act_queued, stopped, saw, executed, has_room, named, jumped, ordered_command, untaken, queued_or_refused, ordered_row, wished_line, with_command, with_line, wishing, pumped, queued_number, without_request, patience, one_tick_more, waited_in, reminded, ReplicaState, Place, Executed, childless, next, members, settled, is_idle, set_at, last_slot, forgotten, installed_replica, refused_at, queued, requested, request_row, learn_row, ask_row, looked_up, took_over, install_row, made_by, asked_again, last_entry_sent, tick_row, mailed, with_slot, noted_outcome, standing_vote, sent_elsewhere, offered_by, offer_row, watched_by, watch_row, awaits_vote, awaits_watch, vote_queued, vote_met, vote_row, watch_queued, watch_met, watched_row, elsewhere_row, is_bound, outcome_row, hinted, promise_to, prepare_row, accepted_to, took, accept_row, leads, promise_row, readied, vote_tallied, voted, accepted_row, nack_row}
 use Rattle.sc_law_refusal.specs.queue.OneCall.{KeepsOneCall}
 use Rattle.sc_law_refusal.proofs.QueueProofs.Lists.{One, one_none, one_last, one_first, one_without, none_left, none_found}
 use Rattle.sc_law_walks.proofs.Lemmas.{promised_place, asked_place, either_way}
@@ -19,20 +19,20 @@ use Rattle.sc_law_refusal.proofs.QueueProofs.Executing.{looked_keeps, executed_k
 
 -- ---- Request: it is queued last, where no other request of its client is queued
 
-queued_keeps : (o : Option ℕ) (client seq : ℕ) (op : Op) (place : Place) → call_of place.0.calls client ≡ o → Keeps place → Keeps (queued o client seq op place)
+queued_keeps : (o : Option ℕ) (client seq : ℕ) (op : Op) (place : Place) → queued_number place.0.backlog client ≡ o → Keeps place → Keeps (queued o client seq op place)
 unfolding queued
 queued_keeps None client seq op (r, mails) e k =
-    pumped_keeps (record r { calls = r.calls ++ Call client seq op ∷ [] }, mails) (one_last (Call client seq op) r.calls (one_first client seq op r.calls (none_found client r.calls e) k))
+    pumped_keeps (record r { backlog = r.backlog ++ Call client seq op ∷ [] }, mails) (one_last (Call client seq op) r.backlog (one_first client seq op r.backlog (none_found client r.backlog e) k))
 queued_keeps (Some other) client seq op (r, mails) e k =
-    let left : List Command = without_call r.calls client in
-    let only : One left = one_without client r.calls k in
-    either_way Keeps (nat_le seq other) (r, mails) (pumped (record r { calls = left ++ Call client seq op ∷ [] }, mails)) k
-    (pumped_keeps (record r { calls = left ++ Call client seq op ∷ [] }, mails) (one_last (Call client seq op) left (one_first client seq op left (none_left client r.calls (k client)) only)))
+    let left : List Command = without_request r.backlog client in
+    let only : One left = one_without client r.backlog k in
+    either_way Keeps (nat_le seq other) (r, mails) (pumped (record r { backlog = left ++ Call client seq op ∷ [] }, mails)) k
+    (pumped_keeps (record r { backlog = left ++ Call client seq op ∷ [] }, mails) (one_last (Call client seq op) left (one_first client seq op left (none_left client r.backlog (k client)) only)))
 
 requested_keeps : (o : Option AnswerBody) (client seq : ℕ) (op : Op) (place : Place) → Keeps place → Keeps (requested o client seq op place)
 unfolding requested
 requested_keeps (Some answer) client seq op (r, mails) k = k
-requested_keeps None client seq op (r, mails) k = queued_keeps (call_of r.calls client) client seq op (r, mails) refl k
+requested_keeps None client seq op (r, mails) k = queued_keeps (queued_number r.backlog client) client seq op (r, mails) refl k
 
 request_keeps : (client seq : ℕ) (op : Op) (place : Place) → Keeps place → Keeps (request_row client seq op place)
 unfolding request_row
@@ -181,16 +181,16 @@ outcome_keeps tx outcome (r, mails) k = either_way Keeps (r.running && is_bound 
 
 -- ---- orders: one that is queued is no request
 
-ordered_keeps : (name : Draw) (number : ℕ) (order : Order) (calls : List Command) → One calls → One (ordered_command name number order ∷ calls)
-ordered_keeps name number (An.Join node group) calls k = k
-ordered_keeps name number _ calls k = k
+ordered_keeps : (name : Draw) (number : ℕ) (order : Order) (backlog : List Command) → One backlog → One (ordered_command name number order ∷ backlog)
+ordered_keeps name number (An.Join node group) backlog k = k
+ordered_keeps name number _ backlog k = k
 
-order_last : (name : Draw) (number : ℕ) (order : Order) (calls : List Command) → One calls → One (calls ++ ordered_command name number order ∷ [])
-order_last name number order calls k = one_last (ordered_command name number order) calls (ordered_keeps name number order calls k)
+order_last : (name : Draw) (number : ℕ) (order : Order) (backlog : List Command) → One backlog → One (backlog ++ ordered_command name number order ∷ [])
+order_last name number order backlog k = one_last (ordered_command name number order) backlog (ordered_keeps name number order backlog k)
 
-taken_keeps : (o : Option OrderRefusal) (number : ℕ) (name : Draw) (order : Order) (place : Place) → Keeps place → Keeps (taken_or_told o number (ordered_command name number order) place)
+taken_keeps : (o : Option OrderRefusal) (number : ℕ) (name : Draw) (order : Order) (place : Place) → Keeps place → Keeps (queued_or_refused o number (ordered_command name number order) place)
 taken_keeps (Some why) number name order (r, mails) k = k
-taken_keeps None number name order (r, mails) k = pumped_keeps (record r { calls = r.calls ++ ordered_command name number order ∷ [] }, mails) (order_last name number order r.calls k)
+taken_keeps None number name order (r, mails) k = pumped_keeps (record r { backlog = r.backlog ++ ordered_command name number order ∷ [] }, mails) (order_last name number order r.backlog k)
 
 pub order_keeps : (drawer : Drawer) (line : OrderLine) (place : Place) → Keeps place → Keeps (ordered_row drawer line place)
 unfolding ordered_row
@@ -212,7 +212,7 @@ reminded_keeps (r, mails) k = waited_keeps r.group.core.lock r k
 
 command_keeps : (o : Option OrderRefusal) (name : Draw) (number : ℕ) (order : Order) (r : ReplicaState) → KeepsOneCall r → KeepsOneCall (with_command o (ordered_command name number order) r)
 command_keeps (Some why) name number order r k = k
-command_keeps None name number order r k = order_last name number order r.calls k
+command_keeps None name number order r k = order_last name number order r.backlog k
 
 line_keeps : (drawer : Drawer) (o : Option OrderLine) (r : ReplicaState) → KeepsOneCall r → KeepsOneCall (with_line drawer o r)
 line_keeps drawer None r k = k
@@ -230,7 +230,7 @@ unfolding tick_row
 tick_keeps on drawer (r, mails) k =
     either_way Keeps (is_some r.group.core.gone || not (is_member (members r) r.me)) _ _ k
     (either_way Keeps (not (settled r)) _ _ (elected_keeps (r, mails) k)
-    (either_way Keeps (is_idle r) _ _ (reminding_keeps on drawer (r, told_last (entry_at (next r - 1) r.log) r mails) k) (reminding_keeps on drawer (r, asked_again r (next r) r.sets mails) k)))
+    (either_way Keeps (is_idle r) _ _ (reminding_keeps on drawer (r, last_entry_sent (entry_at (next r - 1) r.log) r mails) k) (reminding_keeps on drawer (r, asked_again r (next r) r.sets mails) k)))
 
 -- ---- all mail
 

@@ -10,7 +10,7 @@ use Rattle.sc_mail.specs.declared.bodies.AnswerBody.TheVariants as Says
 use Rattle.sc_machine_table.specs.Definitions.{Group, state_after, applied, called, served, served_by_note}
 use Rattle.sc_machine_table.proofs.Lemmas.{state_push}
 use Rattle.sc_paxos_words.proofs.Lemmas.{Each-append}
-use Rattle.sc_node_table.specs.Definitions.{answer_of, told_call, answered, serves_calls, put_back, Place, name_of}
+use Rattle.sc_node_table.specs.Definitions.{answer_of, answered_or_put_back, answered, admits_requests, put_back, Place, name_of}
 use Rattle.sc_law_refusal.specs.refusal.Definitions.{HasCauseAtEntry, RefusesCall, answers_in, effect_answers, entry_answers}
 use Rattle.sc_law_refusal.proofs.RefusalProofs.Plain.{answer_adds}
 
@@ -40,15 +40,15 @@ by_note (Some noted) group client seq op e =
     let above : seq < noted.seq = omega (arith, low, other) in
     let same : Says.Stale noted.seq ≡ answer = cc in subst (IsCaused group client seq op) same (noted, e, refl, above))))
 
-by_arc : (group : Group) (client seq : ℕ) (op : Op) → group.core.gone ≡ None → serves_calls group.core.lock ≡ true → Answers group client seq op (served group client seq op)
+by_arc : (group : Group) (client seq : ℕ) (op : Op) → group.core.gone ≡ None → admits_requests group.core.lock ≡ true → Answers group client seq op (served group client seq op)
 by_arc group client seq op g l =
     cond_both (holds_key group.core.arc (key_of op)) _ _ (Answers group client seq op) (λ _. by_note (get group.clients client) group client seq op refl)
     (λ lacks answer a. (let same : Says.NotMine group.core.arc group.core.succ ≡ answer = cc in subst (IsCaused group client seq op) same (g, l, lacks, refl, refl)))
 
 by_lock : (gone : Option Route) (lock : Lock) (group : Group) (client seq : ℕ) (op : Op) → gone ≡ group.core.gone → lock ≡ group.core.lock → Answers group client seq op (called gone lock group client seq op)
 by_lock (Some into) lock group client seq op g l = λ answer a. (let same : Says.Gone into ≡ answer = cc in subst (IsCaused group client seq op) same (sym g))
-by_lock None Free group client seq op g l = by_arc group client seq op (sym g) (ap serves_calls (sym l))
-by_lock None (Watching tx watch) group client seq op g l = by_arc group client seq op (sym g) (ap serves_calls (sym l))
+by_lock None Free group client seq op g l = by_arc group client seq op (sym g) (ap admits_requests (sym l))
+by_lock None (Watching tx watch) group client seq op g l = by_arc group client seq op (sym g) (ap admits_requests (sym l))
 by_lock None (Coordinating tx body order heard) group client seq op g l = λ answer a. cc
 by_lock None (Promised tx offer) group client seq op g l = λ answer a. cc
 
@@ -69,8 +69,8 @@ entries_push me name group (entry ∷ entries) command =
     ∙ sym (append_assoc first (entry_answers me name next entries) (effect_answers me name (answer_of (applied (state_after next entries) command).1) command))
 
 -- a counted call gets its answer, and no other
-pub reported_answers : (answer : Option AnswerBody) (command : Command) (place : Place) → answers_in (told_call answer command place).1 ≡ answers_in place.1 ++ effect_answers place.0.me (name_of place.0) answer command
-unfolding told_call answered put_back
+pub reported_answers : (answer : Option AnswerBody) (command : Command) (place : Place) → answers_in (answered_or_put_back answer command place).1 ≡ answers_in place.1 ++ effect_answers place.0.me (name_of place.0) answer command
+unfolding answered_or_put_back answered put_back
 reported_answers (Some answer) (Call client seq op) (r, mails) = answer_adds mails r.me (client_actor client) (name_of r) seq answer
 reported_answers None (Call client seq op) (r, mails) = sym (append-nil (answers_in mails))
 reported_answers (Some answer) _ (r, mails) = sym (append-nil (answers_in mails))
@@ -88,27 +88,27 @@ module _ (A : Command → Type 0) (me : ℕ) (name : Draw) (group : Group) (P : 
   abbrev pub Answered : List Command → Type 0
   Answered entries = (client seq : ℕ) (op : Op) (answer : AnswerBody) → A (Call client seq op) → HasCauseAtEntry group entries client seq op answer → P (record { from = me; to = client_actor client; body = Answer name seq answer })
 
-  cause_of : (front rest : List Command) (client seq : ℕ) (op : Op) (answer : AnswerBody) → IsCaused (state_after group front) client seq op answer → HasCauseAtEntry group (front ++ Call client seq op ∷ rest) client seq op answer
-  cause_of front rest client seq op (Says.Value reply) c = tt
-  cause_of front rest client seq op (Says.NotLeader hint) c = c
-  cause_of front rest client seq op (Says.NotMine arc succ) c = record { front = front; rest = rest; are = refl; refuses = c }
-  cause_of front rest client seq op (Says.Gone into) c = record { front = front; rest = rest; are = refl; refuses = c }
-  cause_of front rest client seq op (Says.Stale last) c = record { front = front; rest = rest; are = refl; refuses = c }
+  cause_of : (prefix rest : List Command) (client seq : ℕ) (op : Op) (answer : AnswerBody) → IsCaused (state_after group prefix) client seq op answer → HasCauseAtEntry group (prefix ++ Call client seq op ∷ rest) client seq op answer
+  cause_of prefix rest client seq op (Says.Value reply) c = tt
+  cause_of prefix rest client seq op (Says.NotLeader hint) c = c
+  cause_of prefix rest client seq op (Says.NotMine arc succ) c = record { prefix = prefix; rest = rest; are = refl; refuses = c }
+  cause_of prefix rest client seq op (Says.Gone into) c = record { prefix = prefix; rest = rest; are = refl; refuses = c }
+  cause_of prefix rest client seq op (Says.Stale last) c = record { prefix = prefix; rest = rest; are = refl; refuses = c }
 
-  one_each : (front rest : List Command) (command : Command) (o : Option AnswerBody) → answer_of (applied (state_after group front) command).1 ≡ o → IfCall A command → Answered (front ++ command ∷ rest) → Each P (effect_answers me name o command)
+  one_each : (prefix rest : List Command) (command : Command) (o : Option AnswerBody) → answer_of (applied (state_after group prefix) command).1 ≡ o → IfCall A command → Answered (prefix ++ command ∷ rest) → Each P (effect_answers me name o command)
   unfolding answered
-  one_each front rest command None e k says = tt
-  one_each front rest (Call client seq op) (Some answer) e k says =
-      (says client seq op answer (k client seq op refl) (cause_of front rest client seq op answer (call_answers (state_after group front) client seq op answer e)), tt)
-  one_each front rest _ (Some answer) e k says = tt
+  one_each prefix rest command None e k says = tt
+  one_each prefix rest (Call client seq op) (Some answer) e k says =
+      (says client seq op answer (k client seq op refl) (cause_of prefix rest client seq op answer (call_answers (state_after group prefix) client seq op answer e)), tt)
+  one_each prefix rest _ (Some answer) e k says = tt
 
-  all_each : (front rest : List Command) → Each (IfCall A) rest → Answered (front ++ rest) → Each P (entry_answers me name (state_after group front) rest)
-  all_each front [] k says = tt
-  all_each front (command ∷ rest) k says =
-      let state : Group = state_after group front in
+  all_each : (prefix rest : List Command) → Each (IfCall A) rest → Answered (prefix ++ rest) → Each P (entry_answers me name (state_after group prefix) rest)
+  all_each prefix [] k says = tt
+  all_each prefix (command ∷ rest) k says =
+      let state : Group = state_after group prefix in
       let further : Each P (entry_answers me name (applied state command).0 rest) =
-      subst (λ (g : Group). Each P (entry_answers me name g rest)) (state_push group front command) (all_each (front ++ command ∷ []) rest k.1 (subst Answered (sym (append_assoc front (command ∷ []) rest)) says)) in
-      Each-append P (effect_answers me name (answer_of (applied state command).1) command) (entry_answers me name (applied state command).0 rest) (one_each front rest command (answer_of (applied state command).1) refl k.0 says) further
+      subst (λ (g : Group). Each P (entry_answers me name g rest)) (state_push group prefix command) (all_each (prefix ++ command ∷ []) rest k.1 (subst Answered (sym (append_assoc prefix (command ∷ []) rest)) says)) in
+      Each-append P (effect_answers me name (answer_of (applied state command).1) command) (entry_answers me name (applied state command).0 rest) (one_each prefix rest command (answer_of (applied state command).1) refl k.0 says) further
 
   pub entries_each : (entries : List Command) → Each (IfCall A) entries → Answered entries → Each P (entry_answers me name group entries)
   entries_each entries k says = all_each [] entries k says

@@ -1,8 +1,8 @@
 -- Until a slot is decided its leader is as it was, and so are the acts that wait.
 use Rattle.std.proofs.Common.{◌≡◌, ℕ, Bool, cond, List, [], ◌∷◌, Option, Some, None, refl}
 use Rattle.sc_paxos_words.specs.Definitions.{LeaderState}
-use Rattle.sc_node_table.specs.Definitions.{install_to, asked_to_promise, welcomed_all, entered, answer_of, told_call, order_result, told_effect, announced, learnt_to, welcomed, sent, sent_others, put_back, ReplicaState, Place, name_of, next, members, forgotten, before_of, spoken}
-use Rattle.sc_node_table.specs.Values.{Command, Call, Effect, ToldResult, AnswerBody, Mail, Learn, Prepare}
+use Rattle.sc_node_table.specs.Definitions.{install_to, asked_to_promise, welcomed_all, entered, answer_of, answered_or_put_back, order_result, effect_reported, announced, learnt_to, welcomed, sent, sent_others, put_back, ReplicaState, Place, name_of, next, members, forgotten, before_of, spoken}
+use Rattle.sc_node_table.specs.Values.{Command, Call, Effect, OrderResult, AnswerBody, Mail, Learn, Prepare}
 use Rattle.sc_node_table.specs.declared.Before.{Before}
 use Rattle.sc_law_walks.proofs.Lemmas.{welcomed_place, either_way}
 
@@ -10,22 +10,22 @@ module _ (leader : LeaderState Command) (acts : List Command) where
   abbrev pub Stays : Place → Type 0
   Stays place = (place.0.leader ≡ leader) × (place.0.acts ≡ acts)
 
-  told_leads : (answer : Option AnswerBody) (command : Command) (place : Place) → Stays place → Stays (told_call answer command place)
-  unfolding told_call put_back
+  told_leads : (answer : Option AnswerBody) (command : Command) (place : Place) → Stays place → Stays (answered_or_put_back answer command place)
+  unfolding answered_or_put_back put_back
   told_leads (Some answer) (Call client seq op) (r, mails) l = l
   told_leads None (Call client seq op) (r, mails) l = l
   told_leads (Some answer) _ place l = l
   told_leads None _ place l = l
 
-  effect_leads : (result : Option ToldResult) (command : Command) (place : Place) → Stays place → Stays (told_effect result command place)
-  unfolding told_effect
+  effect_leads : (result : Option OrderResult) (command : Command) (place : Place) → Stays place → Stays (effect_reported result command place)
+  unfolding effect_reported
   effect_leads None command place l = l
   effect_leads (Some result) command (r, mails) l = l
 
   announced_leads : (counted : Bool) (effect : Effect) (command : Command) (place : Place) → Stays place → Stays (announced counted effect command place)
   unfolding announced
   announced_leads counted effect command place l =
-      effect_leads (order_result command effect) command (cond counted (told_call (answer_of effect) command place) place) (either_way Stays counted (told_call (answer_of effect) command place) place (told_leads (answer_of effect) command place l) l)
+      effect_leads (order_result command effect) command (cond counted (answered_or_put_back (answer_of effect) command place) place) (either_way Stays counted (answered_or_put_back (answer_of effect) command place) place (told_leads (answer_of effect) command place l) l)
 
   spoken_leads : (counted : Bool) (before : Before) (effect : Effect) (command : Command) (place : Place) → Stays place → Stays (spoken counted before effect command place)
   unfolding spoken

@@ -3,8 +3,8 @@ use Rattle.std.proofs.Common.{◌≡◌, ◌≤◌, ℕ, ◌&&◌, ◌||◌, eqb
 use Rattle.std.specs.List.{list_any}
 use Rattle.std.specs.Option.{option_map}
 use Rattle.sc_paxos_words.specs.Definitions.{LeaderState, flight_at, LogState}
-use Rattle.sc_node_table.specs.Values.{Flight, Ballot, Draw, Command, Noop, Call, Join, Leave, Split, Begin, Prepared, RecordVote, GiveUp, Finish, Watched, RecordWatch, Effect, Route, ToldResult, AnswerBody, Mail, Learn}
-use Rattle.sc_node_table.specs.Definitions.{same_command, elected, ended, stopped, entered, answer_of, told_call, order_result, told_effect, announced, learnt_to, welcomed, slot_lost, landed, left_gone, left, is_among, looked_for, looked, executed_one, next_child, has_room, next_ready, ending, executed_ready, all_ready, executed, sent_others, answer_to, order_number, put_back, ReplicaState, Place, Executed, childless, name_of, next, members, flying, forgotten, at_slot, before_of, spoken}
+use Rattle.sc_node_table.specs.Values.{Flight, Ballot, Draw, Command, Noop, Call, Join, Leave, Split, Begin, Prepared, RecordVote, GiveUp, Finish, Watched, RecordWatch, Effect, Route, OrderResult, AnswerBody, Mail, Learn}
+use Rattle.sc_node_table.specs.Definitions.{same_command, elected, ended, stopped, entered, answer_of, answered_or_put_back, order_result, effect_reported, announced, learnt_to, welcomed, slot_lost, landed, left_gone, left, is_among, looked_for, looked, executed_one, next_child, has_room, next_ready, ending, executed_ready, all_ready, executed, sent_others, answer_to, order_number, put_back, ReplicaState, Place, Executed, childless, name_of, next, members, flying, forgotten, at_slot, before_of, spoken}
 use Rattle.std.proofs.lemmas.Bool.{cond_both, eqb-true, eq-eqb, or_parts, or_left, and_parts, true≢false}
 use Rattle.sc_mail.specs.declared.bodies.AnswerBody.TheVariants as Says
 use Rattle.sc_base.specs.Definitions.{is_member, least_of}
@@ -46,7 +46,7 @@ module _ (start : ReplicaState) (A : Command → Type 0) (G : Draw → ℕ → T
 
   kept_through : (command : Command) (r : ReplicaState) → Holds A G r → Holds A G (entered command r)
   unfolding entered forgotten
-  kept_through command r h = record { calls = h.calls; acts = h.acts; due = h.due; flights = h.flights; ready = h.ready; reports = h.reports }
+  kept_through command r h = record { backlog = h.backlog; acts = h.acts; due = h.due; flights = h.flights; ready = h.ready; reports = h.reports }
 
   -- ---- the answer to a counted call
 
@@ -68,17 +68,17 @@ module _ (start : ReplicaState) (A : Command → Type 0) (G : Draw → ℕ → T
 
   -- the answer is by the effect on the state that the entry met
   answers_so : (answer : Option AnswerBody) (command : Command) (r : ReplicaState) (mails : List Mail) (f : F (r, mails)) → answer ≡ answer_of (applied r.group command).1
-      → answers_in (told_call answer command (entered command r, mails)).1 ≡ answers_in mails ++ effect_answers start.me (name_of start) (answer_of (applied (state_after start.group f.1.entries) command).1) command
+      → answers_in (answered_or_put_back answer command (entered command r, mails)).1 ≡ answers_in mails ++ effect_answers start.me (name_of start) (answer_of (applied (state_after start.group f.1.entries) command).1) command
   answers_so answer command r mails f e =
-      let here : answers_in (told_call answer command (entered command r, mails)).1 ≡ answers_in mails ++ effect_answers (entered command r).me (name_of (entered command r)) answer command = reported_answers answer command (entered command r, mails) in
+      let here : answers_in (answered_or_put_back answer command (entered command r, mails)).1 ≡ answers_in mails ++ effect_answers (entered command r).me (name_of (entered command r)) answer command = reported_answers answer command (entered command r, mails) in
       here
       ∙ ap (λ (me : ℕ). answers_in mails ++ effect_answers me (name_of (entered command r)) answer command) (entered_me command r ∙ f.1.me_is)
       ∙ ap (λ (name : Draw). answers_in mails ++ effect_answers start.me name answer command) (entered_name command r ∙ f.1.name_is)
       ∙ ap (λ (o : Option AnswerBody). answers_in mails ++ effect_answers start.me (name_of start) o command) (e ∙ ap (λ (g : Group). answer_of (applied g command).1) f.1.group_is)
 
   told_by : (answer : Option AnswerBody) (command : Command) (r : ReplicaState) (mails : List Mail) (f : F (r, mails)) → Kept A G command
-      → AllCaused start A G W Q (f.1.entries ++ command ∷ []) false false (told_call answer command (entered command r, mails)).1 → F (told_call answer command (entered command r, mails))
-  unfolding told_call put_back
+      → AllCaused start A G W Q (f.1.entries ++ command ∷ []) false false (answered_or_put_back answer command (entered command r, mails)).1 → F (answered_or_put_back answer command (entered command r, mails))
+  unfolding answered_or_put_back put_back
   told_by (Some answer) (Call client seq op) r mails f k s =
       (kept_through (Call client seq op) r f.0, entered_stands (Call client seq op) r mails (answer_to (entered (Call client seq op) r).me (name_of (entered (Call client seq op) r)) client seq answer mails) f s)
   told_by None (Call client seq op) r mails f k s =
@@ -86,9 +86,9 @@ module _ (start : ReplicaState) (A : Command → Type 0) (G : Draw → ℕ → T
   told_by (Some answer) command r mails f k s = (kept_through command r f.0, entered_stands command r mails mails f s)
   told_by None command r mails f k s = (kept_through command r f.0, entered_stands command r mails mails f s)
 
-  told_fine : (answer : Option AnswerBody) (command : Command) (r : ReplicaState) (mails : List Mail) (f : F (r, mails)) → Kept A G command → answer ≡ answer_of (applied r.group command).1 → F (told_call answer command (entered command r, mails))
+  told_fine : (answer : Option AnswerBody) (command : Command) (r : ReplicaState) (mails : List Mail) (f : F (r, mails)) → Kept A G command → answer ≡ answer_of (applied r.group command).1 → F (answered_or_put_back answer command (entered command r, mails))
   told_fine answer command r mails f k e =
-      told_by answer command r mails f k (entry_caused start A G W Q f.1.entries command mails (told_call answer command (entered command r, mails)).1 k (answers_so answer command r mails f e) f.1.sent)
+      told_by answer command r mails f k (entry_caused start A G W Q f.1.entries command mails (answered_or_put_back answer command (entered command r, mails)).1 k (answers_so answer command r mails f e) f.1.sent)
 
   -- ---- what is said of it
 
@@ -107,8 +107,8 @@ module _ (start : ReplicaState) (A : Command → Type 0) (G : Draw → ℕ → T
   back_fine (Watched tx watch) r mails k d f = (back_kept A G (Watched tx watch) r k d f.0, f.1)
   back_fine (RecordWatch tx vote by) r mails k d f = (back_kept A G (RecordWatch tx vote by) r k d f.0, f.1)
 
-  effect_fine : (result : Option ToldResult) (command : Command) (place : Place) → F place → F (told_effect result command place)
-  unfolding told_effect
+  effect_fine : (result : Option OrderResult) (command : Command) (place : Place) → F place → F (effect_reported result command place)
+  unfolding effect_reported
   effect_fine None command place f = f
   effect_fine (Some result) command (r, mails) f =
       (f.0, resent start A G W Q false false r mails _ f.1 (reported_plain (AllCaused start A G W Q f.1.entries false false) (plain_caused start A G W Q f.1.entries false false) r.me (order_number command) result mails f.1.sent))
@@ -117,7 +117,7 @@ module _ (start : ReplicaState) (A : Command → Type 0) (G : Draw → ℕ → T
   pub counted_fine : (command : Command) (r : ReplicaState) (mails : List Mail) → Kept A G command → F (r, mails) → F (announced true (applied r.group command).1 command (entered command r, mails))
   unfolding announced
   counted_fine command r mails k f =
-      let effect : Effect = (applied r.group command).1 in effect_fine (order_result command effect) command (told_call (answer_of effect) command (entered command r, mails)) (told_fine (answer_of effect) command r mails f k refl)
+      let effect : Effect = (applied r.group command).1 in effect_fine (order_result command effect) command (answered_or_put_back (answer_of effect) command (entered command r, mails)) (told_fine (answer_of effect) command r mails f k refl)
 
   -- one that is learnt is answered to no client
   pub learning_fine : (effect : Effect) (command : Command) (place : Place) → F place → F (announced false effect command place)
@@ -137,7 +137,7 @@ module _ (start : ReplicaState) (A : Command → Type 0) (G : Draw → ℕ → T
 
   cleared_fine : (slot : ℕ) (place : Place) → F place → F (cleared slot place)
   cleared_fine slot (r, mails) f = (
-    record { calls = f.0.calls; acts = f.0.acts; due = f.0.due; flights = flight_without (Kept A G) slot r.leader.flights f.0.flights; ready = slot_without (Kept A G) r.ready slot f.0.ready; reports = f.0.reports },
+    record { backlog = f.0.backlog; acts = f.0.acts; due = f.0.due; flights = flight_without (Kept A G) slot r.leader.flights f.0.flights; ready = slot_without (Kept A G) r.ready slot f.0.ready; reports = f.0.reports },
     f.1,
   )
 
@@ -165,7 +165,7 @@ module _ (start : ReplicaState) (A : Command → Type 0) (G : Draw → ℕ → T
   past place f = record { refused = false; turned = false; fine = f; runs = λ _. (refl, refl) }
 
   hinted_fine : (refused turned : Bool) (r : ReplicaState) (hint : Option ℕ) (mails : List Mail) → FineAs start A G W Q refused turned (r, mails) → FineAs start A G W Q refused turned (record r { hint = hint }, mails)
-  hinted_fine refused turned r hint mails f = (record { calls = f.0.calls; acts = f.0.acts; due = f.0.due; flights = f.0.flights; ready = f.0.ready; reports = f.0.reports }, f.1)
+  hinted_fine refused turned r hint mails f = (record { backlog = f.0.backlog; acts = f.0.acts; due = f.0.due; flights = f.0.flights; ready = f.0.ready; reports = f.0.reports }, f.1)
 
   looked_by : (gone : Option Route) (r : ReplicaState) (mails : List Mail) → F (r, mails) → F (looked_for gone (r, mails))
   looked_by (Some into) r mails f = f

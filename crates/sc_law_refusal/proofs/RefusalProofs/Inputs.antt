@@ -7,7 +7,7 @@ use Rattle.sc_actor.specs.declared.rows.Input.TheVariants.{Tick, Told as Tells}
 use Rattle.sc_mail.specs.declared.bodies.AnswerBody.TheVariants as Says
 use Rattle.sc_paxos_words.proofs.Lemmas.{Each-append, Each-from, Each-weaker}
 use Rattle.sc_machine_table.specs.Definitions.{applied}
-use Rattle.sc_node_table.specs.Definitions.{same_command, call_of, ReplicaState, Place, Executed, childless, name_of, next, flying, last_slot, listed, settled, refused_at, queued, requested, request_row, learn_row, mailed, stepped, entered, announced, executed, sent}
+use Rattle.sc_node_table.specs.Definitions.{same_command, queued_number, ReplicaState, Place, Executed, childless, name_of, next, flying, last_slot, listed, settled, refused_at, queued, requested, request_row, learn_row, mailed, stepped, entered, announced, executed, sent}
 use Rattle.sc_node_table.specs.declared.ReplicaInput.{ReplicaInput}
 use Rattle.sc_node_table.specs.declared.ReplicaInput.TheVariants as Given
 use Rattle.sc_law_walks.proofs.Lemmas.{either_way}
@@ -181,7 +181,7 @@ module _ (r : ReplicaState) where
   begins : FineAs r Any Ever no_ticks ⊥ false true (r, [])
   begins = (
     record {
-      calls = each_any (λ command. command) r.calls;
+      backlog = each_any (λ command. command) r.backlog;
       acts = each_any (λ command. command) r.acts;
       due = λ tx. (ends_queued tx r.acts, omega arith, tt);
       flights = each_any (λ flight. flight.value) r.leader.flights;
@@ -201,8 +201,8 @@ module _ (r : ReplicaState) where
   unfolding requested
   taken (Some answer) client seq op u runs = (not_named seq op answer (name_of r) (u answer refl) runs, tt)
   taken None client seq op u runs =
-      let f = queued_so r Any Ever no_ticks ⊥ (call_of r.calls client) client seq op r [] tt begins in
-      sent_unnamed f.1.entries (queued (call_of r.calls client) client seq op (r, [])).1 f.1.sent
+      let f = queued_so r Any Ever no_ticks ⊥ (queued_number r.backlog client) client seq op r [] tt begins in
+      sent_unnamed f.1.entries (queued (queued_number r.backlog client) client seq op (r, [])).1 f.1.sent
 
 pub requests_are_taken : RunningReplicasTakeRequests
 unfolding stepped mailed request_row

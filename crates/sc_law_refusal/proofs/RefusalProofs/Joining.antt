@@ -9,7 +9,7 @@ use Rattle.sc_cmd.specs.declared.votes.Vote.TheVariants as Vows
 use Rattle.sc_machine_table.specs.Definitions.{Group, frozen_of}
 use Rattle.sc_paxos_words.specs.declared.answers.Must.TheVariants.{Value, Free as Open}
 use Rattle.sc_paxos_words.specs.Definitions.{must, new_leader, with_flight_at, entry_at}
-use Rattle.sc_node_table.specs.Definitions.{open_nodes, elected, sent, sent_all, sent_others, answered, wishing, Found, is_act, waits, turned_down, next_call, from_calls, from_acts, from_queues, found_by, found_for, offered, pumped_from, pumped, asked_link, question, waited_in, reminders, reminded, ReplicaState, Place, name_of, next, members, settled, may_offer, taken_at, flying, under_way, is_idle, last_slot, uncounted, asked_again, told_last, tick_row}
+use Rattle.sc_node_table.specs.Definitions.{open_nodes, elected, sent, sent_all, sent_others, answered, wishing, Found, is_act, waits, turned_down, next_queued, from_backlog, from_acts, from_queues, found_by, found_for, offered, pumped_from, pumped, asked_link, question, waited_in, reminders, reminded, ReplicaState, Place, name_of, next, members, settled, may_offer, taken_at, flying, under_way, is_idle, last_slot, uncounted, asked_again, last_entry_sent, tick_row}
 
 -- a choice between two of one kind
 either_of : {A B : Type 0} (f : A → B) (b : Bool) (x y : A) (p q : B) → p ≡ f x → q ≡ f y → cond b p q ≡ f (cond b x y)
@@ -42,8 +42,8 @@ module _ (before : List Mail) where
       ap (λ ms. sent_others me nodes body ms) (either_of onto (eqb node me) mails (sent me node body mails) (onto mails) (sent me node body (onto mails)) refl (sent_onto me node body mails))
       ∙ others_onto me nodes body (cond (eqb node me) mails (sent me node body mails))
 
-  last_onto : (o : Option Command) (r : ReplicaState) (mails : List Mail) → told_last o r (onto mails) ≡ onto (told_last o r mails)
-  unfolding told_last
+  last_onto : (o : Option Command) (r : ReplicaState) (mails : List Mail) → last_entry_sent o r (onto mails) ≡ onto (last_entry_sent o r mails)
+  unfolding last_entry_sent
   last_onto None r mails = refl
   last_onto (Some command) r mails = others_onto r.me (members r) (Learn (name_of r) (next r - 1) command) mails
 
@@ -95,27 +95,27 @@ module _ (before : List Mail) where
   abbrev left_onto : Queue → Queue
   left_onto found = (found.0, found.1, onto found.2)
 
-  next_by : (me : ℕ) (idle : Bool) (core : Core) (command : Command) (calls : List Command) (mails : List Mail) (o : Option AnswerBody)
-      → ((ms : List Mail) → next_call me idle core calls (onto ms) ≡ left_onto (next_call me idle core calls ms))
-      → elim o as (λ _. Queue) [ None ↦ (Some command, calls, onto mails) | Some answer ↦ next_call me idle core calls (answered me core.id answer command (onto mails)) ]
-      ≡ left_onto (elim o as (λ _. Queue) [ None ↦ (Some command, calls, mails) | Some answer ↦ next_call me idle core calls (answered me core.id answer command mails) ])
-  next_by me idle core command calls mails None more = refl
-  next_by me idle core command calls mails (Some answer) more = ap (λ ms. next_call me idle core calls ms) (answered_onto me core.id answer command mails) ∙ more (answered me core.id answer command mails)
+  next_by : (me : ℕ) (idle : Bool) (core : Core) (command : Command) (backlog : List Command) (mails : List Mail) (o : Option AnswerBody)
+      → ((ms : List Mail) → next_queued me idle core backlog (onto ms) ≡ left_onto (next_queued me idle core backlog ms))
+      → elim o as (λ _. Queue) [ None ↦ (Some command, backlog, onto mails) | Some answer ↦ next_queued me idle core backlog (answered me core.id answer command (onto mails)) ]
+      ≡ left_onto (elim o as (λ _. Queue) [ None ↦ (Some command, backlog, mails) | Some answer ↦ next_queued me idle core backlog (answered me core.id answer command mails) ])
+  next_by me idle core command backlog mails None more = refl
+  next_by me idle core command backlog mails (Some answer) more = ap (λ ms. next_queued me idle core backlog ms) (answered_onto me core.id answer command mails) ∙ more (answered me core.id answer command mails)
 
-  next_onto : (me : ℕ) (idle : Bool) (core : Core) (calls : List Command) (mails : List Mail) → next_call me idle core calls (onto mails) ≡ left_onto (next_call me idle core calls mails)
-  unfolding next_call
+  next_onto : (me : ℕ) (idle : Bool) (core : Core) (backlog : List Command) (mails : List Mail) → next_queued me idle core backlog (onto mails) ≡ left_onto (next_queued me idle core backlog mails)
+  unfolding next_queued
   next_onto me idle core [] mails = refl
-  next_onto me idle core (command ∷ calls) mails =
-      either_of left_onto (waits idle core.lock command) (None, command ∷ calls, mails)
-      (elim (turned_down core command) as (λ _. Queue) [ None ↦ (Some command, calls, mails) | Some answer ↦ next_call me idle core calls (answered me core.id answer command mails) ]) _ _ refl
-      (next_by me idle core command calls mails (turned_down core command) (λ ms. next_onto me idle core calls ms))
+  next_onto me idle core (command ∷ backlog) mails =
+      either_of left_onto (waits idle core.lock command) (None, command ∷ backlog, mails)
+      (elim (turned_down core command) as (λ _. Queue) [ None ↦ (Some command, backlog, mails) | Some answer ↦ next_queued me idle core backlog (answered me core.id answer command mails) ]) _ _ refl
+      (next_by me idle core command backlog mails (turned_down core command) (λ ms. next_onto me idle core backlog ms))
 
   abbrev found_behind : Found → Found
   found_behind found = (found.0, behind found.1)
 
-  calls_behind : (place : Place) → from_calls (behind place) ≡ found_behind (from_calls place)
-  unfolding from_calls
-  calls_behind (r, mails) = ap (λ (found : Queue). (found.0, (record r { calls = found.1 }, found.2))) (next_onto r.me (is_idle r) r.group.core r.calls mails)
+  calls_behind : (place : Place) → from_backlog (behind place) ≡ found_behind (from_backlog place)
+  unfolding from_backlog
+  calls_behind (r, mails) = ap (λ (found : Queue). (found.0, (record r { backlog = found.1 }, found.2))) (next_onto r.me (is_idle r) r.group.core r.backlog mails)
 
   acts_behind : (acts : List Command) (place : Place) → from_acts acts (behind place) ≡ found_behind (from_acts acts place)
   acts_behind [] place = calls_behind place
@@ -171,9 +171,9 @@ module _ (before : List Mail) where
   pub tick_behind : (on : Bool) (drawer : Drawer) (r : ReplicaState) (mails : List Mail) → tick_row on drawer (r, onto mails) ≡ behind (tick_row on drawer (r, mails))
   unfolding tick_row
   tick_behind on drawer r mails =
-      let last : List Mail = told_last (entry_at (next r - 1) r.log) r mails in
+      let last : List Mail = last_entry_sent (entry_at (next r - 1) r.log) r mails in
       let again : List Mail = asked_again r (next r) r.sets mails in
-      let told : reminding on drawer (r, told_last (entry_at (next r - 1) r.log) r (onto mails)) ≡ behind (reminding on drawer (r, last)) =
+      let told : reminding on drawer (r, last_entry_sent (entry_at (next r - 1) r.log) r (onto mails)) ≡ behind (reminding on drawer (r, last)) =
       ap (λ (ms : List Mail). reminding on drawer (r, ms)) (last_onto (entry_at (next r - 1) r.log) r mails) ∙ reminding_behind on drawer (r, last) in
       let asked : reminding on drawer (r, asked_again r (next r) r.sets (onto mails)) ≡ behind (reminding on drawer (r, again)) =
       ap (λ (ms : List Mail). reminding on drawer (r, ms)) (again_onto r (next r) r.sets mails) ∙ reminding_behind on drawer (r, again) in

@@ -7,7 +7,7 @@ use Rattle.sc_base.specs.Definitions.{Among, Each}
 use Rattle.sc_node_table.specs.Values.{Draw, Seat, Event, Input, Got, Row, Base, Route, OrderLine, Mail, Node, Client, Lock}
 use Rattle.sc_actor.specs.declared.rows.Event.TheVariants as event
 use Rattle.sc_actor.specs.declared.rows.Input.TheVariants.{Go}
-use Rattle.sc_actor.specs.Definitions.{mails, numbered, acted, input_of, value, IsStep, IsOpen, IsLoose, has_gone, is_go, place_after}
+use Rattle.sc_actor.specs.Definitions.{mails, numbered, acted, input_of, value, IsStep, IsOpen, IsLoose, has_started, is_go, place_after}
 use Rattle.sc_actor.proofs.Lemmas.{MayAdd-step, lawful-induction, value-snoc, lawful-prefix, lawful-last}
 use Rattle.sc_client_table.specs.Definitions.{Client as ClientState, table}
 use Rattle.sc_node_table.specs.Definitions.{NodeState, node_table, ReplicaState, name_of, numbers_from}
@@ -83,7 +83,7 @@ module _ (ahead : Ahead) (words : ℕ → ℕ → ℕ × ℕ) (scenario : Scenar
   abbrev S : Row Mail OrderLine → Type 0
   S row = IsStep (system_of ahead words scenario) rows row
 
-  open_go : (who : ℕ) (event : Event OrderLine) → IsOpen (system_of ahead words scenario) rows who event → input_of (mails rows) event ≡ Some Go → has_gone rows who ≡ false
+  open_go : (who : ℕ) (event : Event OrderLine) → IsOpen (system_of ahead words scenario) rows who event → input_of (mails rows) event ≡ Some Go → has_started rows who ≡ false
   open_go who event.Go o e = o
   open_go who (event.Deliver mail) o e = absurd (not_go (numbered (mails rows) mail) Go e refl)
   open_go who event.Tick o e = cc
@@ -103,13 +103,13 @@ module _ (ahead : Ahead) (words : ℕ → ℕ → ℕ × ℕ) (scenario : Scenar
 
   module _ (row : Row Mail OrderLine) (step : S row) where
     -- a client that has to go had not started before
-    go_once : input_of (mails rows) row.event ≡ Some Go → has_gone rows row.who ≡ false
+    go_once : input_of (mails rows) row.event ≡ Some Go → has_started rows row.who ≡ false
     go_once e =
         elim step [
           | inl a ↦ (
               let event_is : row.event ≡ a.event = ap (λ r. r.event) a.row_is in
               let who_is : row.who ≡ a.seat.who = ap (λ r. r.who) a.row_is in
-              subst (λ (who : ℕ). has_gone rows who ≡ false) (sym who_is) (open_go a.seat.who a.event a.open_ (subst (λ (v : Event OrderLine). input_of (mails rows) v ≡ Some Go) event_is e)))
+              subst (λ (who : ℕ). has_started rows who ≡ false) (sym who_is) (open_go a.seat.who a.event a.open_ (subst (λ (v : Event OrderLine). input_of (mails rows) v ≡ Some Go) event_is e)))
           | inr n ↦ (let event_is : row.event ≡ n.event = ap (λ r. r.event) n.row_is in absurd (loose_input n.event Go n.loose (subst (λ (v : Event OrderLine). input_of (mails rows) v ≡ Some Go) event_is e)))
         ]
 
@@ -143,7 +143,7 @@ module _ (ahead : Ahead) (words : ℕ → ℕ → ℕ × ℕ) (scenario : Scenar
 
   -- a client is in place after these rows
   abbrev Placed : Rows → Player → Type 0
-  Placed rows (Client client) = InPlace (has_gone rows seat.who) client
+  Placed rows (Client client) = InPlace (has_started rows seat.who) client
   Placed rows (Node node) = ⊥
 
   abbrev P : Rows → Type 0
@@ -158,8 +158,8 @@ module _ (ahead : Ahead) (words : ℕ → ℕ → ℕ × ℕ) (scenario : Scenar
       → Placed (rows ++ row ∷ []) (player_table player input).0
   moved_placed rows row (Node node) input step who e k = k
   moved_placed rows row (Client client) input step who e k =
-      let told : input ≡ Go → has_gone rows seat.who ≡ false = λ go. subst (λ (w : ℕ). has_gone rows w ≡ false) who (go_once ahead words scenario rows row step (e ∙ ap Some go)) in
-      in_place client input (has_gone rows seat.who) k told (has_gone (rows ++ row ∷ []) seat.who)
+      let told : input ≡ Go → has_started rows seat.who ≡ false = λ go. subst (λ (w : ℕ). has_started rows w ≡ false) who (go_once ahead words scenario rows row step (e ∙ ap Some go)) in
+      in_place client input (has_started rows seat.who) k told (has_started (rows ++ row ∷ []) seat.who)
       (λ later. (let parts = any_push (λ r. eqb r.who seat.who && is_go r.event) rows row later in
       (parts.0, λ go. (let yes : (eqb row.who seat.who && is_go row.event) ≡ true = and_from (eqb row.who seat.who) (is_go row.event) (eq-eqb row.who seat.who who) (go_event (mails rows) row.event (e ∙ ap Some go)) in absurd (true≢false (sym yes ∙ parts.1))))))
 
@@ -249,9 +249,9 @@ module _ (ahead : Ahead) (words : ℕ → ℕ → ℕ × ℕ) (scenario : Scenar
       let seat : Seat Player = client_seat first asks in
       let m = made seat (Client before) (Client after) input a in
       let who : seat.who ≡ row.who = (seat_is ahead scenario row.who seat a.seated).0 in
-      let place : InPlace (has_gone rows seat.who) before = subst (Placed ahead words scenario first asks rows) a.was (placed ahead words scenario first asks rows lawful) in
-      let told : input ≡ Go → has_gone rows seat.who ≡ false = λ go. subst (λ (w : ℕ). has_gone rows w ≡ false) (sym who) (go_once ahead words scenario rows row step (a.takes ∙ ap Some go)) in
-      let turn : KeepsTurn before (table before input).0 input (table before input).1 = keeps_turn before input (has_gone rows seat.who) place told in
+      let place : InPlace (has_started rows seat.who) before = subst (Placed ahead words scenario first asks rows) a.was (placed ahead words scenario first asks rows lawful) in
+      let told : input ≡ Go → has_started rows seat.who ≡ false = λ go. subst (λ (w : ℕ). has_started rows w ≡ false) (sym who) (go_once ahead words scenario rows row step (a.takes ∙ ap Some go)) in
+      let turn : KeepsTurn before (table before input).0 input (table before input).1 = keeps_turn before input (has_started rows seat.who) place told in
       let both : Client after ≡ Client (table before input).0 = m.is in
       let same : (table before input).0 ≡ after = cc in
       subst (λ (ms : List Mail). KeepsTurn before after input ms) (sym m.sends) (subst (λ (c : ClientState). KeepsTurn before c input (table before input).1) same turn)
@@ -299,15 +299,15 @@ valid_refuse queues ahead open_slots words scenario valid journal lawful = recor
   rows = λ before row later are. (
       let s = system_of ahead words scenario in
       let all : Lawful ahead words scenario ((before ++ row ∷ []) ++ later) = subst (Lawful ahead words scenario) (are ∙ sym (append_assoc before (row ∷ []) later)) lawful in
-      let front : Lawful ahead words scenario (before ++ row ∷ []) = lawful-prefix s (schedule scenario) (before ++ row ∷ []) later all in
-      let step : IsStep s before row = MayAdd-step s before (place_after s (schedule scenario) before).tasks row (lawful-last s (schedule scenario) before row front) in
-      row_has ahead words scenario before row (lawful-prefix s (schedule scenario) before (row ∷ []) front) step);
+      let prefix : Lawful ahead words scenario (before ++ row ∷ []) = lawful-prefix s (schedule scenario) (before ++ row ∷ []) later all in
+      let step : IsStep s before row = MayAdd-step s before (place_after s (schedule scenario) before).tasks row (lawful-last s (schedule scenario) before row prefix) in
+      row_has ahead words scenario before row (lawful-prefix s (schedule scenario) before (row ∷ []) prefix) step);
   queues = λ before later are seat seated node is. (
       let at : IsSeat ahead scenario seat = Each-among (IsSeat ahead scenario) (births ahead scenario) seat (seats ahead scenario) seated in
-      let front : Lawful ahead words scenario before = lawful-prefix (system_of ahead words scenario) (schedule scenario) before later (subst (Lawful ahead words scenario) are lawful) in
+      let prefix : Lawful ahead words scenario before = lawful-prefix (system_of ahead words scenario) (schedule scenario) before later (subst (Lawful ahead words scenario) are lawful) in
       elim at [
         | inl n ↦ queues ahead scenario n.me before node (subst (λ (s : Seat Player). value player_table s before ≡ Node node) n.is is)
-        | inr c ↦ absurd (subst (Placed ahead words scenario c.first c.asks before) (subst (λ (s : Seat Player). value player_table s before ≡ Node node) c.is is) (placed ahead words scenario c.first c.asks before front))
+        | inr c ↦ absurd (subst (Placed ahead words scenario c.first c.asks before) (subst (λ (s : Seat Player). value player_table s before ≡ Node node) c.is is) (placed ahead words scenario c.first c.asks before prefix))
       ]);
   given_up = λ before later are. lawful_give_up ahead open_slots words scenario before (lawful-prefix (system_of ahead words scenario) (schedule scenario) before later (subst (Lawful ahead words scenario) are lawful));
 }

@@ -4,7 +4,7 @@ use Rattle.std.proofs.lemmas.Bool.{cond_both}
 use Rattle.std.proofs.lemmas.List.Elements.{filter-append}
 use Rattle.sc_base.specs.Definitions.{same_draw, Each}
 use Rattle.sc_base.proofs.Lemmas.{draw_is}
-use Rattle.sc_node_table.specs.Definitions.{is_giving_up, call_of, is_call_of, without_call, call_before, put_back, ReplicaState, flying, taken_at, listed, taken_from, open_slots, under_way, at_slot}
+use Rattle.sc_node_table.specs.Definitions.{is_giving_up, queued_number, is_request_of, without_request, request_before, put_back, ReplicaState, flying, taken_at, listed, taken_from, open_slots, under_way, at_slot}
 use Rattle.sc_law_refusal.specs.refusal.Definitions.{ends_queued}
 use Rattle.sc_node_table.specs.Values.{Draw, Command, Noop, Call, Join, Leave, Split, Begin, Prepared, RecordVote, GiveUp, Finish, Watched, RecordWatch, Must, Gap, Flight, Report}
 use Rattle.sc_paxos_words.proofs.Lemmas.{Each-append}
@@ -81,18 +81,18 @@ module _ (A : Command → Type 0) (G : Draw → ℕ → Type 0) where
 
   -- so is all that a replica keeps
   pub record Holds (r : ReplicaState) : Type 0 where
-    pub calls : KeptAll r.calls
+    pub backlog : KeptAll r.backlog
     pub acts : KeptAll r.acts
     pub due : DueAll r.acts
     pub flights : Each Flying r.leader.flights
     pub ready : Each Ready r.ready
     pub reports : Each Reported r.leader.reports
 
-  pub with_calls : (r : ReplicaState) (commands : List Command) → KeptAll commands → Holds r → Holds (record r { calls = commands })
-  with_calls r commands c h = record { calls = c; acts = h.acts; due = h.due; flights = h.flights; ready = h.ready; reports = h.reports }
+  pub with_calls : (r : ReplicaState) (commands : List Command) → KeptAll commands → Holds r → Holds (record r { backlog = commands })
+  with_calls r commands c h = record { backlog = c; acts = h.acts; due = h.due; flights = h.flights; ready = h.ready; reports = h.reports }
 
   pub with_acts : (r : ReplicaState) (commands : List Command) → KeptAll commands → DueAll commands → Holds r → Holds (record r { acts = commands })
-  with_acts r commands a d h = record { calls = h.calls; acts = a; due = d; flights = h.flights; ready = h.ready; reports = h.reports }
+  with_acts r commands a d h = record { backlog = h.backlog; acts = a; due = d; flights = h.flights; ready = h.ready; reports = h.reports }
 
   -- ---- how many GiveUp commands are queued
 
@@ -114,23 +114,23 @@ module _ (A : Command → Type 0) (G : Draw → ℕ → Type 0) where
 
   -- ---- what goes back
 
-  pub without_kept : (calls : List Command) (client : ℕ) → KeptAll calls → KeptAll (without_call calls client)
+  pub without_kept : (backlog : List Command) (client : ℕ) → KeptAll backlog → KeptAll (without_request backlog client)
   without_kept [] client c = tt
-  without_kept (command ∷ calls) client c = either_way KeptAll (is_call_of client command) _ _ c.1 (c.0, without_kept calls client c.1)
+  without_kept (command ∷ backlog) client c = either_way KeptAll (is_request_of client command) _ _ c.1 (c.0, without_kept backlog client c.1)
 
-  before_kept : (o : Option ℕ) (client seq : ℕ) (command : Command) (calls : List Command) → Kept command → KeptAll calls → KeptAll (call_before o client seq command calls)
-  before_kept None client seq command calls k c = (k, c)
-  before_kept (Some other) client seq command calls k c = either_way KeptAll (nat_lt other seq) _ _ (k, without_kept calls client c) c
+  before_kept : (o : Option ℕ) (client seq : ℕ) (command : Command) (backlog : List Command) → Kept command → KeptAll backlog → KeptAll (request_before o client seq command backlog)
+  before_kept None client seq command backlog k c = (k, c)
+  before_kept (Some other) client seq command backlog k c = either_way KeptAll (nat_lt other seq) _ _ (k, without_kept backlog client c) c
 
   pub back_kept : (command : Command) (r : ReplicaState) → Kept command → Due command r.acts → Holds r → Holds (put_back command r)
   unfolding put_back
   back_kept Noop r k d h = h
   back_kept (Call client seq op) r k d h =
-      with_calls r (call_before (call_of r.calls client) client seq (Call client seq op) r.calls) (before_kept (call_of r.calls client) client seq (Call client seq op) r.calls k h.calls) h
-  back_kept (Join node order) r k d h = with_calls r (Join node order ∷ r.calls) (k, h.calls) h
-  back_kept (Leave node order) r k d h = with_calls r (Leave node order ∷ r.calls) (k, h.calls) h
-  back_kept (Split at child order) r k d h = with_calls r (Split at child order ∷ r.calls) (k, h.calls) h
-  back_kept (Begin tx body order) r k d h = with_calls r (Begin tx body order ∷ r.calls) (k, h.calls) h
+      with_calls r (request_before (queued_number r.backlog client) client seq (Call client seq op) r.backlog) (before_kept (queued_number r.backlog client) client seq (Call client seq op) r.backlog k h.backlog) h
+  back_kept (Join node order) r k d h = with_calls r (Join node order ∷ r.backlog) (k, h.backlog) h
+  back_kept (Leave node order) r k d h = with_calls r (Leave node order ∷ r.backlog) (k, h.backlog) h
+  back_kept (Split at child order) r k d h = with_calls r (Split at child order ∷ r.backlog) (k, h.backlog) h
+  back_kept (Begin tx body order) r k d h = with_calls r (Begin tx body order ∷ r.backlog) (k, h.backlog) h
   back_kept (Prepared tx offer) r k d h = with_acts r (Prepared tx offer ∷ r.acts) (k, h.acts) (more_due (Prepared tx offer) r.acts (Prepared tx offer ∷ r.acts) (ends_before (Prepared tx offer) r.acts) d h.due) h
   back_kept (RecordVote tx vote by) r k d h = with_acts r (RecordVote tx vote by ∷ r.acts) (k, h.acts) (more_due (RecordVote tx vote by) r.acts (RecordVote tx vote by ∷ r.acts) (ends_before (RecordVote tx vote by) r.acts) d h.due) h
   back_kept (GiveUp tx) r k d h = with_acts r (GiveUp tx ∷ r.acts) (k, h.acts) (more_due (GiveUp tx) r.acts (GiveUp tx ∷ r.acts) (ends_before (GiveUp tx) r.acts) d h.due) h

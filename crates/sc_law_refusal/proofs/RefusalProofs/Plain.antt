@@ -3,7 +3,7 @@ use Rattle.std.proofs.Common.{◌≡◌, ◌∙◌, ap, refl, append-nil, ℕ, z
 use Rattle.std.proofs.lemmas.Bool.{cond_both}
 use Rattle.std.proofs.lemmas.List.Elements.{filter-append}
 use Rattle.sc_base.specs.Definitions.{same_draw, Each, least_of}
-use Rattle.sc_node_table.specs.Values.{Draw, Offer, Body, Watch, Command, Split, Begin, Prepared, RecordVote, GiveUp, Watched, RecordWatch, Core, Lock, Free, Coordinating, Promised, Watching, Effect, Link, ToldResult, Heard, Outcome, Past, Vote, AnswerBody, Mail, MailBody, Answer, Accept, Learn, TxPrepare, TxVote, TxOutcome, TxWatched, Told}
+use Rattle.sc_node_table.specs.Values.{Draw, Offer, Body, Watch, Command, Split, Begin, Prepared, RecordVote, GiveUp, Watched, RecordWatch, Core, Lock, Free, Coordinating, Promised, Watching, Effect, Link, OrderResult, Heard, Outcome, Past, Vote, AnswerBody, Mail, MailBody, Answer, Accept, Learn, TxPrepare, TxVote, TxOutcome, TxWatched, Told}
 use Rattle.sc_cmd.specs.declared.bodies.Body.TheVariants as At
 use Rattle.sc_cmd.specs.declared.effects.Effect.TheVariants as Was
 use Rattle.sc_cmd.specs.declared.votes.Outcome.TheVariants as Is
@@ -13,7 +13,7 @@ use Rattle.sc_cmd.specs.Definitions.{decided_in, cast_in}
 use Rattle.sc_machine_table.specs.Definitions.{Group, frozen_of}
 use Rattle.sc_paxos_words.specs.Definitions.{entry_at}
 use Rattle.sc_node_table.specs.declared.Before.{Before}
-use Rattle.sc_node_table.specs.Definitions.{sent, sent_all, sent_others, told_order, offer_of, question, asked_first, asked_link, ReplicaState, name_of, flying, members, next, reminders, taught, uncounted, asked_again, told_last, voted_to, watched_to, told_outcome, next_asked, asked_next, begun_result, spoken_number, told_result, told_begun, asked_on, begun_asks, vote_sent, watch_sent, aborted_to, aborted_watcher, given_up_by, vote_answered, released_to, watch_answered_by, went_on, spoken_mails}
+use Rattle.sc_node_table.specs.Definitions.{sent, sent_all, sent_others, order_reported, offer_of, question, asked_first, asked_link, ReplicaState, name_of, flying, members, next, reminders, taught, uncounted, asked_again, last_entry_sent, voted_to, watched_to, outcome_sent, next_asked, asked_next, begun_result, spoken_number, result_reported, begun_reported, asked_on, begun_asks, vote_sent, watch_sent, aborted_to, aborted_watcher, given_up_by, vote_answered, released_to, watch_answered_by, went_on, spoken_mails}
 use Rattle.sc_law_walks.proofs.Lemmas.{either_way}
 use Rattle.sc_law_refusal.specs.refusal.Definitions.{IfAnswer, answers_in, is_answer}
 
@@ -75,8 +75,8 @@ module _ (Sent : List Mail → Type 0) (plain : (me to : ℕ) (body : MailBody) 
   others_plain me (node ∷ nodes) body mails b m =
       others_plain me nodes body (cond (eqb node me) mails (sent me node body mails)) b (either_way Sent (eqb node me) mails (sent me node body mails) m (plain me node body mails b m))
 
-  pub reported_plain : (me number : ℕ) (result : ToldResult) (mails : List Mail) → Sent mails → Sent (told_order me number result mails)
-  unfolding told_order
+  pub reported_plain : (me number : ℕ) (result : OrderResult) (mails : List Mail) → Sent mails → Sent (order_reported me number result mails)
+  unfolding order_reported
   reported_plain me number result mails m = either_way Sent (nat_lt 0 number) (sent me 0 (Told number result) mails) mails (plain me 0 (Told number result) mails tt m) m
 
   -- ---- the parties of a transaction
@@ -112,12 +112,12 @@ module _ (Sent : List Mail → Type 0) (plain : (me to : ℕ) (body : MailBody) 
 
   -- ---- what is said of an executed entry
 
-  result_plain : (me : ℕ) (result : Option ToldResult) (number : ℕ) (mails : List Mail) → Sent mails → Sent (told_result me result number mails)
+  result_plain : (me : ℕ) (result : Option OrderResult) (number : ℕ) (mails : List Mail) → Sent mails → Sent (result_reported me result number mails)
   result_plain me None number mails m = m
   result_plain me (Some result) number mails m = reported_plain me number result mails m
 
-  begun_plain : (me : ℕ) (before : Before) (effect : Effect) (command : Command) (mails : List Mail) → Sent mails → Sent (told_begun me before effect command mails)
-  unfolding told_begun
+  begun_plain : (me : ℕ) (before : Before) (effect : Effect) (command : Command) (mails : List Mail) → Sent mails → Sent (begun_reported me before effect command mails)
+  unfolding begun_reported
   begun_plain me before effect command mails m = result_plain me (begun_result before.alone effect command) (spoken_number before.order command) mails m
 
   on_plain : (effect : Effect) (me : ℕ) (core : Core) (mails : List Mail) → Sent mails → Sent (asked_on effect me core mails)
@@ -147,7 +147,7 @@ module _ (Sent : List Mail → Type 0) (plain : (me to : ℕ) (body : MailBody) 
   given_up_plain None me before tx mails m = m
   given_up_plain (Some outcome) me before tx mails m = watcher_plain me tx before.heard (aborted_to me tx before.succ mails) (aborted_plain me tx before.succ mails m)
 
-  outcome_plain : (me node : ℕ) (tx part : Draw) (outcome : Outcome) (mails : List Mail) → Sent mails → Sent (told_outcome me node tx part outcome mails)
+  outcome_plain : (me node : ℕ) (tx part : Draw) (outcome : Outcome) (mails : List Mail) → Sent mails → Sent (outcome_sent me node tx part outcome mails)
   outcome_plain me node tx part outcome mails m = plain me node (TxOutcome tx part outcome) mails tt m
 
   answered_plain : (outcome : Option Outcome) (vote : Vote) (me : ℕ) (before : Before) (tx : Draw) (by : ℕ) (mails : List Mail) → Sent mails → Sent (vote_answered outcome vote me before tx by mails)
@@ -158,7 +158,7 @@ module _ (Sent : List Mail → Type 0) (plain : (me to : ℕ) (body : MailBody) 
   released_plain : (heard : Option (ℕ × Link)) (me : ℕ) (succ : Link) (tx : Draw) (by : ℕ) (outcome : Outcome) (mails : List Mail) → Sent mails → Sent (released_to heard me succ tx by outcome mails)
   released_plain None me succ tx by outcome mails m = outcome_plain me by tx succ.group outcome mails m
   released_plain (Some heard) me succ tx by outcome mails m =
-      outcome_plain me by tx heard.1.group outcome (told_outcome me heard.0 tx succ.group outcome mails) (outcome_plain me heard.0 tx succ.group outcome mails m)
+      outcome_plain me by tx heard.1.group outcome (outcome_sent me heard.0 tx succ.group outcome mails) (outcome_plain me heard.0 tx succ.group outcome mails m)
 
   watcher_answered : (outcome : Option Outcome) (vote : Past) (me : ℕ) (before : Before) (tx : Draw) (by : ℕ) (mails : List Mail) → Sent mails → Sent (watch_answered_by outcome vote me before tx by mails)
   watcher_answered None vote me before tx by mails m = m
@@ -181,8 +181,8 @@ module _ (Sent : List Mail → Type 0) (plain : (me to : ℕ) (body : MailBody) 
   pub spoken_plain : (counted : Bool) (me : ℕ) (group : Group) (before : Before) (effect : Effect) (command : Command) (mails : List Mail) → Sent mails → Sent (spoken_mails counted me group before effect command mails)
   unfolding spoken_mails
   spoken_plain counted me group before effect command mails m =
-      either_way Sent counted (went_on me group before effect command (told_begun me before effect command mails)) (told_begun me before effect command mails)
-      (went_plain me group before effect command (told_begun me before effect command mails) (begun_plain me before effect command mails m)) (begun_plain me before effect command mails m)
+      either_way Sent counted (went_on me group before effect command (begun_reported me before effect command mails)) (begun_reported me before effect command mails)
+      (went_plain me group before effect command (begun_reported me before effect command mails) (begun_plain me before effect command mails m)) (begun_plain me before effect command mails m)
 
   -- ---- entries that are taught, and what a leader asks again
 
@@ -210,7 +210,7 @@ module _ (Sent : List Mail → Type 0) (plain : (me to : ℕ) (body : MailBody) 
   again_plain r slot [] mails m = m
   again_plain r slot (set ∷ sets) mails m = again_by r slot set sets mails (flying r slot) m (λ more n. again_plain r (slot + 1) sets more n)
 
-  pub last_plain : (o : Option Command) (r : ReplicaState) (mails : List Mail) → Sent mails → Sent (told_last o r mails)
-  unfolding told_last
+  pub last_plain : (o : Option Command) (r : ReplicaState) (mails : List Mail) → Sent mails → Sent (last_entry_sent o r mails)
+  unfolding last_entry_sent
   last_plain None r mails m = m
   last_plain (Some command) r mails m = others_plain r.me (members r) (Learn (name_of r) (next r - 1) command) mails tt m

@@ -11,14 +11,14 @@ use Rattle.sc_machine_table.specs.Definitions.{Group, state_after}
 use Rattle.sc_paxos_words.proofs.Lemmas.{Each-append}
 use Rattle.sc_paxos_words.specs.declared.answers.Must.TheVariants.{Value, Free as Open}
 use Rattle.sc_paxos_words.specs.Definitions.{must}
-use Rattle.sc_node_table.specs.Definitions.{answered, Found, is_act, serves_calls, waits, refused_by, turned_down, next_call, from_calls, from_acts, from_queues, found_by, found_for, offered, pumped_from, pumped, ReplicaState, Place, name_of, next, settled, may_offer, taken_at, under_way, is_idle, last_slot}
+use Rattle.sc_node_table.specs.Definitions.{answered, Found, is_act, admits_requests, waits, refused_by, turned_down, next_queued, from_backlog, from_acts, from_queues, found_by, found_for, offered, pumped_from, pumped, ReplicaState, Place, name_of, next, settled, may_offer, taken_at, under_way, is_idle, last_slot}
 use Rattle.sc_law_walks.proofs.Lemmas.{either_way, next_found}
 use Rattle.sc_law_refusal.specs.refusal.Definitions.{LacksKey}
 use Rattle.sc_law_refusal.proofs.RefusalProofs.Keeping.{Kept, KeptAll, KeptOne, DueAll, Flying, MustKept, with_calls, with_acts, must_kept, fewer_due, ends_behind}
 use Rattle.sc_law_refusal.proofs.RefusalProofs.Standing.{CauseSo, AllCaused, answer_caused, FineAs, Fine, resent, with_all}
 
 -- why a call is turned down
-refused_so : (gone : Option Route) (group : Group) (op : Op) (answer : AnswerBody) → gone ≡ group.core.gone → serves_calls group.core.lock ≡ true → refused_by gone group.core op ≡ Some answer → LacksKey group op answer
+refused_so : (gone : Option Route) (group : Group) (op : Op) (answer : AnswerBody) → gone ≡ group.core.gone → admits_requests group.core.lock ≡ true → refused_by gone group.core op ≡ Some answer → LacksKey group op answer
 refused_so (Some into) group op answer g l e = let same : Says.Gone into ≡ answer = cc in subst (LacksKey group op) same (sym g)
 refused_so None group op answer g l e =
     cond_both (holds_key group.core.arc (key_of op)) None (Some (Says.NotMine group.core.arc group.core.succ)) (λ o. o ≡ Some answer → LacksKey group op answer)
@@ -58,23 +58,23 @@ module _ (start : ReplicaState) (A : Command → Type 0) (G : Draw → ℕ → T
           op = op;
           receiver = refl;
           was_asked = k;
-          cause = lacking entries group op answer is (refused_so group.core.gone group op answer refl (not-false (serves_calls group.core.lock) w) e);
+          cause = lacking entries group op answer is (refused_so group.core.gone group op answer refl (not-false (admits_requests group.core.lock) w) e);
         }) c
     turned_one _ answer mails k w e c = c
 
-    pub next_fine : (calls : List Command) (mails : List Mail) → KeptAll A G calls → C mails → Next (next_call me idle group.core calls mails)
-    next_fine calls mails k c =
+    pub next_fine : (backlog : List Command) (mails : List Mail) → KeptAll A G backlog → C mails → Next (next_queued me idle group.core backlog mails)
+    next_fine backlog mails k c =
         next_found me idle group.core (λ cs ms. KeptAll A G cs × C ms) Next (λ cs ms q. (tt, q.0, q.1)) (λ command cs ms q. (q.0.0, q.0.1, q.1))
-        (λ command answer cs ms w e q. (q.0.1, turned_one command answer ms q.0.0 w e q.1)) calls mails (k, c)
+        (λ command answer cs ms w e q. (q.0.1, turned_one command answer ms q.0.0 w e q.1)) backlog mails (k, c)
 
   -- ---- what is found for a slot
 
-  calls_fine : (place : Place) → F place → FoundFine (from_calls place)
-  unfolding from_calls
+  calls_fine : (place : Place) → F place → FoundFine (from_backlog place)
+  unfolding from_backlog
   calls_fine (r, mails) f =
       let s = f.1 in
-      let found = next_fine s.entries r.me (is_idle r) r.group s.group_is s.name_is r.calls mails f.0.calls s.sent in
-      let next : Option Command × List Command × List Mail = next_call r.me (is_idle r) r.group.core r.calls mails in
+      let found = next_fine s.entries r.me (is_idle r) r.group s.group_is s.name_is r.backlog mails f.0.backlog s.sent in
+      let next : Option Command × List Command × List Mail = next_queued r.me (is_idle r) r.group.core r.backlog mails in
       (found.0, (with_calls A G r next.1 found.1 f.0, resent start A G W Q refused true r mails next.2 s found.2))
 
   acts_fine : (acts : List Command) (place : Place) → KeptAll A G acts → DueAll A G acts → F place → FoundFine (from_acts acts place)
@@ -98,7 +98,7 @@ module _ (start : ReplicaState) (A : Command → Type 0) (G : Draw → ℕ → T
   unfolding offered
   offered_fine slot set command (r, mails) k f =
       let h = f.0 in (
-        record { calls = h.calls; acts = h.acts; due = h.due; flights = Each-append (Flying A G) r.leader.flights (record { slot = slot; value = command; voters = None } ∷ []) h.flights (k, tt); ready = h.ready; reports = h.reports },
+        record { backlog = h.backlog; acts = h.acts; due = h.due; flights = Each-append (Flying A G) r.leader.flights (record { slot = slot; value = command; voters = None } ∷ []) h.flights (k, tt); ready = h.ready; reports = h.reports },
         with_all start A G W Q refused true r mails r.me set (Accept (name_of r) r.leader.ballot slot command) tt f.1,
       )
 

@@ -7,13 +7,13 @@ use Rattle.sc_base.specs.Definitions.{Drawer, next_name, client_actor, is_member
 use Rattle.sc_node_table.specs.Values.{Ballot, Draw, Op, Body, Offer, Watch, Command, Call, GiveUp, Prepared, RecordVote, Finish, Watched, RecordWatch, Lock, Free, Coordinating, Promised, Watching, Route, Order, OrderLine, OrderRefusal, Heard, Outcome, Past, Vote, AnswerBody, Mail, Answer, TxOutcome, TxElsewhere, Told}
 use Rattle.sc_ideal.specs.Definitions.{key_of, holds_key}
 use Rattle.sc_cmd.specs.declared.orders.Order.TheVariants as An
-use Rattle.sc_cmd.specs.declared.orders.ToldResult.TheVariants as Tells
+use Rattle.sc_cmd.specs.declared.orders.OrderResult.TheVariants as Tells
 use Rattle.sc_cmd.specs.declared.votes.Past.TheVariants as Cast
 use Rattle.sc_cmd.specs.declared.votes.Vote.TheVariants as Vows
 use Rattle.sc_mail.specs.declared.bodies.AnswerBody.TheVariants as Says
 use Rattle.sc_paxos_words.proofs.Lemmas.{Each-append}
 use Rattle.sc_paxos_words.specs.Definitions.{entry_at}
-use Rattle.sc_node_table.specs.Definitions.{has_act, is_of_kind, with_act, act_queued, elected, sent, ordered_command, untaken, taken_or_told, ordered_row, wished_line, with_command, with_line, wishing, serves_calls, pumped, call_of, without_call, patience, one_tick_more, waited_in, reminders, reminded, ReplicaState, Place, name_of, next, listed, members, open_slots, settled, taken_at, taken_from, is_idle, call_refusal, refused_at, queued, requested, request_row, asked_again, told_last, tick_row, noted_outcome, standing_vote, sent_elsewhere, offered_by, offer_row, watched_by, watch_row, awaits_vote, awaits_watch, told_outcome, vote_queued, vote_met, vote_row, watch_queued, watch_met, watched_row, asked_next, elsewhere_row, is_bound, outcome_row}
+use Rattle.sc_node_table.specs.Definitions.{has_act, is_of_kind, with_act, act_queued, elected, sent, ordered_command, untaken, queued_or_refused, ordered_row, wished_line, with_command, with_line, wishing, admits_requests, pumped, queued_number, without_request, patience, one_tick_more, waited_in, reminders, reminded, ReplicaState, Place, name_of, next, listed, members, open_slots, settled, taken_at, taken_from, is_idle, request_refusal, refused_at, queued, requested, request_row, asked_again, last_entry_sent, tick_row, noted_outcome, standing_vote, sent_elsewhere, offered_by, offer_row, watched_by, watch_row, awaits_vote, awaits_watch, outcome_sent, vote_queued, vote_met, vote_row, watch_queued, watch_met, watched_row, asked_next, elsewhere_row, is_bound, outcome_row}
 use Rattle.sc_law_walks.proofs.Lemmas.{either_way}
 use Rattle.sc_law_refusal.specs.refusal.Definitions.{LacksKey}
 use Rattle.sc_law_refusal.proofs.RefusalProofs.Keeping.{Kept, Due, with_calls, with_acts, without_kept, more_due, ends_after}
@@ -40,25 +40,25 @@ module _ (start : ReplicaState) (A : Command → Type 0) (G : Draw → ℕ → T
   Untaken r op (Says.Gone into) = LacksKey r.group op (Says.Gone into)
   Untaken r op (Says.Stale last) = ⊥
 
-  pub refusal_by : (gone : Option Route) (r : ReplicaState) (op : Op) (answer : AnswerBody) → gone ≡ r.group.core.gone → call_refusal gone r.group.core r.running r.hint op ≡ Some answer → Untaken r op answer
+  pub refusal_by : (gone : Option Route) (r : ReplicaState) (op : Op) (answer : AnswerBody) → gone ≡ r.group.core.gone → request_refusal gone r.group.core r.running r.hint op ≡ Some answer → Untaken r op answer
   refusal_by (Some into) r op answer g e = let same : Says.Gone into ≡ answer = cc in subst (Untaken r op) same (sym g)
   refusal_by None r op answer g e =
       cond_both (not r.running) (Some (Says.NotLeader r.hint)) _ (λ o. o ≡ Some answer → Untaken r op answer)
       (λ idle k. (let same : Says.NotLeader r.hint ≡ answer = cc in subst (Untaken r op) same (not-true r.running idle)))
-      (λ _ k. cond_both (serves_calls r.group.core.lock && not (holds_key r.group.core.arc (key_of op))) (Some (Says.NotMine r.group.core.arc r.group.core.succ)) None (λ o. o ≡ Some answer → Untaken r op answer)
-      (λ both j. (let parts = and_parts (serves_calls r.group.core.lock) (not (holds_key r.group.core.arc (key_of op))) both in
+      (λ _ k. cond_both (admits_requests r.group.core.lock && not (holds_key r.group.core.arc (key_of op))) (Some (Says.NotMine r.group.core.arc r.group.core.succ)) None (λ o. o ≡ Some answer → Untaken r op answer)
+      (λ both j. (let parts = and_parts (admits_requests r.group.core.lock) (not (holds_key r.group.core.arc (key_of op))) both in
       let same : Says.NotMine r.group.core.arc r.group.core.succ ≡ answer = cc in subst (Untaken r op) same (sym g, parts.0, not-true (holds_key r.group.core.arc (key_of op)) parts.1, refl, refl))) (λ _ j. cc) k) e
 
   -- it waits, and the pump is tried: no other leader is named
   pub queued_so : (o : Option ℕ) (client seq : ℕ) (op : Op) (r : ReplicaState) (mails : List Mail) → A (Call client seq op) → F (r, mails) → F (queued o client seq op (r, mails))
   unfolding queued
   queued_so None client seq op r mails a f =
-      let calls : List Command = r.calls ++ Call client seq op ∷ [] in
-      pumped_fine start A G W Q false (record r { calls = calls }, mails) (with_calls A G r calls (Each-append (Kept A G) r.calls (Call client seq op ∷ []) f.0.calls (a, tt)) f.0, f.1)
+      let backlog : List Command = r.backlog ++ Call client seq op ∷ [] in
+      pumped_fine start A G W Q false (record r { backlog = backlog }, mails) (with_calls A G r backlog (Each-append (Kept A G) r.backlog (Call client seq op ∷ []) f.0.backlog (a, tt)) f.0, f.1)
   queued_so (Some other) client seq op r mails a f =
-      let calls : List Command = without_call r.calls client ++ Call client seq op ∷ [] in
-      either_way F (nat_le seq other) (r, mails) (pumped (record r { calls = calls }, mails)) f
-      (pumped_fine start A G W Q false (record r { calls = calls }, mails) (with_calls A G r calls (Each-append (Kept A G) (without_call r.calls client) (Call client seq op ∷ []) (without_kept A G r.calls client f.0.calls) (a, tt)) f.0, f.1))
+      let backlog : List Command = without_request r.backlog client ++ Call client seq op ∷ [] in
+      either_way F (nat_le seq other) (r, mails) (pumped (record r { backlog = backlog }, mails)) f
+      (pumped_fine start A G W Q false (record r { backlog = backlog }, mails) (with_calls A G r backlog (Each-append (Kept A G) (without_request r.backlog client) (Call client seq op ∷ []) (without_kept A G r.backlog client f.0.backlog) (a, tt)) f.0, f.1))
 
   -- one answer behind the mails
   said_fine : (refused : Bool) (client seq : ℕ) (op : Op) (answer : AnswerBody) (r : ReplicaState) (mails : List Mail) (f : FineAs start A G W Q refused true (r, mails)) → A (Call client seq op)
@@ -91,7 +91,7 @@ module _ (start : ReplicaState) (A : Command → Type 0) (G : Draw → ℕ → T
   requested_by : (o : Option AnswerBody) (client seq : ℕ) (op : Op) (r : ReplicaState) (mails : List Mail) → A (Call client seq op) → ((answer : AnswerBody) → o ≡ Some answer → Untaken r op answer) → F (r, mails) → After (requested o client seq op (r, mails))
   unfolding requested
   requested_by (Some answer) client seq op r mails a u f = answer_fine client seq op answer r mails a (u answer refl) f
-  requested_by None client seq op r mails a u f = (false, queued_so (call_of r.calls client) client seq op r mails a f)
+  requested_by None client seq op r mails a u f = (false, queued_so (queued_number r.backlog client) client seq op r mails a f)
 
   pub request_fine : (client seq : ℕ) (op : Op) (r : ReplicaState) (mails : List Mail) → A (Call client seq op) → F (r, mails) → After (request_row client seq op (r, mails))
   unfolding request_row
@@ -135,7 +135,7 @@ module _ (start : ReplicaState) (A : Command → Type 0) (G : Draw → ℕ → T
   -- one that waits a tick longer
   more_fine : (r : ReplicaState) (mails : List Mail) → (Q → one_tick_more r.waits ≤ allowed W r.leader.ballot r.group.core.lock) → F (r, mails) → F (record r { waits = one_tick_more r.waits }, mails)
   more_fine r mails t f = (
-    record { calls = f.0.calls; acts = f.0.acts; due = f.0.due; flights = f.0.flights; ready = f.0.ready; reports = f.0.reports },
+    record { backlog = f.0.backlog; acts = f.0.acts; due = f.0.due; flights = f.0.flights; ready = f.0.ready; reports = f.0.reports },
     record { entries = f.1.entries; me_is = f.1.me_is; name_is = f.1.name_is; group_is = f.1.group_is; log_is = f.1.log_is; out = f.1.out; patient = λ q runs. t q; sent = f.1.sent },
   )
 
@@ -184,7 +184,7 @@ module _ (start : ReplicaState) (A : Command → Type 0) (G : Draw → ℕ → T
   unfolding watch_row
   watch_fine from tx watch r mails f = watched_by_fine (standing_vote r.group.core tx) from tx watch (r, mails) f
 
-  outcome_told : (node : ℕ) (tx part : Draw) (outcome : Outcome) (r : ReplicaState) (mails : List Mail) → F (r, mails) → F (r, told_outcome r.me node tx part outcome mails)
+  outcome_told : (node : ℕ) (tx part : Draw) (outcome : Outcome) (r : ReplicaState) (mails : List Mail) → F (r, mails) → F (r, outcome_sent r.me node tx part outcome mails)
   outcome_told node tx part outcome r mails f = (f.0, with_plain start A G W Q false true r mails r.me node (TxOutcome tx part outcome) tt f.1)
 
   vote_queued_fine : (from : ℕ) (tx : Draw) (vote : Vote) (place : Place) → F place → F (vote_queued from tx vote place)
@@ -232,10 +232,10 @@ module _ (start : ReplicaState) (A : Command → Type 0) (G : Draw → ℕ → T
   order_kept name number (An.Join node group) = tt
   order_kept name number _ = tt
 
-  taken_fine : (o : Option OrderRefusal) (number : ℕ) (command : Command) (place : Place) → Kept A G command → F place → F (taken_or_told o number command place)
+  taken_fine : (o : Option OrderRefusal) (number : ℕ) (command : Command) (place : Place) → Kept A G command → F place → F (queued_or_refused o number command place)
   taken_fine (Some why) number command (r, mails) k f = (f.0, with_plain start A G W Q false true r mails r.me 0 (Told number (Tells.Refused why)) tt f.1)
   taken_fine None number command (r, mails) k f =
-      pumped_fine start A G W Q false (record r { calls = r.calls ++ command ∷ [] }, mails) (with_calls A G r (r.calls ++ command ∷ []) (Each-append (Kept A G) r.calls (command ∷ []) f.0.calls (k, tt)) f.0, f.1)
+      pumped_fine start A G W Q false (record r { backlog = r.backlog ++ command ∷ [] }, mails) (with_calls A G r (r.backlog ++ command ∷ []) (Each-append (Kept A G) r.backlog (command ∷ []) f.0.backlog (k, tt)) f.0, f.1)
 
   pub order_fine : (drawer : Drawer) (line : OrderLine) (r : ReplicaState) (mails : List Mail) → F (r, mails) → F (ordered_row drawer line (r, mails))
   unfolding ordered_row
@@ -246,7 +246,7 @@ module _ (start : ReplicaState) (A : Command → Type 0) (G : Draw → ℕ → T
 
   command_fine : (o : Option OrderRefusal) (command : Command) (r : ReplicaState) (mails : List Mail) → Kept A G command → F (r, mails) → F (with_command o command r, mails)
   command_fine (Some why) command r mails k f = f
-  command_fine None command r mails k f = (with_calls A G r (r.calls ++ command ∷ []) (Each-append (Kept A G) r.calls (command ∷ []) f.0.calls (k, tt)) f.0, f.1)
+  command_fine None command r mails k f = (with_calls A G r (r.backlog ++ command ∷ []) (Each-append (Kept A G) r.backlog (command ∷ []) f.0.backlog (k, tt)) f.0, f.1)
 
   line_fine : (drawer : Drawer) (o : Option OrderLine) (r : ReplicaState) (mails : List Mail) → F (r, mails) → F (with_line drawer o r, mails)
   line_fine drawer None r mails f = f
@@ -261,7 +261,7 @@ module _ (start : ReplicaState) (A : Command → Type 0) (G : Draw → ℕ → T
   unfolding tick_row
   tick_fine on drawer r mails g t f =
       let s = f.1 in
-      let last : List Mail = told_last (entry_at (next r - 1) r.log) r mails in
+      let last : List Mail = last_entry_sent (entry_at (next r - 1) r.log) r mails in
       let again : List Mail = asked_again r (next r) r.sets mails in
       either_way F (is_some r.group.core.gone || not (is_member (members r) r.me)) (r, mails) _ f
       (cond_both (not (settled r)) (elected (r, mails)) _ F (λ _. elected_fine start A G W Q true r mails f)

@@ -55,7 +55,7 @@ module _ (start : ReplicaState) (input : Input Mail OrderLine) (W : Ballot → D
 
   held : Holds A G start
   held = record {
-    calls = each_kept start.calls (λ command among. inl (inl among));
+    backlog = each_kept start.backlog (λ command among. inl (inl among));
     acts = each_kept start.acts (λ command among. inl (inr (inl among)));
     due = λ tx. (ends_queued tx start.acts, omega arith, inl (omega arith));
     flights = each_made (λ flight. flight.value) start.leader.flights (λ command among. inl (inr (inr (inl among))));
@@ -161,7 +161,7 @@ module _ (start : ReplicaState) (input : Input Mail OrderLine) (W : Ballot → D
   pub entered_first : (command : Command) → FineAs (entered command start) A G W Q false false (entered command start, [])
   unfolding entered forgotten
   entered_first command = (
-    record { calls = held.calls; acts = held.acts; due = held.due; flights = held.flights; ready = held.ready; reports = held.reports },
+    record { backlog = held.backlog; acts = held.acts; due = held.due; flights = held.flights; ready = held.ready; reports = held.reports },
     record {
       entries = [];
       me_is = refl;
@@ -212,16 +212,16 @@ module _ (start : ReplicaState) (input : Input Mail OrderLine) (W : Ballot → D
       me : place.0.me ≡ r.me
       name : name_of place.0 ≡ name_of r
       acts : place.0.acts ≡ r.acts
-      calls : place.0.calls ≡ r.calls
+      backlog : place.0.backlog ≡ r.backlog
       waits : place.0.running ≡ true → place.0.waits ≡ 0
       out : (place.0.running ≡ false) ⊎ (start.top.round < place.0.leader.ballot.round)
       sent : Saying place.1
 
     hinted_looked : (r : ReplicaState) (hint : Option ℕ) (place : Place) → IsLooked (record r { hint = hint }) place → IsLooked r place
-    hinted_looked r hint place is = record { me = is.me; name = is.name; acts = is.acts; calls = is.calls; waits = is.waits; out = is.out; sent = is.sent }
+    hinted_looked r hint place is = record { me = is.me; name = is.name; acts = is.acts; backlog = is.backlog; waits = is.waits; out = is.out; sent = is.sent }
 
     idle_looked : (r : ReplicaState) (mails : List Mail) → r.running ≡ false → Saying mails → IsLooked r (r, mails)
-    idle_looked r mails idle c = record { me = refl; name = refl; acts = refl; calls = refl; waits = λ runs. absurd (true≢false (sym runs ∙ idle)); out = inl idle; sent = c }
+    idle_looked r mails idle c = record { me = refl; name = refl; acts = refl; backlog = refl; waits = λ runs. absurd (true≢false (sym runs ∙ idle)); out = inl idle; sent = c }
 
     elected_looked : (r : ReplicaState) (mails : List Mail) → r.running ≡ false → start.top.round ≤ r.top.round → Saying mails → IsLooked r (elected (r, mails))
     unfolding elected
@@ -230,7 +230,7 @@ module _ (start : ReplicaState) (input : Input Mail OrderLine) (W : Ballot → D
           me = refl;
           name = refl;
           acts = refl;
-          calls = refl;
+          backlog = refl;
           waits = λ runs. refl;
           out = inr (omega (arith, low));
           sent = all_plain (AllCaused start A G W Q [] refused false) (plain_caused start A G W Q [] refused false) r.me (open_nodes r.sets) (Prepare (name_of r) (record { round = r.top.round + 1; node = r.me }) (next r)) mails tt c;
@@ -287,15 +287,15 @@ module _ (start : ReplicaState) (input : Input Mail OrderLine) (W : Ballot → D
       idle : before.running ≡ false
       low : start.top.round ≤ before.top.round
       acts : (before.acts ≡ []) ⊎ (before.acts ≡ start.acts)
-      told : refused ≡ true → (start.running ≡ true) × (before.calls ≡ [])
+      told : refused ≡ true → (start.running ≡ true) × (before.backlog ≡ [])
       sent : Saying mails
 
     kept_act : {acts : List Command} → (acts ≡ []) ⊎ (acts ≡ start.acts) → (tx : Draw) → G tx (ends_queued tx acts)
     kept_act (inl none) tx = subst (λ acts. G tx (ends_queued tx acts)) (sym none) (inl (omega arith))
     kept_act (inr same) tx = subst (λ acts. G tx (ends_queued tx acts)) (sym same) (inl (omega arith))
 
-    why_stopped : (before : ReplicaState) (place : Place) → IsTakenOver input → IsLooked before place → (start.running ≡ true) × (before.calls ≡ []) → LeadsNoMore start input place.0
-    why_stopped before place over is ran = elim is.out [ inl idle ↦ inl idle | inr anew ↦ inr (record { ran = ran.0; over = over; empty = is.calls ∙ ran.1; anew = anew }) ]
+    why_stopped : (before : ReplicaState) (place : Place) → IsTakenOver input → IsLooked before place → (start.running ≡ true) × (before.backlog ≡ []) → LeadsNoMore start input place.0
+    why_stopped before place over is ran = elim is.out [ inl idle ↦ inl idle | inr anew ↦ inr (record { ran = ran.0; over = over; empty = is.backlog ∙ ran.1; anew = anew }) ]
 
     -- it takes the state over
     taken_by : (from slot : ℕ) (base : Base) (sets : List (List ℕ)) (before : ReplicaState) (mails : List Mail) → HasStopped before mails → IsTakenOver input → Shows (looked_up from (jumped slot base sets before, mails))

@@ -3,11 +3,11 @@ use Rattle.std.proofs.Common.{◌≡◌, ℕ, ◌+◌, ◌-◌, ◌^◌, refl, a
 use Rattle.sc_base.specs.Definitions.{client_actor}
 use Rattle.sc_node_table.specs.Values.{Ballot, Draw, Op, Command, Call, Join, Leave, Split, Begin, AnswerBody, Mail, Answer, Prepare, Install}
 use Rattle.sc_cmd.specs.declared.orders.OrderRefusal.TheVariants as Why
-use Rattle.sc_cmd.specs.declared.orders.ToldResult.TheVariants as Tells
+use Rattle.sc_cmd.specs.declared.orders.OrderResult.TheVariants as Tells
 use Rattle.sc_mail.specs.declared.bodies.AnswerBody.TheVariants as Says
 use Rattle.sc_machine_table.specs.Definitions.{base_of}
 use Rattle.sc_paxos_words.specs.Definitions.{below, new_leader}
-use Rattle.sc_node_table.specs.Definitions.{open_nodes, elected, ended, stopped, saw, install_to, asked_to_promise, welcomed_all, sent, answered, answered_all, told_order, dismissed, dismissed_all, ReplicaState, Place, name_of, next, under_way}
+use Rattle.sc_node_table.specs.Definitions.{open_nodes, elected, ended, stopped, saw, install_to, asked_to_promise, welcomed_all, sent, answered, answered_all, order_reported, dismissed, dismissed_all, ReplicaState, Place, name_of, next, under_way}
 use Rattle.sc_law_walks.proofs.Lemmas.{either_way}
 use Rattle.sc_law_refusal.proofs.RefusalProofs.Keeping.{Kept, KeptAll, way_kept, fewer_due}
 use Rattle.sc_law_refusal.proofs.RefusalProofs.Plain.{reported_plain}
@@ -37,7 +37,7 @@ module _ (start : ReplicaState) (A : Command → Type 0) (G : Draw → ℕ → T
     answers_caused [] mails k c = c
     answers_caused (command ∷ commands) mails k c = answers_caused commands (answered me group answer command mails) k.1 (answered_caused command mails k.0 c)
 
-    desk : (number : ℕ) (hint : Option ℕ) (mails : List Mail) → C mails → C (told_order me number (Tells.Refused (Why.NotLeader hint)) mails)
+    desk : (number : ℕ) (hint : Option ℕ) (mails : List Mail) → C mails → C (order_reported me number (Tells.Refused (Why.NotLeader hint)) mails)
     desk number hint mails c = reported_plain (AllCaused start A G W Q entries refused turned) (plain_caused start A G W Q entries refused turned) me number (Tells.Refused (Why.NotLeader hint)) mails c
 
     dismissed_caused : (hint : Option ℕ) (command : Command) (mails : List Mail) → Kept A G command → C mails → C (dismissed me group hint answer command mails)
@@ -63,7 +63,7 @@ module _ (start : ReplicaState) (A : Command → Type 0) (G : Draw → ℕ → T
   unfolding ended
   ended_fine refused turned refused' turned' hint answer r mails f later causes =
       let first = answers_caused f.1.entries refused' turned' r.me (name_of r) f.1.name_is answer causes (under_way r) mails (way_kept A G r f.0) (later mails f.1.sent) in (
-        record { calls = tt; acts = tt; due = fewer_due A G r.acts [] (λ tx. omega arith) f.0.due; flights = tt; ready = tt; reports = tt },
+        record { backlog = tt; acts = tt; due = fewer_due A G r.acts [] (λ tx. omega arith) f.0.due; flights = tt; ready = tt; reports = tt },
         record {
           entries = f.1.entries;
           me_is = f.1.me_is;
@@ -72,7 +72,7 @@ module _ (start : ReplicaState) (A : Command → Type 0) (G : Draw → ℕ → T
           log_is = f.1.log_is;
           out = λ e. refl;
           patient = λ q runs. cc;
-          sent = dismissals_caused f.1.entries refused' turned' r.me (name_of r) f.1.name_is answer causes hint r.calls (answered_all r.me (name_of r) answer (under_way r) mails) f.0.calls first;
+          sent = dismissals_caused f.1.entries refused' turned' r.me (name_of r) f.1.name_is answer causes hint r.backlog (answered_all r.me (name_of r) answer (under_way r) mails) f.0.backlog first;
         },
       )
 
@@ -96,7 +96,7 @@ module _ (start : ReplicaState) (A : Command → Type 0) (G : Draw → ℕ → T
         sent = f.1.sent;
       } in
       either_way (F false turned) (eqb r.top.round (2 ^ 32 - 1)) _ _ f (
-        record { calls = f.0.calls; acts = f.0.acts; due = f.0.due; flights = tt; ready = tt; reports = tt },
+        record { backlog = f.0.backlog; acts = f.0.acts; due = f.0.due; flights = tt; ready = tt; reports = tt },
         with_all start A G W Q false turned (record r { top = ballot; hint = Some r.me; running = true; leader = new_leader ballot (next r); ready = []; waits = 0 }) mails r.me (open_nodes r.sets) (Prepare (name_of r) ballot (next r)) tt s,
       )
 
@@ -104,7 +104,7 @@ module _ (start : ReplicaState) (A : Command → Type 0) (G : Draw → ℕ → T
 
   raised : (refused turned : Bool) (r : ReplicaState) (ballot : Ballot) (mails : List Mail) → F refused turned (r, mails) → F refused turned (record r { top = ballot }, mails)
   raised refused turned r ballot mails f = (
-    record { calls = f.0.calls; acts = f.0.acts; due = f.0.due; flights = f.0.flights; ready = f.0.ready; reports = f.0.reports },
+    record { backlog = f.0.backlog; acts = f.0.acts; due = f.0.due; flights = f.0.flights; ready = f.0.ready; reports = f.0.reports },
     f.1,
   )
 

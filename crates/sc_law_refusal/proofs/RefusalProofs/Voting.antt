@@ -31,12 +31,12 @@ module _ (start : ReplicaState) (A : Command → Type 0) (G : Draw → ℕ → T
 
   -- what a replica keeps of commands is the same with another acceptor, hint or hint and acceptor
   with_acceptor : (r : ReplicaState) (acceptor : AcceptorState Command) → Holds A G r → Holds A G (record r { acceptor = acceptor })
-  with_acceptor r acceptor h = record { calls = h.calls; acts = h.acts; due = h.due; flights = h.flights; ready = h.ready; reports = h.reports }
+  with_acceptor r acceptor h = record { backlog = h.backlog; acts = h.acts; due = h.due; flights = h.flights; ready = h.ready; reports = h.reports }
 
   hinted_fine : (refused : Bool) (ballot : Ballot) (r : ReplicaState) (mails : List Mail) → F refused (r, mails) → F refused (hinted ballot r, mails)
   hinted_fine refused ballot r mails f =
       either_way (λ (x : ReplicaState). F refused (x, mails)) r.running r (record r { hint = Some ballot.node }) f
-      (record { calls = f.0.calls; acts = f.0.acts; due = f.0.due; flights = f.0.flights; ready = f.0.ready; reports = f.0.reports }, f.1)
+      (record { backlog = f.0.backlog; acts = f.0.acts; due = f.0.due; flights = f.0.flights; ready = f.0.ready; reports = f.0.reports }, f.1)
 
   -- ---- Prepare and Accept
 
@@ -78,7 +78,7 @@ module _ (start : ReplicaState) (A : Command → Type 0) (G : Draw → ℕ → T
 
   with_leader : (turned : Bool) (r : ReplicaState) (leader : LeaderState Command) (mails : List Mail) → Leads r leader → FineAs start A G W Q false turned (r, mails) → FineAs start A G W Q false turned (record r { leader = leader }, mails)
   with_leader turned r leader mails l f = (
-    record { calls = f.0.calls; acts = f.0.acts; due = f.0.due; flights = l.flights; ready = f.0.ready; reports = l.reports },
+    record { backlog = f.0.backlog; acts = f.0.acts; due = f.0.due; flights = l.flights; ready = f.0.ready; reports = l.reports },
     subst (λ ballot. Stands start A G W Q false turned r.me r.group r.log r.running ballot r.waits mails) (sym l.ballot) f.1,
   )
 
@@ -132,7 +132,7 @@ module _ (start : ReplicaState) (A : Command → Type 0) (G : Draw → ℕ → T
   unfolding readied
   readied_fine slot command (r, mails) k f =
       let after : ReplicaState = record r { ready = with_slot r.ready slot command } in
-      let g : E (after, mails) = (record { calls = f.0.calls; acts = f.0.acts; due = f.0.due; flights = f.0.flights; ready = slot_with (Kept A G) r.ready slot command k f.0.ready; reports = f.0.reports }, f.1) in
+      let g : E (after, mails) = (record { backlog = f.0.backlog; acts = f.0.acts; due = f.0.due; flights = f.0.flights; ready = slot_with (Kept A G) r.ready slot command k f.0.ready; reports = f.0.reports }, f.1) in
       either_way AfterAll (eqb slot (next r) && has_room r) (executed true command (after, mails)) (childless (after, mails)) (executed_fine start A G W Q numbered true command after mails (λ other flies counted. cc) (counted_fine start A G W Q numbered command after mails k g)) (still (after, mails) g)
 
   tallied_fine : (slot : ℕ) (p : Counted Command × LeaderState Command) (r : ReplicaState) (mails : List Mail) → Counts r p → E (r, mails) → After (vote_tallied slot p (r, mails)).0

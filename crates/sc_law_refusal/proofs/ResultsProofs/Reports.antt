@@ -3,34 +3,34 @@ use Rattle.std.proofs.Common.{◌≡◌, ℕ, Bool, true, false, refl, sym, ap, 
 use Rattle.std.proofs.lemmas.Bool.{cond_both}
 use Rattle.std.specs.Prelude.{if◌then◌else◌}
 use Rattle.sc_base.specs.Definitions.{Among, Drawer, least_of, next_name}
-use Rattle.sc_node_table.specs.Values.{Draw, Body, Offer, Watch, Command, Noop, Call, Join, Leave, Split, Begin, Prepared, RecordVote, GiveUp, Watched, RecordWatch, Core, Lock, Free, Coordinating, Promised, Watching, Effect, Link, Route, OrderLine, OrderRefusal, ToldResult, Heard, Outcome, Past, Vote, AnswerBody, Mail, MailBody, TxPrepare, TxOutcome}
+use Rattle.sc_node_table.specs.Values.{Draw, Body, Offer, Watch, Command, Noop, Call, Join, Leave, Split, Begin, Prepared, RecordVote, GiveUp, Watched, RecordWatch, Core, Lock, Free, Coordinating, Promised, Watching, Effect, Link, Route, OrderLine, OrderRefusal, OrderResult, Heard, Outcome, Past, Vote, AnswerBody, Mail, MailBody, TxPrepare, TxOutcome}
 use Rattle.sc_cmd.specs.declared.bodies.Body.TheVariants as At
 use Rattle.sc_cmd.specs.declared.effects.Effect.TheVariants as Was
 use Rattle.sc_cmd.specs.declared.orders.OrderRefusal.TheVariants.{NotLeader}
-use Rattle.sc_cmd.specs.declared.orders.ToldResult.TheVariants.{Done, Refused}
+use Rattle.sc_cmd.specs.declared.orders.OrderResult.TheVariants.{Done, Refused}
 use Rattle.sc_cmd.specs.declared.votes.Outcome.TheVariants as Is
 use Rattle.sc_cmd.specs.declared.votes.Past.TheVariants as Cast
 use Rattle.sc_cmd.specs.declared.votes.Vote.TheVariants as Says
 use Rattle.sc_cmd.specs.Definitions.{cast_in, decided_in, is_alone, is_changed, refused_result, result_of}
 use Rattle.sc_machine_table.specs.Definitions.{Group, applied, begun_group, has_named, ordered, refusal_of, split_group, with_node, without_node}
 use Rattle.sc_paxos_words.proofs.Lemmas.{Each-append}
-use Rattle.sc_policy.specs.Definitions.{is_told}
+use Rattle.sc_policy.specs.Definitions.{is_reported}
 use Rattle.sc_node_table.specs.declared.Before.{Before}
-use Rattle.sc_node_table.specs.Definitions.{ReplicaState, Place, name_of, under_way, sent, answered, answered_all, answer_of, told_call, order_result, told_effect, announced, entered, before_of, before_in, begun_result, decided_result, dismissed, dismissed_all, ended, order_number, ordered_row, outcome_result, spoken, spoken_mails, spoken_number, told_begun, told_desk, told_order, told_result, untaken, taken_or_told, ordered_command, offer_of, heard_question, question, asked_first, told_outcome, asked_on, begun_asks, vote_sent, watch_sent, aborted_to, aborted_watcher, given_up_by, vote_answered, released_to, watch_answered_by, went_on}
+use Rattle.sc_node_table.specs.Definitions.{ReplicaState, Place, name_of, under_way, sent, answered, answered_all, answer_of, answered_or_put_back, order_result, effect_reported, announced, entered, before_of, before_in, begun_result, decided_result, dismissed, dismissed_all, ended, order_number, ordered_row, outcome_result, spoken, spoken_mails, spoken_number, begun_reported, result_sent, order_reported, result_reported, untaken, queued_or_refused, ordered_command, offer_of, heard_question, question, asked_first, outcome_sent, asked_on, begun_asks, vote_sent, watch_sent, aborted_to, aborted_watcher, given_up_by, vote_answered, released_to, watch_answered_by, went_on}
 use Rattle.sc_law_walks.proofs.Ways.{either_way}
 use Rattle.sc_law_walks.proofs.Talks.{all_sent}
 use Rattle.sc_law_refusal.specs.results.Definitions.{IsOf, IsAtOnce, IsCommit, DecidesFor, FindsCause, EndsOrder, IfTold, TellAs, said_of_entry, IsGivenBack, ReportsAreDecided}
 
-module _ (me : ℕ) (Fact : ℕ → ToldResult → Type 0) where
+module _ (me : ℕ) (Fact : ℕ → OrderResult → Type 0) where
   abbrev Q : List Mail → Type 0
   Q mails = TellAs Fact mails
 
   puts : (to : ℕ) (body : MailBody) (mails : List Mail) → IfTold Fact body → Q mails → Q (sent me to body mails)
   puts to body mails told m = Each-append (λ (mail : Mail). IfTold Fact mail.body) mails (record { from = me; to = to; body = body } ∷ []) m (told, tt)
 
-  reported : (number : ℕ) (result : ToldResult) (mails : List Mail) → (is_told number ≡ true → Fact number result) → Q mails → Q (told_order me number result mails)
-  unfolding told_order
-  reported number result mails fact m = cond_both (is_told number) (told_desk me number result mails) mails Q (λ t. puts 0 _ mails (fact t) m) (λ _. m)
+  reported : (number : ℕ) (result : OrderResult) (mails : List Mail) → (is_reported number ≡ true → Fact number result) → Q mails → Q (order_reported me number result mails)
+  unfolding order_reported
+  reported number result mails fact m = cond_both (is_reported number) (result_sent me number result mails) mails Q (λ t. puts 0 _ mails (fact t) m) (λ _. m)
 
   -- ---- what tells no result
 
@@ -86,7 +86,7 @@ module _ (me : ℕ) (Fact : ℕ → ToldResult → Type 0) where
 
   released_said : (o : Option (ℕ × Link)) (succ : Link) (tx : Draw) (by : ℕ) (outcome : Outcome) (mails : List Mail) → Q mails → Q (released_to o me succ tx by outcome mails)
   released_said None succ tx by outcome mails m = puts by _ mails tt m
-  released_said (Some heard) succ tx by outcome mails m = puts by _ (told_outcome me heard.0 tx succ.group outcome mails) tt (puts heard.0 _ mails tt m)
+  released_said (Some heard) succ tx by outcome mails m = puts by _ (outcome_sent me heard.0 tx succ.group outcome mails) tt (puts heard.0 _ mails tt m)
 
   watch_replied : (o : Option Outcome) (vote : Past) (before : Before) (tx : Draw) (by : ℕ) (mails : List Mail) → Q mails → Q (watch_answered_by o vote me before tx by mails)
   watch_replied None vote before tx by mails m = m
@@ -106,7 +106,7 @@ module _ (me : ℕ) (Fact : ℕ → ToldResult → Type 0) where
   went_said group before effect _ mails m = m
 
   -- a result, where there is one
-  begun_said : (number : ℕ) (o : Option ToldResult) (mails : List Mail) → ((result : ToldResult) → o ≡ Some result → is_told number ≡ true → Fact number result) → Q mails → Q (told_result me o number mails)
+  begun_said : (number : ℕ) (o : Option OrderResult) (mails : List Mail) → ((result : OrderResult) → o ≡ Some result → is_reported number ≡ true → Fact number result) → Q mails → Q (result_reported me o number mails)
   begun_said number None mails fact m = m
   begun_said number (Some result) mails fact m = reported number result mails (λ t. fact result refl t) m
 
@@ -122,13 +122,13 @@ module _ (me : ℕ) (Fact : ℕ → ToldResult → Type 0) where
   all_answered group answer [] mails m = m
   all_answered group answer (command ∷ commands) mails m = all_answered group answer commands (answered me group answer command mails) (one_answered group answer command mails m)
 
-  one_dismissed : (group : Draw) (hint : Option ℕ) (answer : AnswerBody) (command : Command) (mails : List Mail) → (is_told (order_number command) ≡ true → Fact (order_number command) (Refused (NotLeader hint))) → Q mails → Q (dismissed me group hint answer command mails)
+  one_dismissed : (group : Draw) (hint : Option ℕ) (answer : AnswerBody) (command : Command) (mails : List Mail) → (is_reported (order_number command) ≡ true → Fact (order_number command) (Refused (NotLeader hint))) → Q mails → Q (dismissed me group hint answer command mails)
   unfolding dismissed
   one_dismissed group hint answer (Call client seq op) mails fact m = puts _ _ mails tt m
   one_dismissed group hint answer Noop mails fact m = reported _ _ mails fact m
   one_dismissed group hint answer _ mails fact m = reported _ _ mails fact m
 
-  all_dismissed : (group : Draw) (hint : Option ℕ) (answer : AnswerBody) (commands : List Command) (mails : List Mail) → ((command : Command) → Among command commands → is_told (order_number command) ≡ true → Fact (order_number command) (Refused (NotLeader hint))) → Q mails → Q (dismissed_all me group hint answer commands mails)
+  all_dismissed : (group : Draw) (hint : Option ℕ) (answer : AnswerBody) (commands : List Command) (mails : List Mail) → ((command : Command) → Among command commands → is_reported (order_number command) ≡ true → Fact (order_number command) (Refused (NotLeader hint))) → Q mails → Q (dismissed_all me group hint answer commands mails)
   unfolding dismissed_all
   all_dismissed group hint answer [] mails fact m = m
   all_dismissed group hint answer (command ∷ commands) mails fact m =
@@ -155,16 +155,16 @@ module _ (group : Group) (command : Command) (number : ℕ) where
   abbrev HasCause : Type 0
   HasCause = (why : OrderRefusal) → (applied group command).1 ≡ Was.Refused why → FindsCause group.core command why
 
-  at_once_ends : IsOf number command → IsAtOnce group.core command → HasCause → (effect : Effect) → (applied group command).1 ≡ effect → (result : ToldResult) → result_of effect ≡ Some result → EndsOrder group command number result
+  at_once_ends : IsOf number command → IsAtOnce group.core command → HasCause → (effect : Effect) → (applied group command).1 ≡ effect → (result : OrderResult) → result_of effect ≡ Some result → EndsOrder group command number result
   at_once_ends own at_once cause Was.Changed e result f =
-      let same : Done ≡ result = cc in subst (λ (x : ToldResult). EndsOrder group command number x) same (record { own = own; at_once = at_once; effect = e })
+      let same : Done ≡ result = cc in subst (λ (x : OrderResult). EndsOrder group command number x) same (record { own = own; at_once = at_once; effect = e })
   at_once_ends own at_once cause (Was.Refused why) e result f =
-      let same : Refused why ≡ result = cc in subst (λ (x : ToldResult). EndsOrder group command number x) same (record { own = own; cause = cause why e; effect = e })
+      let same : Refused why ≡ result = cc in subst (λ (x : OrderResult). EndsOrder group command number x) same (record { own = own; cause = cause why e; effect = e })
   at_once_ends own at_once cause _ e result f = cc
 
-  refused_ends : IsOf number command → HasCause → (effect : Effect) → (applied group command).1 ≡ effect → (result : ToldResult) → refused_result effect ≡ Some result → EndsOrder group command number result
+  refused_ends : IsOf number command → HasCause → (effect : Effect) → (applied group command).1 ≡ effect → (result : OrderResult) → refused_result effect ≡ Some result → EndsOrder group command number result
   refused_ends own cause (Was.Refused why) e result f =
-      let same : Refused why ≡ result = cc in subst (λ (x : ToldResult). EndsOrder group command number x) same (record { own = own; cause = cause why e; effect = e })
+      let same : Refused why ≡ result = cc in subst (λ (x : OrderResult). EndsOrder group command number x) same (record { own = own; cause = cause why e; effect = e })
   refused_ends own cause Was.Changed e result f = cc
   refused_ends own cause _ e result f = cc
 
@@ -176,16 +176,16 @@ module _ (group : Group) (command : Command) (number : ℕ) where
   stands_for (Is.Migrated node) decides = decides IsCommit tt
   stands_for Is.Divided decides = decides IsCommit tt
 
-  decided_ends : (tx : Draw) (body : Body) (heard : Option Heard) → group.core.lock ≡ Coordinating tx body number heard → (effect : Effect) → (applied group command).1 ≡ effect → (result : ToldResult) → decided_result effect ≡ Some result → EndsOrder group command number result
+  decided_ends : (tx : Draw) (body : Body) (heard : Option Heard) → group.core.lock ≡ Coordinating tx body number heard → (effect : Effect) → (applied group command).1 ≡ effect → (result : OrderResult) → decided_result effect ≡ Some result → EndsOrder group command number result
   decided_ends tx body heard locked (Was.Decided outcome) e result f =
       let same : outcome_result outcome ≡ result = cc in
-      subst (λ (x : ToldResult). EndsOrder group command number x) same
+      subst (λ (x : OrderResult). EndsOrder group command number x) same
       (stands_for outcome (λ Such is. record { tx = tx; body = body; heard = heard; locked = locked; outcome = outcome; effect = e; such = is }))
   decided_ends tx body heard locked Was.Changed e result f = cc
   decided_ends tx body heard locked _ e result f = cc
 
 -- who coordinates no transaction decides none for an order
-locked_ends : (group : Group) (command : Command) (lock : Lock) → group.core.lock ≡ lock → (result : ToldResult) → decided_result (applied group command).1 ≡ Some result → is_told (before_in lock group.core).order ≡ true → EndsOrder group command (before_in lock group.core).order result
+locked_ends : (group : Group) (command : Command) (lock : Lock) → group.core.lock ≡ lock → (result : OrderResult) → decided_result (applied group command).1 ≡ Some result → is_reported (before_in lock group.core).order ≡ true → EndsOrder group command (before_in lock group.core).order result
 locked_ends group command Free e result f t = cc
 locked_ends group command (Coordinating tx body order heard) e result f t = decided_ends group command order tx body heard e (applied group command).1 refl result f
 locked_ends group command (Promised tx offer) e result f t = cc
@@ -197,7 +197,7 @@ before_alone (Coordinating tx body order heard) core = refl
 before_alone (Promised tx offer) core = refl
 before_alone (Watching tx watch) core = refl
 
-order_ends : (group : Group) (command : Command) (result : ToldResult) → order_result command (applied group command).1 ≡ Some result → EndsOrder group command (order_number command) result
+order_ends : (group : Group) (command : Command) (result : OrderResult) → order_result command (applied group command).1 ≡ Some result → EndsOrder group command (order_number command) result
 order_ends group (Join node order) result e =
     at_once_ends group (Join node order) order refl tt (ordered_cause group.core (Join node order) group (with_node group node) group.core.gone (refusal_of group.core (Join node order)) refl refl) (applied group (Join node order)).1 refl result e
 order_ends group (Leave node order) result e =
@@ -217,11 +217,11 @@ begin_cause group tx body order =
     let after : Group = begun_group group tx body order in
     named_cause group.core command group after (has_named group.core tx) tx (λ _. ordered_cause group.core command group after group.core.gone (refusal_of group.core command) refl refl)
 
-split_ends : (group : Group) (at : ℕ) (child : Draw) (order : ℕ) (result : ToldResult) (b : Bool) → is_alone group.core ≡ b → (if b then result_of (applied group (Split at child order)).1 else refused_result (applied group (Split at child order)).1) ≡ Some result → EndsOrder group (Split at child order) order result
+split_ends : (group : Group) (at : ℕ) (child : Draw) (order : ℕ) (result : OrderResult) (b : Bool) → is_alone group.core ≡ b → (if b then result_of (applied group (Split at child order)).1 else refused_result (applied group (Split at child order)).1) ≡ Some result → EndsOrder group (Split at child order) order result
 split_ends group at child order result true alone e = at_once_ends group (Split at child order) order refl alone (split_cause group at child order) (applied group (Split at child order)).1 refl result e
 split_ends group at child order result false alone e = refused_ends group (Split at child order) order refl (split_cause group at child order) (applied group (Split at child order)).1 refl result e
 
-begun_ends : (group : Group) (command : Command) (result : ToldResult) → begun_result (before_of group.core).alone (applied group command).1 command ≡ Some result → is_told (spoken_number (before_of group.core).order command) ≡ true
+begun_ends : (group : Group) (command : Command) (result : OrderResult) → begun_result (before_of group.core).alone (applied group command).1 command ≡ Some result → is_reported (spoken_number (before_of group.core).order command) ≡ true
     → EndsOrder group command (spoken_number (before_of group.core).order command) result
 begun_ends group (Split at child order) result e t =
     split_ends group at child order result (is_alone group.core) refl
@@ -234,42 +234,42 @@ begun_ends group _ result e t = cc
 
 -- ---- the parts of the table
 
-module _ (Fact : ℕ → ToldResult → Type 0) where
-  call_said : (answer : Option AnswerBody) (command : Command) (place : Place) → TellAs Fact place.1 → TellAs Fact (told_call answer command place).1
-  unfolding told_call
+module _ (Fact : ℕ → OrderResult → Type 0) where
+  call_said : (answer : Option AnswerBody) (command : Command) (place : Place) → TellAs Fact place.1 → TellAs Fact (answered_or_put_back answer command place).1
+  unfolding answered_or_put_back
   call_said (Some answer) (Call client seq op) (r, mails) m = puts r.me Fact _ _ mails tt m
   call_said None (Call client seq op) (r, mails) m = m
   call_said (Some answer) _ place m = m
   call_said None _ place m = m
 
-  effect_said : (o : Option ToldResult) (command : Command) (place : Place) → ((result : ToldResult) → o ≡ Some result → Fact (order_number command) result) → TellAs Fact place.1 → TellAs Fact (told_effect o command place).1
-  unfolding told_effect
+  effect_said : (o : Option OrderResult) (command : Command) (place : Place) → ((result : OrderResult) → o ≡ Some result → Fact (order_number command) result) → TellAs Fact place.1 → TellAs Fact (effect_reported o command place).1
+  unfolding effect_reported
   effect_said None command place fact m = m
   effect_said (Some result) command (r, mails) fact m = reported r.me Fact (order_number command) result mails (λ t. fact result refl) m
 
-  announced_said : (counted : Bool) (effect : Effect) (command : Command) (place : Place) → ((result : ToldResult) → order_result command effect ≡ Some result → Fact (order_number command) result) → TellAs Fact place.1 → TellAs Fact (announced counted effect command place).1
+  announced_said : (counted : Bool) (effect : Effect) (command : Command) (place : Place) → ((result : OrderResult) → order_result command effect ≡ Some result → Fact (order_number command) result) → TellAs Fact place.1 → TellAs Fact (announced counted effect command place).1
   unfolding announced
   announced_said counted effect command place fact m =
-      effect_said (order_result command effect) command (if counted then told_call (answer_of effect) command place else place) fact
-      (either_way (λ (p : Place). TellAs Fact p.1) counted (told_call (answer_of effect) command place) place (call_said (answer_of effect) command place m) m)
+      effect_said (order_result command effect) command (if counted then answered_or_put_back (answer_of effect) command place else place) fact
+      (either_way (λ (p : Place). TellAs Fact p.1) counted (answered_or_put_back (answer_of effect) command place) place (call_said (answer_of effect) command place m) m)
 
-  spoken_said : (counted : Bool) (before : Before) (effect : Effect) (command : Command) (place : Place) → ((result : ToldResult) → begun_result before.alone effect command ≡ Some result → is_told (spoken_number before.order command) ≡ true → Fact (spoken_number before.order command) result)
+  spoken_said : (counted : Bool) (before : Before) (effect : Effect) (command : Command) (place : Place) → ((result : OrderResult) → begun_result before.alone effect command ≡ Some result → is_reported (spoken_number before.order command) ≡ true → Fact (spoken_number before.order command) result)
       → TellAs Fact place.1 → TellAs Fact (spoken counted before effect command place).1
-  unfolding spoken spoken_mails told_begun
+  unfolding spoken spoken_mails begun_reported
   spoken_said counted before effect command (r, mails) fact m =
-      let told : List Mail = told_result r.me (begun_result before.alone effect command) (spoken_number before.order command) mails in
+      let told : List Mail = result_reported r.me (begun_result before.alone effect command) (spoken_number before.order command) mails in
       let said : TellAs Fact told = begun_said r.me Fact (spoken_number before.order command) (begun_result before.alone effect command) mails fact m in
       either_way (λ (ms : List Mail). TellAs Fact ms) counted (went_on r.me r.group before effect command told) told (went_said r.me Fact r.group before effect command told said) said
 
 entries_end : (counted : Bool) (command : Command) (r : ReplicaState) → TellAs (EndsOrder r.group command) (said_of_entry counted command r)
 entries_end counted command r =
-    let Fact : ℕ → ToldResult → Type 0 = EndsOrder r.group command in
+    let Fact : ℕ → OrderResult → Type 0 = EndsOrder r.group command in
     let effect : Effect = (applied r.group command).1 in
     spoken_said Fact counted (before_of r.group.core) effect command (announced counted effect command (entered command r, [])) (λ result e t. begun_ends r.group command result e t)
     (announced_said Fact counted effect command (entered command r, []) (λ result e. order_ends r.group command result e) tt)
 
 -- what has a number that is reported is the command of that order
-is_of : (command : Command) → is_told (order_number command) ≡ true → IsOf (order_number command) command
+is_of : (command : Command) → is_reported (order_number command) ≡ true → IsOf (order_number command) command
 is_of (Join node order) t = refl
 is_of (Leave node order) t = refl
 is_of (Split at child order) t = refl
@@ -280,12 +280,12 @@ is_of _ t = cc
 queues_end : (hint : Option ℕ) (answer : AnswerBody) (r : ReplicaState) → TellAs (IsGivenBack r hint) (ended hint answer (r, [])).1
 unfolding ended
 queues_end hint answer r =
-    all_dismissed r.me (IsGivenBack r hint) (name_of r) hint answer r.calls (answered_all r.me (name_of r) answer (under_way r) []) (λ command a t. record { command = command; queued = a; own = is_of command t; result_is = refl })
+    all_dismissed r.me (IsGivenBack r hint) (name_of r) hint answer r.backlog (answered_all r.me (name_of r) answer (under_way r) []) (λ command a t. record { command = command; queued = a; own = is_of command t; result_is = refl })
     (all_answered r.me (IsGivenBack r hint) (name_of r) answer (under_way r) [] tt)
 
-orders_end : (drawer : Drawer) (line : OrderLine) (r : ReplicaState) (why : OrderRefusal) → untaken drawer line r ≡ Some why → ordered_row drawer line (r, []) ≡ (r, told_desk r.me line.number (Refused why) [])
+orders_end : (drawer : Drawer) (line : OrderLine) (r : ReplicaState) (why : OrderRefusal) → untaken drawer line r ≡ Some why → ordered_row drawer line (r, []) ≡ (r, result_sent r.me line.number (Refused why) [])
 unfolding ordered_row
-orders_end drawer line r why e = ap (λ (o : Option OrderRefusal). taken_or_told o line.number (ordered_command (next_name drawer) line.number line.order) (r, [])) e
+orders_end drawer line r why e = ap (λ (o : Option OrderRefusal). queued_or_refused o line.number (ordered_command (next_name drawer) line.number line.order) (r, [])) e
 
 pub reports_are_decided : ReportsAreDecided
 reports_are_decided = record { entries = entries_end; queues = queues_end; orders = orders_end }

@@ -3,17 +3,17 @@ use Rattle.std.specs.Prelude.{◌≡◌, ℕ, ◌≤◌, List, length, filter}
 use Rattle.sc_base.specs.Definitions.{Each}
 use Rattle.sc_node_table.specs.Values.{Command, OrderLine, Mail, Input, Row, Node}
 use Rattle.sc_actor.specs.Definitions.{value}
-use Rattle.sc_node_table.specs.Definitions.{NodeState, node_table, is_call_of, ReplicaState}
+use Rattle.sc_node_table.specs.Definitions.{NodeState, node_table, is_request_of, ReplicaState}
 use Rattle.sc_scenario.specs.declared.scenarios.Scenario.{Scenario}
 use Rattle.sc_sound.specs.Definitions.{Ahead, node_seat, player_table}
 
 -- the number of these commands that are requests of a client
 abbrev pub calls_of : ℕ → List Command → ℕ
-calls_of client commands = length (filter (λ command. is_call_of client command) commands)
+calls_of client commands = length (filter (λ command. is_request_of client command) commands)
 
 -- a replica has at most one request of each client in its queue
 abbrev pub KeepsOneCall : ReplicaState → Type 0
-KeepsOneCall r = (client : ℕ) → calls_of client r.calls ≤ 1
+KeepsOneCall r = (client : ℕ) → calls_of client r.backlog ≤ 1
 
 -- each replica of a node has at most one request of each client in its queue
 abbrev pub EachKeepsOneCall : NodeState → Type 0

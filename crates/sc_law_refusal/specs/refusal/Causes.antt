@@ -9,14 +9,14 @@ use Rattle.sc_machine_table.specs.Definitions.{Group, state_after, applied}
 use Rattle.sc_paxos_words.specs.Definitions.{LogState, next_of, log_cut}
 use Rattle.sc_node_table.specs.declared.ReplicaInput.{ReplicaInput}
 use Rattle.sc_node_table.specs.declared.ReplicaInput.TheVariants as Given
-use Rattle.sc_node_table.specs.Definitions.{has_act, is_giving_up, answer_of, with_entry, answered, serves_calls, patience, ReplicaState, Place, floor_of, name_of, next, flying, listed, settled, stepped, same_command}
+use Rattle.sc_node_table.specs.Definitions.{has_act, is_giving_up, answer_of, with_entry, answered, admits_requests, patience, ReplicaState, Place, floor_of, name_of, next, flying, listed, settled, stepped, same_command}
 
 -- ---- what was asked
 
 -- a replica holds a command: it is queued, its leader has it in flight or counted, or it was reported to its leader
 abbrev pub HoldsCommand : ReplicaState → Command → Type 0
 HoldsCommand r command =
-    Among command r.calls ⊎ (Among command r.acts ⊎ (Among command (map (λ flight. flight.value) r.leader.flights) ⊎ (Among command (map (λ counted. counted.1) r.ready) ⊎ Among command (map (λ report. report.value) r.leader.reports))))
+    Among command r.backlog ⊎ (Among command r.acts ⊎ (Among command (map (λ flight. flight.value) r.leader.flights) ⊎ (Among command (map (λ counted. counted.1) r.ready) ⊎ Among command (map (λ report. report.value) r.leader.reports))))
 
 -- a mail brings a command: a request brings its call, a promise the commands that it reports
 abbrev pub IsBroughtBy : MailBody → Command → Type 0
@@ -105,7 +105,7 @@ IsTakenOver input = (mail : Mail) × (input ≡ Got mail) × ((group : Draw) × 
 -- a group in this state does not serve an operation, as the answer says: its arc lacks the key, and no transaction would keep the call waiting; or the group is gone
 abbrev pub LacksKey : Group → Op → AnswerBody → Type 0
 LacksKey group op (NotMine arc succ) =
-    (group.core.gone ≡ None) × (serves_calls group.core.lock ≡ true) × (holds_key group.core.arc (key_of op) ≡ false) × (arc ≡ group.core.arc) × (succ ≡ group.core.succ)
+    (group.core.gone ≡ None) × (admits_requests group.core.lock ≡ true) × (holds_key group.core.arc (key_of op) ≡ false) × (arc ≡ group.core.arc) × (succ ≡ group.core.succ)
 LacksKey group op (Gone into) = group.core.gone ≡ Some into
 LacksKey group op (Stale last) = ⊥
 LacksKey group op (NotLeader hint) = ⊥
@@ -121,10 +121,10 @@ RefusesCall group client seq op (Value reply) = ⊥
 
 -- a call among the entries is refused by the state that its entry met
 pub record IsRefusedAtEntry (group : Group) (entries : List Command) (client seq : ℕ) (op : Op) (answer : AnswerBody) : Type 0 where
-  pub front : List Command
+  pub prefix : List Command
   pub rest : List Command
-  pub are : entries ≡ front ++ Call client seq op ∷ rest
-  pub refuses : RefusesCall (state_after group front) client seq op answer
+  pub are : entries ≡ prefix ++ Call client seq op ∷ rest
+  pub refuses : RefusesCall (state_after group prefix) client seq op answer
 
 -- an answer to an executed call is a reply, or a refusal by the state that the call's entry met; it is never NotLeader
 abbrev pub HasCauseAtEntry : Group → List Command → ℕ → ℕ → Op → AnswerBody → Type 0
@@ -138,7 +138,7 @@ HasCauseAtEntry group entries client seq op (Stale last) = IsRefusedAtEntry grou
 pub record WasStopped (r : ReplicaState) (input : Input Mail OrderLine) (after : ReplicaState) : Type 0 where
   pub ran : r.running ≡ true
   pub over : IsTakenOver input
-  pub empty : after.calls ≡ []
+  pub empty : after.backlog ≡ []
   pub anew : r.top.round < after.leader.ballot.round
 
 -- a replica does not run after a step, or was stopped in it

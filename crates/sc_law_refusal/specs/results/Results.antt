@@ -1,14 +1,14 @@
 -- What the parts of a replica's table report of an order: what the entry that ends it has decided, or why it was refused.
 use Rattle.std.specs.Prelude.{◌≡◌, ℕ, true, Bool, List, [], Option, None, Some, ◌⊎◌}
 use Rattle.sc_base.specs.Definitions.{Among, Drawer, Each}
-use Rattle.sc_node_table.specs.Values.{Draw, Body, Command, Noop, Call, Join, Leave, Split, Begin, Prepared, RecordVote, GiveUp, Finish, Watched, RecordWatch, Core, Coordinating, Route, OrderLine, OrderRefusal, ToldResult, Heard, Outcome, AnswerBody, Mail, MailBody, Request, Answer, Prepare, Promise, Accept, Accepted, Nack, Learn, Ask, Install, TxPrepare, TxVote, TxOutcome, TxElsewhere, TxWatch, TxWatched, Told}
+use Rattle.sc_node_table.specs.Values.{Draw, Body, Command, Noop, Call, Join, Leave, Split, Begin, Prepared, RecordVote, GiveUp, Finish, Watched, RecordWatch, Core, Coordinating, Route, OrderLine, OrderRefusal, OrderResult, Heard, Outcome, AnswerBody, Mail, MailBody, Request, Answer, Prepare, Promise, Accept, Accepted, Nack, Learn, Ask, Install, TxPrepare, TxVote, TxOutcome, TxElsewhere, TxWatch, TxWatched, Told}
 use Rattle.sc_cmd.specs.declared.effects.Effect.TheVariants as Was
 use Rattle.sc_cmd.specs.declared.orders.OrderRefusal.TheVariants.{NotLeader}
-use Rattle.sc_cmd.specs.declared.orders.ToldResult.TheVariants.{Done, Committed, Aborted, Refused}
+use Rattle.sc_cmd.specs.declared.orders.OrderResult.TheVariants.{Done, Committed, Aborted, Refused}
 use Rattle.sc_cmd.specs.declared.votes.Outcome.TheVariants as Is
 use Rattle.sc_cmd.specs.Definitions.{is_alone}
 use Rattle.sc_machine_table.specs.Definitions.{Group, applied, refusal_of}
-use Rattle.sc_node_table.specs.Definitions.{ReplicaState, announced, before_of, ended, entered, ordered_row, spoken, told_desk, untaken}
+use Rattle.sc_node_table.specs.Definitions.{ReplicaState, announced, before_of, ended, entered, ordered_row, spoken, result_sent, untaken}
 
 -- ---- how an entry ends an order
 
@@ -77,7 +77,7 @@ pub record RefusesOrder (group : Group) (command : Command) (order : ℕ) (why :
   pub effect : (applied group command).1 ≡ Was.Refused why
 
 -- an entry ends an order with a result, in the group that it meets
-abbrev pub EndsOrder : Group → Command → ℕ → ToldResult → Type 0
+abbrev pub EndsOrder : Group → Command → ℕ → OrderResult → Type 0
 EndsOrder group command order Done = CarriesOut group command order
 EndsOrder group command order Committed = DecidesFor group command order IsCommit
 EndsOrder group command order Aborted = DecidesFor group command order (λ outcome. outcome ≡ Is.Abort)
@@ -86,7 +86,7 @@ EndsOrder group command order (Refused why) = RefusesOrder group command order w
 -- ---- what is reported
 
 -- a statement of the result that a mail reports, if it reports one
-abbrev pub IfTold : (ℕ → ToldResult → Type 0) → MailBody → Type 0
+abbrev pub IfTold : (ℕ → OrderResult → Type 0) → MailBody → Type 0
 IfTold Fact (Told order result) = Fact order result
 IfTold Fact (Request group client seq op) = Unit {0}
 IfTold Fact (Answer group seq answer) = Unit {0}
@@ -106,7 +106,7 @@ IfTold Fact (TxWatch tx watch) = Unit {0}
 IfTold Fact (TxWatched tx coord part vote) = Unit {0}
 
 -- each result that these mails report is so
-abbrev pub TellAs : (ℕ → ToldResult → Type 0) → List Mail → Type 0
+abbrev pub TellAs : (ℕ → OrderResult → Type 0) → List Mail → Type 0
 TellAs Fact mails = Each (λ (mail : Mail). IfTold Fact mail.body) mails
 
 -- what a replica says of an entry that it executes, to clients, to the desk and to the parties of a transaction
@@ -115,9 +115,9 @@ said_of_entry counted command r =
     (spoken counted (before_of r.group.core) (applied r.group command).1 command (announced counted (applied r.group command).1 command (entered command r, []))).1
 
 -- an order that waits at a replica is refused, since the replica does not lead
-pub record IsGivenBack (r : ReplicaState) (hint : Option ℕ) (order : ℕ) (result : ToldResult) : Type 0 where
+pub record IsGivenBack (r : ReplicaState) (hint : Option ℕ) (order : ℕ) (result : OrderResult) : Type 0 where
   pub command : Command
-  pub queued : Among command r.calls
+  pub queued : Among command r.backlog
   pub own : IsOf order command
   pub result_is : result ≡ Refused (NotLeader hint)
 
@@ -128,4 +128,4 @@ pub record ReportsAreDecided : Type 0 where
   -- where it stops, that it does not lead, of each order that waits
   pub queues : (hint : Option ℕ) (answer : AnswerBody) (r : ReplicaState) → TellAs (IsGivenBack r hint) (ended hint answer (r, [])).1
   -- of an order that it does not take, the first cause, and no more
-  pub orders : (drawer : Drawer) (line : OrderLine) (r : ReplicaState) (why : OrderRefusal) → untaken drawer line r ≡ Some why → ordered_row drawer line (r, []) ≡ (r, told_desk r.me line.number (Refused why) [])
+  pub orders : (drawer : Drawer) (line : OrderLine) (r : ReplicaState) (why : OrderRefusal) → untaken drawer line r ≡ Some why → ordered_row drawer line (r, []) ≡ (r, result_sent r.me line.number (Refused why) [])

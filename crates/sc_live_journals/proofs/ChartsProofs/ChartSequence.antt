@@ -53,10 +53,10 @@ module _ (words : ℕ → ℕ → ℕ × ℕ) (births : List (Seat Player)) (far
 
   -- what the chart has of the last quiet journal
   abbrev with_prefix : Rows → Chart
-  with_prefix front = record {
-    ways = record { far = far_at far births front; most = far; asks = λ tx. asked_in tx (all_replicas births after) };
+  with_prefix prefix = record {
+    ways = record { far = far_at far births prefix; most = far; asks = λ tx. asked_in tx (all_replicas births after) };
     groups = names_at births after;
-    reach = reach_in sent (names_at births front) (all_replicas births front);
+    reach = reach_in sent (names_at births prefix) (all_replicas births prefix);
   }
 
   module _ (loud : is_quiet s after ≡ false) where

@@ -44,8 +44,8 @@ module _ (births : List (Seat Player)) (rows : Rows) (row : Row Mail OrderLine) 
   names_same : (n : ℕ) → n ≤ length rows → names_upto births (rows ++ row ∷ []) n ≡ names_upto births rows n
   names_same zero low = refl
   names_same (suc n) low =
-      let front = take-append-le (suc n) rows (row ∷ []) low in
-      ap (λ (front : Rows). with_names (names_upto births (rows ++ row ∷ []) n) (led_names births front)) front
+      let prefix = take-append-le (suc n) rows (row ∷ []) low in
+      ap (λ (prefix : Rows). with_names (names_upto births (rows ++ row ∷ []) n) (led_names births prefix)) prefix
       ∙ ap (λ names. with_names names (led_names births (take (suc n) rows))) (names_same n (omega (arith, low)))
 
   -- the names after one more row are those before it, with those of groups that are led now
@@ -54,7 +54,7 @@ module _ (births : List (Seat Player)) (rows : Rows) (row : Row Mail OrderLine) 
       let long : length (rows ++ row ∷ []) ≡ suc (length rows) = (let push = length_push rows row in omega (arith, push)) in
       let whole : take (suc (length rows)) (rows ++ row ∷ []) ≡ rows ++ row ∷ [] = take_all (suc (length rows)) (rows ++ row ∷ []) (omega (arith, long)) in
       let same = names_same (length rows) (omega arith) in
-      ap (names_upto births (rows ++ row ∷ [])) long ∙ (ap (λ names. with_names names (led_names births (take (suc (length rows)) (rows ++ row ∷ [])))) same ∙ ap (λ (front : Rows). with_names (names_at births rows) (led_names births front)) whole)
+      ap (names_upto births (rows ++ row ∷ [])) long ∙ (ap (λ names. with_names names (led_names births (take (suc (length rows)) (rows ++ row ∷ [])))) same ∙ ap (λ (prefix : Rows). with_names (names_at births rows) (led_names births prefix)) whole)
 
   -- the names grow by groups that are led
   pub names_grow : Extends (λ group. is_led births (rows ++ row ∷ []) group ≡ true) (names_at births rows) (names_at births (rows ++ row ∷ []))

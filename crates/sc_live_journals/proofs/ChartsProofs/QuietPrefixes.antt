@@ -14,9 +14,9 @@ module _ (s : System Player Mail OrderLine) (rows : Rows) (row : Row Mail OrderL
   upto_same : (n : ℕ) → n ≤ length rows → quiet_upto s (rows ++ row ∷ []) n ≡ quiet_upto s rows n
   upto_same zero low = refl
   upto_same (suc n) low =
-      let front = take-append-le (suc n) rows (row ∷ []) low in
+      let prefix = take-append-le (suc n) rows (row ∷ []) low in
       let rest = upto_same n (omega (arith, low)) in
-      ap (λ (front : Rows). cond (is_quiet s front) (suc n) (quiet_upto s (rows ++ row ∷ []) n)) front ∙ ap (λ m. cond (is_quiet s (take (suc n) rows)) (suc n) m) rest
+      ap (λ (prefix : Rows). cond (is_quiet s prefix) (suc n) (quiet_upto s (rows ++ row ∷ []) n)) prefix ∙ ap (λ m. cond (is_quiet s (take (suc n) rows)) (suc n) m) rest
 
   pub upto_low : (n : ℕ) → quiet_upto s rows n ≤ n
   upto_low zero = omega arith

@@ -71,7 +71,7 @@ module _ (me : ℕ) where
     promised = λ ballot r top t k. (top, k.1);
     accepted = λ report r top t k. (top, k.1);
     flown = λ slot command r on near k. k;
-    queues = λ r acts calls k. k;
+    queues = λ r acts backlog k. k;
     waited = λ waits r k. k;
   }
 

@@ -10,18 +10,18 @@ use Rattle.sc_live_steps.proofs.FollowingProofs.Lemmas.{aside_is, order_is, pump
 
 module _ (at : Sets) (now : Progress) (r : ReplicaState) (was : IsLeadOf at now r) where
   -- one with other queues may offer as well
-  queued_may : (acts calls : List Command) → MayOffer at now.course (record r { acts = acts; calls = calls })
-  queued_may acts calls = (let m = was.led.may in record { ballot = m.ballot; sets = m.sets; low = m.low; high = m.high; taken = m.taken; free = m.free })
+  queued_may : (acts backlog : List Command) → MayOffer at now.course (record r { acts = acts; backlog = backlog })
+  queued_may acts backlog = (let m = was.led.may in record { ballot = m.ballot; sets = m.sets; low = m.low; high = m.high; taken = m.taken; free = m.free })
 
   -- what it offers then leaves what is executed
-  pumps_stay : (acts calls : List Command) → next (pumped (record r { acts = acts; calls = calls }, [])).0 ≡ next r
-  pumps_stay acts calls = ap next (pumps_offer at now.course (record r { acts = acts; calls = calls }, []) (queued_may acts calls)).is
+  pumps_stay : (acts backlog : List Command) → next (pumped (record r { acts = acts; backlog = backlog }, [])).0 ≡ next r
+  pumps_stay acts backlog = ap next (pumps_offer at now.course (record r { acts = acts; backlog = backlog }, []) (queued_may acts backlog)).is
 
   pub asides_stay : (from : ℕ) (body : MailBody) → IsAside r body → next (mailed from body (r, [])).0.0 ≡ next r
-  asides_stay from body aside = aside_is (λ p. next p.0 ≡ next r) r was.led.running (λ top acts calls more none. refl) pumps_stay from body aside
+  asides_stay from body aside = aside_is (λ p. next p.0 ≡ next r) r was.led.running (λ top acts backlog more none. refl) pumps_stay from body aside
 
   pub orders_stay : (on : Bool) (drawer : Drawer) (line : OrderLine) → next (stepped on drawer (Given.Told line) (r, [])).0.0 ≡ next r
-  orders_stay on drawer line = order_is (λ p. next p.0 ≡ next r) r was.led.running (λ top acts calls more none. refl) pumps_stay on drawer line
+  orders_stay on drawer line = order_is (λ p. next p.0 ≡ next r) r was.led.running (λ top acts backlog more none. refl) pumps_stay on drawer line
 
   -- a promise that is counted, or not
   pledged_may : (promisers : List ℕ) (reports : List (Report Command)) (b : Bool) → MayOffer at now.course (record r { leader = (cond {A = Bool × LeaderState Command} b (true, record r.leader { promisers = promisers; reports = reports }) (false, r.leader)).1 })

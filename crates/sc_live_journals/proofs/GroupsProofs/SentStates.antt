@@ -10,7 +10,7 @@ use Rattle.sc_paxos_words.specs.declared.answers.Must.TheVariants.{Value, Free a
 use Rattle.sc_paxos_words.specs.Definitions.{must, promise_counted, without_flight_at}
 use Rattle.sc_paxos_words.proofs.Lemmas.{Each-append}
 use Rattle.sc_node_table.specs.declared.ReplicaInput.TheVariants as Given
-use Rattle.sc_node_table.specs.Definitions.{entered, learnt_to, welcomed, landed, left, looked, executed_one, next_child, next_ready, ending, executed_ready, executed, install_to, welcomed_all, sent, sent_all, sent_others, answered, Found, is_act, waits, turned_down, next_call, from_calls, from_acts, from_queues, found_by, found_for, offered, pumped_from, pumped, ReplicaState, Place, Executed, childless, listed, name_of, next, members, settled, may_offer, taken_at, under_way, is_idle, last_slot, mailed, stepped, at_slot, without_slot, before_of, spoken, leads, promise_row}
+use Rattle.sc_node_table.specs.Definitions.{entered, learnt_to, welcomed, landed, left, looked, executed_one, next_child, next_ready, ending, executed_ready, executed, install_to, welcomed_all, sent, sent_all, sent_others, answered, Found, is_act, waits, turned_down, next_queued, from_backlog, from_acts, from_queues, found_by, found_for, offered, pumped_from, pumped, ReplicaState, Place, Executed, childless, listed, name_of, next, members, settled, may_offer, taken_at, under_way, is_idle, last_slot, mailed, stepped, at_slot, without_slot, before_of, spoken, leads, promise_row}
 use Rattle.sc_law_walks.specs.Definitions.{IfThere}
 use Rattle.sc_law_walks.proofs.Lemmas.{idle_ready}
 use Rattle.sc_live_steps.specs.following.Definitions.{Mark, Installs, mark_of, marks_of, Course, Progress, Sets, IsLed, IsNext, AreNext, IsLeadOf, IsAside, DecidesNext, marks_for}
@@ -90,23 +90,23 @@ module _ (name : Draw) (own : ℕ) where
 
   -- ---- the pump
 
-  own_calls : (me : ℕ) (idle : Bool) (core : Core) (calls : List Command) (mails : List Mail) → Own mails → Own (next_call me idle core calls mails).2
-  unfolding next_call
+  own_calls : (me : ℕ) (idle : Bool) (core : Core) (backlog : List Command) (mails : List Mail) → Own mails → Own (next_queued me idle core backlog mails).2
+  unfolding next_queued
   own_calls me idle core [] mails f = f
-  own_calls me idle core (command ∷ calls) mails f = by (waits idle core.lock command) (turned_down core command) (λ answer. own_calls me idle core calls (answered me core.id answer command mails) (turned_kept name Keeps (λ _ g. g) (λ a b c one other g. other (one g)) keep me core.id command answer mails f))
+  own_calls me idle core (command ∷ backlog) mails f = by (waits idle core.lock command) (turned_down core command) (λ answer. own_calls me idle core backlog (answered me core.id answer command mails) (turned_kept name Keeps (λ _ g. g) (λ a b c one other g. other (one g)) keep me core.id command answer mails f))
     where
-      by : (b : Bool) (o : Option AnswerBody) → ((answer : AnswerBody) → Own (next_call me idle core calls (answered me core.id answer command mails)).2)
-          → Own (cond {A = Option Command × List Command × List Mail} b (None, command ∷ calls, mails) (elim o [ None ↦ (Some command, calls, mails) | Some answer ↦ next_call me idle core calls (answered me core.id answer command mails) ])).2
+      by : (b : Bool) (o : Option AnswerBody) → ((answer : AnswerBody) → Own (next_queued me idle core backlog (answered me core.id answer command mails)).2)
+          → Own (cond {A = Option Command × List Command × List Mail} b (None, command ∷ backlog, mails) (elim o [ None ↦ (Some command, backlog, mails) | Some answer ↦ next_queued me idle core backlog (answered me core.id answer command mails) ])).2
       by true o more = f
       by false None more = f
       by false (Some answer) more = more answer
 
   own_found : (slot : ℕ) (r : ReplicaState) (mails : List Mail) → Own mails → Own (found_for slot (r, mails)).1.1
-  unfolding found_for from_queues from_calls
+  unfolding found_for from_queues from_backlog
   own_found slot r mails f = by (must slot r.leader)
     where
       acts : (list : List Command) → Own (from_acts list (r, mails)).1.1
-      acts [] = own_calls r.me (is_idle r) r.group.core r.calls mails f
+      acts [] = own_calls r.me (is_idle r) r.group.core r.backlog mails f
       acts (a ∷ list) = if_idle (is_idle r)
         where
           if_idle : (b : Bool) → Own (cond {A = Found} b (Some a, (record r { acts = list }, mails)) (None, (r, mails))).1.1
@@ -158,9 +158,9 @@ module _ (name : Draw) (own : ℕ) where
   -- ---- an entry
 
   module _ (at : Sets) (course : Course) (command : Command) (r : ReplicaState) (mails : List Mail) (led : IsLed at course r) (is_next : IsNext at command r) (mine : r.me ≡ own) (f : Own mails) where
-    module _ (acts calls : List Command) (more : List Mail) (g : Own more) where
+    module _ (acts backlog : List Command) (more : List Mail) (g : Own more) where
       abbrev here : ReplicaState
-      here = record (entered command r) { acts = acts; calls = calls }
+      here = record (entered command r) { acts = acts; backlog = backlog }
 
       abbrev told : Place
       told = welcomed true (members r) (learnt_to true (members r) (next r) command (here, more))
@@ -186,11 +186,11 @@ module _ (name : Draw) (own : ℕ) where
         announced_kept name Keeps (λ _ h. h) (λ a b c one other h. other (one h)) keep
         (λ place1. Own (looked (left (landed true (next r) command (welcomed true (members r) (learnt_to true (members r) (next r) command (spoken true (before_of r.group.core) (applied r.group command).1 command place1)))))).1)
         (entered command r) mails
-        (λ acts calls more kept.
-        let q : ReplicaState = record (entered command r) { acts = acts; calls = calls } in
+        (λ acts backlog more kept.
+        let q : ReplicaState = record (entered command r) { acts = acts; backlog = backlog } in
         let said : Place = spoken true (before_of r.group.core) (applied r.group command).1 command (q, more) in
         let is = spoken_kept name Keeps (λ _ h. h) (λ a b c one other h. other (one h)) keep (before_of r.group.core) (applied r.group command).1 command q more in
-        subst (λ (x : ReplicaState). Own (looked (left (landed true (next r) command (welcomed true (members r) (learnt_to true (members r) (next r) command (x, said.1)))))).1) (sym is.0) (own_past acts calls said.1 (is.1 (kept f))))
+        subst (λ (x : ReplicaState). Own (looked (left (landed true (next r) command (welcomed true (members r) (learnt_to true (members r) (next r) command (x, said.1)))))).1) (sym is.0) (own_past acts backlog said.1 (is.1 (kept f))))
         (applied r.group command).1 command
 
 -- ---- all that is executed at once
@@ -204,7 +204,7 @@ module _ (name : Draw) (own : ℕ) (at : Sets) (course : Course) (command : Comm
 
   own_step : (es : List (ℕ × Command)) → (IsLed at course mid.0 → mid.0.me ≡ own → Own name own mid.1 → Own name own (executed_ready es mid).0.1) → Own name own (pumped (executed_ready es mid).0).1
   own_step es rest = elim ((entries_lead at course command place led is_next).state) [
-    | inl on ↦ own_pumped name own (executed_ready es mid).0.0 (executed_ready es mid).0.1 (rest (subst (IsLed at course) (sym on.is) (stays_led at course command place.0 led ready is_next on.acts on.calls on.stands on.stays)) (ap (λ (q : ReplicaState). q.me) on.is ∙ ((entered_keeps command place.0).3 ∙ mine)) own_mid)
+    | inl on ↦ own_pumped name own (executed_ready es mid).0.0 (executed_ready es mid).0.1 (rest (subst (IsLed at course) (sym on.is) (stays_led at course command place.0 led ready is_next on.acts on.backlog on.stands on.stays)) (ap (λ (q : ReplicaState). q.me) on.is ∙ ((entered_keeps command place.0).3 ∙ mine)) own_mid)
     | inr off ↦ (let still : mid.0.running ≡ false = ap (λ (q : ReplicaState). q.running) off.is in
         own_pumped name own (executed_ready es mid).0.0 (executed_ready es mid).0.1 (subst (λ (s : Executed). Own name own s.0.1) (sym (idle_ready es mid still)) own_mid))
   ]
@@ -242,12 +242,12 @@ own_promise name own from ballot reports r = by (leads ballot r)
 
 module _ (at : Sets) (now : Progress) (own : ℕ) (r : ReplicaState) (was : IsLeadOf at now r) (mine : r.me ≡ own) where
   -- what leaves no mark has no state
-  own_quiet : (top : Ballot) (acts calls : List Command) (more : List Mail) → ((who : ℕ) → marks_for (name_of r) who more ≡ []) → Own (name_of r) own more
-  own_quiet top acts calls more none = each_among (IsStateFrom (name_of r) own) more (λ mail a slot state sets is.
+  own_quiet : (top : Ballot) (acts backlog : List Command) (more : List Mail) → ((who : ℕ) → marks_for (name_of r) who more ≡ []) → Own (name_of r) own more
+  own_quiet top acts backlog more none = each_among (IsStateFrom (name_of r) own) more (λ mail a slot state sets is.
       absurd (subst (Among (Installs slot)) (none mail.to) (among_marks (name_of r) more mail (Installs slot) a (ap (mark_of (name_of r) mail.from) is ∙ same_mark (name_of r) (Installs slot)))))
 
-  own_offers : (acts calls : List Command) → Own (name_of r) own (pumped (record r { acts = acts; calls = calls }, [])).1
-  own_offers acts calls = own_pumped (name_of r) own (record r { acts = acts; calls = calls }) [] tt
+  own_offers : (acts backlog : List Command) → Own (name_of r) own (pumped (record r { acts = acts; backlog = backlog }, [])).1
+  own_offers acts backlog = own_pumped (name_of r) own (record r { acts = acts; backlog = backlog }) [] tt
 
   pub votes_own : (from : ℕ) (ballot : Ballot) (slot : ℕ) → ((s : ℕ) → IsRoster (at s)) → DecidesNext at from ballot slot r → Own (name_of r) own (mailed from (Accepted (name_of r) ballot slot) (r, [])).0.1
   unfolding mailed

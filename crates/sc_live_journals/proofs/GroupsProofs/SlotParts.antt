@@ -3,13 +3,13 @@ use Rattle.std.proofs.Common.{◌≡◌, ℕ, ◌+◌, ◌-◌, ◌^◌, ◌≤�
 use Rattle.std.specs.Prelude.{is_some}
 use Rattle.std.specs.List.{list_any}
 use Rattle.std.proofs.lemmas.Bool.{cond_both, and_parts}
-use Rattle.sc_node_table.specs.Values.{Ballot, Command, Noop, Call, Effect, Route, ToldResult, AnswerBody, Mail, Must, Gap, Flight}
+use Rattle.sc_node_table.specs.Values.{Ballot, Command, Noop, Call, Effect, Route, OrderResult, AnswerBody, Mail, Must, Gap, Flight}
 use Rattle.sc_mail.specs.declared.bodies.AnswerBody.TheVariants as Says
 use Rattle.sc_base.specs.Definitions.{is_member, least_of}
 use Rattle.sc_machine_table.specs.Definitions.{applied}
 use Rattle.sc_paxos_words.specs.declared.answers.Must.TheVariants.{Value, Free as Open}
 use Rattle.sc_paxos_words.specs.Definitions.{below, must, flight_at, new_leader, without_flight}
-use Rattle.sc_node_table.specs.Definitions.{has_act, with_act, act_queued, elected, ended, stopped, saw, entered, answer_of, told_call, order_result, told_effect, announced, learnt_to, welcomed, landed, left_gone, left, is_among, looked_for, looked, executed_one, has_room, next_ready, next_child, ending, executed_ready, all_ready, executed, install_to, asked_to_promise, welcomed_all, Found, is_act, from_calls, from_acts, from_queues, found_by, found_for, offered, pumped_from, pumped, put_back, ReplicaState, Place, Executed, childless, flying, next, members, settled, may_offer, first_set, taken_at, under_way, is_idle, last_slot, forgotten, at_slot, without_slot, before_of, spoken}
+use Rattle.sc_node_table.specs.Definitions.{has_act, with_act, act_queued, elected, ended, stopped, saw, entered, answer_of, answered_or_put_back, order_result, effect_reported, announced, learnt_to, welcomed, landed, left_gone, left, is_among, looked_for, looked, executed_one, has_room, next_ready, next_child, ending, executed_ready, all_ready, executed, install_to, asked_to_promise, welcomed_all, Found, is_act, from_backlog, from_acts, from_queues, found_by, found_for, offered, pumped_from, pumped, put_back, ReplicaState, Place, Executed, childless, flying, next, members, settled, may_offer, first_set, taken_at, under_way, is_idle, last_slot, forgotten, at_slot, without_slot, before_of, spoken}
 use Rattle.sc_node_table.specs.declared.Before.{Before}
 use Rattle.sc_law_walks.proofs.Lemmas.{entered_next, welcomed_place, landed_place, either_way}
 use Rattle.sc_live_journals.specs.groups.Definitions.{HasFrom, IsSlotKept}
@@ -73,22 +73,22 @@ module _ (n m : ℕ) (d : Bool) where
 
   -- ---- what is reported of an entry
 
-  told_well : (answer : Option AnswerBody) (command : Command) (place : Place) → W place → W (told_call answer command place)
-  unfolding told_call put_back
+  told_well : (answer : Option AnswerBody) (command : Command) (place : Place) → W place → W (answered_or_put_back answer command place)
+  unfolding answered_or_put_back put_back
   told_well (Some answer) (Call client seq op) (r, mails) k = k
   told_well None (Call client seq op) (r, mails) k = k
   told_well (Some answer) _ place k = k
   told_well None _ place k = k
 
-  effect_well : (result : Option ToldResult) (command : Command) (place : Place) → W place → W (told_effect result command place)
-  unfolding told_effect
+  effect_well : (result : Option OrderResult) (command : Command) (place : Place) → W place → W (effect_reported result command place)
+  unfolding effect_reported
   effect_well None command place k = k
   effect_well (Some result) command (r, mails) k = k
 
   announced_well : (counted : Bool) (effect : Effect) (command : Command) (place : Place) → W place → W (announced counted effect command place)
   unfolding announced
   announced_well counted effect command place k =
-      effect_well (order_result command effect) command (cond counted (told_call (answer_of effect) command place) place) (either_way W counted (told_call (answer_of effect) command place) place (told_well (answer_of effect) command place k) k)
+      effect_well (order_result command effect) command (cond counted (answered_or_put_back (answer_of effect) command place) place) (either_way W counted (answered_or_put_back (answer_of effect) command place) place (told_well (answer_of effect) command place k) k)
 
   spoken_well : (counted : Bool) (before : Before) (effect : Effect) (command : Command) (place : Place) → W place → W (spoken counted before effect command place)
   unfolding spoken
@@ -131,8 +131,8 @@ module _ (n : ℕ) (d : Bool) where
     abbrev FoundRuns : Found → Type 0
     FoundRuns found = Open_ found.1
 
-    calls_well : (place : Place) → Open_ place → FoundRuns (from_calls place)
-    unfolding from_calls
+    calls_well : (place : Place) → Open_ place → FoundRuns (from_backlog place)
+    unfolding from_backlog
     calls_well (r, mails) k = k
 
     acts_well : (acts : List Command) (place : Place) → Open_ place → FoundRuns (from_acts acts place)

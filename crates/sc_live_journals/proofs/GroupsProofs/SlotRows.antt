@@ -10,7 +10,7 @@ use Rattle.sc_mail.specs.declared.bodies.AnswerBody.TheVariants as Says
 use Rattle.sc_paxos_words.specs.declared.answers.PrepareAnswer.TheVariants as Prepared
 use Rattle.sc_paxos_words.specs.declared.answers.AcceptAnswer.TheVariants as Asked
 use Rattle.sc_paxos_words.specs.Definitions.{prepared, accepted as accepted_by, AcceptorState, LeaderState, promise_counted, flight_at, without_flight_at, entry_at, vote_at, voters_after, kept_voters, with_voters}
-use Rattle.sc_node_table.specs.Definitions.{with_act, has_act, act_queued, ended, stopped, saw, executed, has_room, named, jumped, ordered_command, untaken, taken_or_told, ordered_row, wished_line, with_command, with_line, wishing, pumped, call_of, without_call, patience, one_tick_more, waited_in, reminded, ReplicaState, Place, Executed, childless, next, members, settled, is_idle, set_at, last_slot, forgotten, born_replica, installed_replica, refused_at, queued, requested, request_row, learn_row, ask_row, looked_up, took_over, install_row, made_by, asked_again, told_last, tick_row, mailed, slots_ahead, at_slot, with_slot, noted_outcome, standing_vote, sent_elsewhere, offered_by, offer_row, watched_by, watch_row, awaits_vote, awaits_watch, vote_queued, vote_met, vote_row, watch_queued, watch_met, watched_row, elsewhere_row, is_bound, outcome_row, hinted, promise_to, prepare_row, accepted_to, took, accept_row, leads, promise_row, readied, vote_tallied, voted, accepted_row, nack_row}
+use Rattle.sc_node_table.specs.Definitions.{with_act, has_act, act_queued, ended, stopped, saw, executed, has_room, named, jumped, ordered_command, untaken, queued_or_refused, ordered_row, wished_line, with_command, with_line, wishing, pumped, queued_number, without_request, patience, one_tick_more, waited_in, reminded, ReplicaState, Place, Executed, childless, next, members, settled, is_idle, set_at, last_slot, forgotten, born_replica, installed_replica, refused_at, queued, requested, request_row, learn_row, ask_row, looked_up, took_over, install_row, made_by, asked_again, last_entry_sent, tick_row, mailed, slots_ahead, at_slot, with_slot, noted_outcome, standing_vote, sent_elsewhere, offered_by, offer_row, watched_by, watch_row, awaits_vote, awaits_watch, vote_queued, vote_met, vote_row, watch_queued, watch_met, watched_row, elsewhere_row, is_bound, outcome_row, hinted, promise_to, prepare_row, accepted_to, took, accept_row, leads, promise_row, readied, vote_tallied, voted, accepted_row, nack_row}
 use Rattle.sc_law_walks.proofs.Lemmas.{promised_place, asked_place, either_way}
 use Rattle.sc_live_journals.specs.groups.Definitions.{FlyFrom, WaitFrom, HasFrom, IsSlotKept}
 use Rattle.sc_live_journals.proofs.GroupsProofs.SlotLists.{fly_without, fly_polled, flies_from, wait_in, in_other}
@@ -26,14 +26,14 @@ module _ (me : ℕ) where
 
   queued_well : (o : Option ℕ) (client seq : ℕ) (op : Op) (place : Place) → K place → K (queued o client seq op place)
   unfolding queued
-  queued_well None client seq op (r, mails) k = pumps (record r { calls = r.calls ++ Call client seq op ∷ [] }, mails) k
+  queued_well None client seq op (r, mails) k = pumps (record r { backlog = r.backlog ++ Call client seq op ∷ [] }, mails) k
   queued_well (Some other) client seq op (r, mails) k =
-      either_way K (nat_le seq other) (r, mails) (pumped (record r { calls = without_call r.calls client ++ Call client seq op ∷ [] }, mails)) k (pumps (record r { calls = without_call r.calls client ++ Call client seq op ∷ [] }, mails) k)
+      either_way K (nat_le seq other) (r, mails) (pumped (record r { backlog = without_request r.backlog client ++ Call client seq op ∷ [] }, mails)) k (pumps (record r { backlog = without_request r.backlog client ++ Call client seq op ∷ [] }, mails) k)
 
   requested_well : (o : Option AnswerBody) (client seq : ℕ) (op : Op) (place : Place) → K place → K (requested o client seq op place)
   unfolding requested
   requested_well (Some answer) client seq op (r, mails) k = k
-  requested_well None client seq op (r, mails) k = queued_well (call_of r.calls client) client seq op (r, mails) k
+  requested_well None client seq op (r, mails) k = queued_well (queued_number r.backlog client) client seq op (r, mails) k
 
   request_well : (client seq : ℕ) (op : Op) (place : Place) → K place → K (request_row client seq op place)
   unfolding request_row
@@ -223,9 +223,9 @@ module _ (me : ℕ) where
 
   -- ---- orders, and a tick
 
-  taken_well : (o : Option OrderRefusal) (number : ℕ) (command : Command) (place : Place) → K place → K (taken_or_told o number command place)
+  taken_well : (o : Option OrderRefusal) (number : ℕ) (command : Command) (place : Place) → K place → K (queued_or_refused o number command place)
   taken_well (Some why) number command (r, mails) k = k
-  taken_well None number command (r, mails) k = pumps (record r { calls = r.calls ++ command ∷ [] }, mails) k
+  taken_well None number command (r, mails) k = pumps (record r { backlog = r.backlog ++ command ∷ [] }, mails) k
 
   pub order_well : (drawer : Drawer) (line : OrderLine) (place : Place) → K place → K (ordered_row drawer line place)
   unfolding ordered_row
@@ -264,7 +264,7 @@ module _ (me : ℕ) where
   tick_well on drawer (r, mails) k =
       either_way K (is_some r.group.core.gone || not (is_member (members r) r.me)) _ _ k
       (either_way K (not (settled r)) _ _ (self_election (r, mails) k)
-      (either_way K (is_idle r) _ _ (reminding_well on drawer (r, told_last (entry_at (next r - 1) r.log) r mails) k) (reminding_well on drawer (r, asked_again r (next r) r.sets mails) k)))
+      (either_way K (is_idle r) _ _ (reminding_well on drawer (r, last_entry_sent (entry_at (next r - 1) r.log) r mails) k) (reminding_well on drawer (r, asked_again r (next r) r.sets mails) k)))
 
   -- ---- all mail
 

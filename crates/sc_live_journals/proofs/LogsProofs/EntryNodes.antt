@@ -21,7 +21,7 @@ use Rattle.sc_law_entries.proofs.NamesProofs.Lemmas.{Each-drop}
 use Rattle.sc_law_groups.proofs.GroupProofs.Lemmas.{at_start, first_of, h_of, Kept, IsLater, Moved, push, decided_made, entry_offered, each_got, GivesAllowedOrder, told_induction, HasPlayers, MayTell, KnowsOffspring, moved, MayTick}
 use Rattle.sc_law_groups.specs.whole.Definitions.{BeginsWell, OrdersAreAllowed}
 use Rattle.sc_law_groups.proofs.WholeProofs.Lemmas.{IsNew, IsOldOrNew, goes_on_from, grown, members_stay_rosters, Holds}
-use Rattle.sc_live_journals.proofs.LogsProofs.Journals.{front}
+use Rattle.sc_live_journals.proofs.LogsProofs.Journals.{prefix}
 use Rattle.sc_live_journals.proofs.LogsProofs.Nodes.{BringsNodes, HasNodes, SaysNodes, log_nodes}
 use Rattle.sc_live_journals.proofs.LogsProofs.NamedNodes.{says_nodes}
 use Rattle.sc_live_journals.proofs.LogsProofs.FirstMembers.{first_nodes, OrdersNodes, lines_nodes, wishes_nodes, children_nodes}
@@ -81,10 +81,10 @@ module _ (sources : Sources) (ahead : Ahead) (words : ℕ → ℕ → ℕ × ℕ
 
     -- what the laws of journals say before the row and after it
     before : Holds sources ahead words scenario route b.place b.seats b.asks rows
-    before = front sources ahead words scenario route b journal orders lawful rows (row ∷ more) e
+    before = prefix sources ahead words scenario route b journal orders lawful rows (row ∷ more) e
 
     after_it : Holds sources ahead words scenario route b.place b.seats b.asks next
-    after_it = front sources ahead words scenario route b journal orders lawful next more (e ∙ sym (append_assoc rows (row ∷ []) more))
+    after_it = prefix sources ahead words scenario route b journal orders lawful next more (e ∙ sym (append_assoc rows (row ∷ []) more))
 
     -- the row decides in turn
     decides : DecidesInTurn sources ahead scenario.groups rows row
@@ -108,11 +108,11 @@ module _ (sources : Sources) (ahead : Ahead) (words : ℕ → ℕ → ℕ × ℕ
     -- a child that is created is one of the groups, under a name of its own
     offspring : KnowsOffspring ahead words scenario scenario.groups (bases rows) route made heard players rows
     offspring n base a child is =
-        let log = is.front ++ is.command ∷ [] in
+        let log = is.prefix ++ is.command ∷ [] in
         let decided = decided_log ahead base rows in
         let on = goes_on_from ahead base rows (h.kept.parts base a).lawful log is.is_log in
-        let birth = sym (births_are_children (state_after (group_of base) is.front) is.command) ∙ is.child_is in
-        let there = found.prefixes base a log (drop (length log) decided) on child (child_in (group_of base) is.front is.command child birth) in
+        let birth = sym (births_are_children (state_after (group_of base) is.prefix) is.command) ∙ is.child_is in
+        let there = found.prefixes base a log (drop (length log) decided) on child (child_in (group_of base) is.prefix is.command child birth) in
         record { among = there; alone = λ other o same. found.apart other child o there same; open_slots = b.seats.open_slots }
 
     -- what the row's order may queue, and what policies do

@@ -16,7 +16,7 @@ use Rattle.sc_law_entries.specs.ring.Definitions.{Sources}
 use Rattle.sc_law_entries.specs.logs.Definitions.{Rows, AreFound, StayRecorded, DecideInTurn}
 use Rattle.sc_law_entries.proofs.LogsProofs.Lemmas.{groups_are_found, deciding_rows_stay}
 use Rattle.sc_law_groups.specs.group.Definitions.{proposer_steps, asked_in, promises_at, steps}
-use Rattle.sc_law_groups.proofs.GroupProofs.Lemmas.{h_of, Part, grown_learnt, IsLearnt, Holds as Held, held, Steps, rule, IsFlying, IsReplica, AreSets, next_after, IsOneOf, steps-push, front_is, among_numbers}
+use Rattle.sc_law_groups.proofs.GroupProofs.Lemmas.{h_of, Part, grown_learnt, IsLearnt, Holds as Held, held, Steps, rule, IsFlying, IsReplica, AreSets, next_after, IsOneOf, steps-push, prefix_is, among_numbers}
 use Rattle.sc_law_groups.specs.whole.Definitions.{BeginsWell, OrdersAreAllowed, MayQueue, IsHeardAt}
 use Rattle.sc_law_groups.proofs.WholeProofs.Lemmas.{holds, Holds, fewer_orders}
 use Rattle.sc_live_steps.specs.following.Definitions.{AreAt}
@@ -71,8 +71,8 @@ module _ (sources : Sources) (ahead : Ahead) (words : ℕ → ℕ → ℕ × ℕ
   found = groups_are_found sources ahead scenario.groups b.place journal whole.turn
 
   -- all holds of each prefix of the journal
-  pub front : (rows more : Rows) → journal ≡ rows ++ more → All rows
-  front rows more e =
+  pub prefix : (rows more : Rows) → journal ≡ rows ++ more → All rows
+  prefix rows more e =
       holds sources ahead words scenario route b.place b.seats b.asks b.apart b.fresh rows (fewer_orders sources ahead scenario rows more (subst (OrdersAreAllowed sources ahead scenario) e orders))
       (lawful-prefix (system_of ahead words scenario) (schedule scenario) rows more (subst (Lawful ahead words scenario) e lawful))
 
@@ -89,7 +89,7 @@ module _ (sources : Sources) (ahead : Ahead) (words : ℕ → ℕ → ℕ × ℕ
 
     -- each log of its steps is a prefix of its log
     pub prefixes : (log : List Command) → IsLog (rule ahead base) (h_of journal base) log → (length log ≤ length (decided_log ahead base journal)) × (take (length log) (decided_log ahead base journal) ≡ log)
-    prefixes = front_is ahead base journal part.lawful
+    prefixes = prefix_is ahead base journal part.lawful
 
     -- mail of first rows is mail of the journal
     pub sent_in : (rows more : Rows) → journal ≡ rows ++ more → (mail : Mail) → Among mail (mails rows) → Among mail (mails journal)
@@ -99,7 +99,7 @@ module _ (sources : Sources) (ahead : Ahead) (words : ℕ → ℕ → ℕ × ℕ
 
     module _ (rows : Rows) (seat : Seat Player) (node : NodeState) (r : ReplicaState) (has : HasReplica ahead scenario journal base rows seat node r) where
       abbrev then_ : All rows
-      then_ = front rows has.more has.front
+      then_ = prefix rows has.more has.prefix
 
       -- the node's number
       number : (n : ℕ) × (1 ≤ n) × (n ≤ scenario.nodes) × (value player_table (node_seat ahead scenario.groups scenario.policy n) rows ≡ Node node)
@@ -130,7 +130,7 @@ module _ (sources : Sources) (ahead : Ahead) (words : ℕ → ℕ → ℕ × ℕ
           let at = then_.kept.nodes number.0 number.1 number.2 in
           let same : at.node ≡ node = one_node at.node (sym at.value_is ∙ number.3) in
           let known = Each-among (λ s. IsOneOf (bases rows) (name_of s)) node.replicas r (subst (λ (x : NodeState). Each (λ s. IsOneOf (bases rows) (name_of s)) x.replicas) same at.is.known) in_list.0 in
-          let later = subst (λ xs. Among known.0 (bases xs)) (sym has.front) ((stay rows has.more has.front).groups known.0 known.1) in
+          let later = subst (λ xs. Among known.0 (bases xs)) (sym has.prefix) ((stay rows has.more has.prefix).groups known.0 known.1) in
           subst (λ x. Among x (bases rows)) (found.apart known.0 base later stands (sym known.2 ∙ draw_is (name_of r) base.core.id in_list.1)) known.1
 
       -- the replica as the steps of these rows say
@@ -144,7 +144,7 @@ module _ (sources : Sources) (ahead : Ahead) (words : ℕ → ℕ → ℕ × ℕ
 
       -- the steps of the later rows
       later_steps : (newer : Steps) × (h_of journal base ≡ newer ++ h_of rows base)
-      later_steps = (let more = more_steps base.core.id rows has.more in (more.0, ap (steps base.core.id) has.front ∙ more.1))
+      later_steps = (let more = more_steps base.core.id rows has.more in (more.0, ap (steps base.core.id) has.prefix ∙ more.1))
 
       -- it is along the group's log
       pub along : (open_slots : ahead.slots ≡ slots_ahead) → IsAlong ahead open_slots base roster (h_of journal base) part.lawful (decided_log ahead base journal) prefixes r

@@ -6,9 +6,9 @@ use Rattle.sc_machine_table.specs.Definitions.{Group, state_after, applied}
 use Rattle.sc_log_entries.specs.Definitions.{birth_of}
 use Rattle.sc_paxos_law.proofs.Lemmas.{Among-left, Among-right}
 use Rattle.sc_sound.specs.Definitions.{children_of}
-use Rattle.sc_live_journals.proofs.LogsProofs.Journals.{front}
+use Rattle.sc_live_journals.proofs.LogsProofs.Journals.{prefix}
 
-pub child_in : (group : Group) (front : List Command) (c : Command) (child : Base) → birth_of (state_after group front) c (applied (state_after group front) c).1 ≡ Some child → Among child (children_of group (front ++ c ∷ []))
+pub child_in : (group : Group) (prefix : List Command) (c : Command) (child : Base) → birth_of (state_after group prefix) c (applied (state_after group prefix) c).1 ≡ Some child → Among child (children_of group (prefix ++ c ∷ []))
 child_in group [] c child e = Among-left child (option_to_list (birth_of group c (applied group c).1)) [] (subst (λ o. Among child (option_to_list o)) (sym e) (inl refl))
-child_in group (d ∷ front) c child e =
-    Among-right child (option_to_list (birth_of group d (applied group d).1)) (children_of (applied group d).0 (front ++ c ∷ [])) (child_in (applied group d).0 front c child e)
+child_in group (d ∷ prefix) c child e =
+    Among-right child (option_to_list (birth_of group d (applied group d).1)) (children_of (applied group d).0 (prefix ++ c ∷ [])) (child_in (applied group d).0 prefix c child e)

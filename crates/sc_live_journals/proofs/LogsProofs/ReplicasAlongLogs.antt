@@ -147,11 +147,11 @@ module _ (ahead : Ahead) (open_slots : ahead.slots ≡ slots_ahead) (base : Base
     abbrev pub IsPast : ReplicaState → Type 0
     IsPast q = IsAlong q × (next q ≡ next r + 1) × (q.running ≡ true → q.group.core.gone ≡ None)
 
-    past : (acts calls : List Command) (more : List Mail)
-        → IsPast (looked (left (landed true (next r) c (welcomed true (members r) (learnt_to true (members r) (next r) c (record (entered c r) { acts = acts; calls = calls }, more)))))).0
+    past : (acts backlog : List Command) (more : List Mail)
+        → IsPast (looked (left (landed true (next r) c (welcomed true (members r) (learnt_to true (members r) (next r) c (record (entered c r) { acts = acts; backlog = backlog }, more)))))).0
     unfolding ended
-    past acts calls more =
-        let here : ReplicaState = record (entered c r) { acts = acts; calls = calls } in
+    past acts backlog more =
+        let here : ReplicaState = record (entered c r) { acts = acts; backlog = backlog } in
         let told : Place = welcomed true (members r) (learnt_to true (members r) (next r) c (here, more)) in
         let over : ReplicaState = record here { leader = without_flight_at (next r) here.leader; ready = without_slot here.ready (next r) } in
         let landed_there : landed true (next r) c told ≡ (over, told.1) =
@@ -166,11 +166,11 @@ module _ (ahead : Ahead) (open_slots : ahead.slots ≡ slots_ahead) (base : Base
     one_past mails =
         announced_keeps (name_of r)
         (λ place. IsPast (looked (left (landed true (next r) c (welcomed true (members r) (learnt_to true (members r) (next r) c (spoken true (before_of r.group.core) (applied r.group c).1 c place)))))).0) (entered c r) mails
-        (λ acts calls more same.
-        let q : ReplicaState = record (entered c r) { acts = acts; calls = calls } in
+        (λ acts backlog more same.
+        let q : ReplicaState = record (entered c r) { acts = acts; backlog = backlog } in
         let said : Place = spoken true (before_of r.group.core) (applied r.group c).1 c (q, more) in
         subst (λ (x : ReplicaState). IsPast (looked (left (landed true (next r) c (welcomed true (members r) (learnt_to true (members r) (next r) c (x, said.1)))))).0)
-        (sym (spoken_same (name_of r) 0 (before_of r.group.core) (applied r.group c).1 c q more).0) (past acts calls said.1))
+        (sym (spoken_same (name_of r) 0 (before_of r.group.core) (applied r.group c).1 c q more).0) (past acts backlog said.1))
         (applied r.group c).1 c
 
     one_along : (mails : List Mail) → IsAlong (executed_one true c (r, mails)).0

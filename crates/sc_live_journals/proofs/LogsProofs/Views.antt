@@ -17,7 +17,7 @@ in_player name (Client client) r e = cc
 
 -- What is seen of the group at a player, after any rows of the journal, is a replica of a node.
 pub views_are_replicas : ViewsAreReplicas
-views_are_replicas ahead words scenario journal base group rows more front who r view = by (find (λ (seat : Seat Player). eqb seat.who who) (births ahead scenario)) refl view
+views_are_replicas ahead words scenario journal base group rows more prefix who r view = by (find (λ (seat : Seat Player). eqb seat.who who) (births ahead scenario)) refl view
   where
     by : (o : Option (Seat Player)) → find (λ (seat : Seat Player). eqb seat.who who) (births ahead scenario) ≡ o → replica_in base.core.id rows o ≡ Some r
         → (seat : Seat Player) × (node : NodeState) × HasReplica ahead scenario journal base rows seat node r × (seat.who ≡ who)
@@ -29,7 +29,7 @@ views_are_replicas ahead words scenario journal base group rows more front who r
           at.0,
           record {
             more = more;
-            front = front;
+            prefix = prefix;
             seated = ap (λ n. find (λ (other : Seat Player). eqb other.who n) (births ahead scenario)) mine ∙ found;
             is = at.1;
             here = at.2;

@@ -3,7 +3,7 @@ use Rattle.std.proofs.Common.{◌≡◌, ℕ, ◌+◌, nat_le, cond, [], ◌∷�
 use Rattle.sc_base.specs.Definitions.{Each}
 use Rattle.sc_node_table.specs.Values.{Draw, Op, OrderLine, Input, Got, AnswerBody, Mail, MailBody, Answer}
 use Rattle.sc_actor.specs.declared.rows.Input.TheVariants.{Tick, Go, Told}
-use Rattle.sc_lookup.specs.Definitions.{target_in, preferring, passed_on, told_not_mine, told_gone}
+use Rattle.sc_lookup.specs.Definitions.{target_in, preferring, passed_on, learnt_from_not_mine, learnt_from_gone}
 use Rattle.sc_mail.specs.declared.bodies.AnswerBody.TheVariants as Says
 use Rattle.sc_client_table.specs.Definitions.{Client, waiting_request, ClientStep, request_of, asked_of, sent_to, sent_where, chosen_for, request_sent, started, client_ticked, waits_for, was_asked, redirected, answer_taken, got, table}
 use Rattle.sc_law_walks.proofs.Lemmas.{either_way}
@@ -43,8 +43,8 @@ module _ (me : ℕ) where
   redirects : (group : Draw) (answer : AnswerBody) (client : Client) → client.me ≡ me → Asks (redirected group answer client)
   redirects group (Says.NotLeader (Some hint)) client k = asked_to group (record client { known = preferring group hint client.known }) k
   redirects group (Says.NotLeader None) client k = asked_to group (record client { known = passed_on group client.known }) k
-  redirects group (Says.NotMine arc succ) client k = asked_on (record client { known = told_not_mine group arc succ client.known }) k
-  redirects group (Says.Gone into) client k = asked_on (record client { known = told_gone group into client.known }) k
+  redirects group (Says.NotMine arc succ) client k = asked_on (record client { known = learnt_from_not_mine group arc succ client.known }) k
+  redirects group (Says.Gone into) client k = asked_on (record client { known = learnt_from_gone group into client.known }) k
   redirects group (Says.Value reply) client k = (k, tt)
   redirects group (Says.Stale last) client k = (k, tt)
 

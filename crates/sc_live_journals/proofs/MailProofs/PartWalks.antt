@@ -77,17 +77,17 @@ module _ (w : PartWalk) where
     readied = λ slot command r on low k. (k.0, w.readied slot command (part r) low k.1);
     promised = λ ballot r good top t k. (k.0, w.promised ballot (part r) good k.1);
     accepted = λ report r good top t k. (k.0, w.accepted report (part r) good k.1);
-    back = λ command r on k. back_any (At w.Early) (λ x acts calls p. p) command r k;
+    back = λ command r on k. back_any (At w.Early) (λ x acts backlog p. p) command r k;
     filed = λ act r on good f k. k;
     ordered = λ order r on good k. k;
     requested = λ client seq op r on e k. k;
     requested_again = λ client seq other op r on e f k. k;
     unfiled = λ act acts r on e k. k;
-    uncalled = λ command calls r on e k. k;
+    uncalled = λ command backlog r on e k. k;
     must_found = λ slot command r e k. tt;
     noop_found = tt;
     act_found = λ act acts r e k. tt;
-    call_found = λ command calls r e k. tt;
+    call_found = λ command backlog r e k. tt;
     flown = λ slot command r on near good k. (k.0, w.flown slot command (part r) near k.1);
   }
 

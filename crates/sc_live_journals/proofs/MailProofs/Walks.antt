@@ -1,7 +1,7 @@
 -- What a law says of replicas and of the mail that they send, as one walk through their table takes it: what it is that holds before a row and after it, and that each part of a row keeps it.
 use Rattle.std.proofs.Common.{◌≡◌, ℕ, ◌+◌, ◌-◌, ◌<◌, ◌≤◌, true, List, [], ◌∷◌, Option, Some}
 use Rattle.sc_base.specs.Definitions.{Each, client_actor}
-use Rattle.sc_node_table.specs.Values.{Ballot, Draw, Offer, Watch, Command, Base, ToldResult, Outcome, Past, Vote, AnswerBody, MailBody, Answer, Prepare, Promise, Accept, Accepted, Nack, Learn, Ask, Install, TxPrepare, TxVote, TxOutcome, TxElsewhere, TxWatch, TxWatched, Told, Report}
+use Rattle.sc_node_table.specs.Values.{Ballot, Draw, Offer, Watch, Command, Base, OrderResult, Outcome, Past, Vote, AnswerBody, MailBody, Answer, Prepare, Promise, Accept, Accepted, Nack, Learn, Ask, Install, TxPrepare, TxVote, TxOutcome, TxElsewhere, TxWatch, TxWatched, Told, Report}
 use Rattle.sc_machine_table.specs.Definitions.{Group, group_of, base_of, applied}
 use Rattle.sc_paxos_words.specs.Definitions.{AcceptorState, born_acceptor, reports_from, after_promise, after_accept, after_cut, below, LeaderState, first_leader, new_leader, promise_counted, with_flight_at, without_flight_at, LogState, empty_log, installed, entry_at, log_cut, next_of, counted}
 use Rattle.sc_node_table.specs.Definitions.{with_entry, named, ReplicaState, first_ballot, floor_of, slots_ahead, at_slot, with_slot, without_slot}
@@ -77,7 +77,7 @@ pub record PartWalk : Type 1 where
   pub counts : (from : ℕ) (ballot : Ballot) (slot : ℕ) (set : List ℕ) (p : Part) → Early p → Early (record p { leader = (counted from ballot slot set p.leader).1 })
   pub flown : (slot : ℕ) (command : Command) (p : Part) → slot < next_in p + slots_ahead → Late p → Late (record p { leader = with_flight_at slot command p.leader })
   -- what it says
-  pub tells : (number : ℕ) (result : ToldResult) → Says 0 (Told number result)
+  pub tells : (number : ℕ) (result : OrderResult) → Says 0 (Told number result)
   pub answers : (client : ℕ) (group : Draw) (seq : ℕ) (answer : AnswerBody) → Says (client_actor client) (Answer group seq answer)
   pub asks : (to slot : ℕ) (command : Command) (p : Part) → slot < next_in p + slots_ahead → Late p → Says to (Accept (named_in p) p.leader.ballot slot command)
   pub polls : (to : ℕ) (p : Part) → Early p → Says to (Prepare (named_in p) (record { round = p.top.round + 1; node = me }) (next_in p))

@@ -3,14 +3,14 @@ use Rattle.std.proofs.Common.{◌≡◌, ℕ, ◌+◌, ◌-◌, ◌^◌, ◌≤�
 use Rattle.std.specs.Prelude.{is_some}
 use Rattle.std.specs.List.{list_any}
 use Rattle.std.proofs.lemmas.Bool.{cond-true, cond-false, eq-eqb, le-ltb}
-use Rattle.sc_node_table.specs.Values.{Command, Noop, Effect, Route, ToldResult, AnswerBody, Ask, Learn, Must, Gap}
+use Rattle.sc_node_table.specs.Values.{Command, Noop, Effect, Route, OrderResult, AnswerBody, Ask, Learn, Must, Gap}
 use Rattle.sc_mail.specs.declared.bodies.AnswerBody.TheVariants as Says
 use Rattle.sc_base.specs.Definitions.{is_member, least_of}
 use Rattle.sc_machine_table.specs.Definitions.{applied}
 use Rattle.sc_paxos_words.specs.declared.answers.Must.TheVariants.{Value, Free as Open}
 use Rattle.sc_paxos_words.specs.Definitions.{must}
 use Rattle.sc_node_table.specs.declared.Before.{Before}
-use Rattle.sc_node_table.specs.Definitions.{elected, ended, stopped, entered, order_result, told_effect, announced, learnt_to, welcomed, landed, left_gone, left, is_among, looked_for, looked, executed_one, has_room, next_ready, executed, sent, Found, is_act, from_calls, from_acts, from_queues, found_by, found_for, offered, pumped_from, pumped, put_back, ReplicaState, Place, Executed, childless, name_of, next, members, settled, may_offer, taken_at, under_way, is_idle, last_slot, forgotten, learn_row, mailed, at_slot, without_slot, before_of, spoken}
+use Rattle.sc_node_table.specs.Definitions.{elected, ended, stopped, entered, order_result, effect_reported, announced, learnt_to, welcomed, landed, left_gone, left, is_among, looked_for, looked, executed_one, has_room, next_ready, executed, sent, Found, is_act, from_backlog, from_acts, from_queues, found_by, found_for, offered, pumped_from, pumped, put_back, ReplicaState, Place, Executed, childless, name_of, next, members, settled, may_offer, taken_at, under_way, is_idle, last_slot, forgotten, learn_row, mailed, at_slot, without_slot, before_of, spoken}
 use Rattle.sc_law_walks.proofs.Lemmas.{executed_place, landed_place, either_way}
 use Rattle.sc_live_journals.specs.rows.Definitions.{IsPast, LearntEntriesAreExecuted}
 
@@ -30,8 +30,8 @@ module _ (command : Command) (r : ReplicaState) where
   abbrev FoundPast : Found → Type 0
   FoundPast found = Past found.1
 
-  calls_past : (place : Place) → Past place → FoundPast (from_calls place)
-  unfolding from_calls
+  calls_past : (place : Place) → Past place → FoundPast (from_backlog place)
+  unfolding from_backlog
   calls_past (q, mails) k = record { group_is = k.group_is; sets_are = k.sets_are; me_is = k.me_is; ready_is = k.ready_is }
 
   acts_past : (acts : List Command) (place : Place) → Past place → FoundPast (from_acts acts place)
@@ -74,8 +74,8 @@ module _ (command : Command) (r : ReplicaState) where
 
   -- ---- the parts of an entry
 
-  effect_past : (result : Option ToldResult) (place : Place) → Past place → Past (told_effect result command place)
-  unfolding told_effect
+  effect_past : (result : Option OrderResult) (place : Place) → Past place → Past (effect_reported result command place)
+  unfolding effect_reported
   effect_past None place k = k
   effect_past (Some result) (q, mails) k = k
 

@@ -5,7 +5,7 @@ use Rattle.sc_node_table.specs.Values.{Ballot, Draw, Op, Offer, Watch, Command, 
 use Rattle.sc_cmd.specs.declared.votes.Past.TheVariants as Cast
 use Rattle.sc_cmd.specs.declared.votes.Vote.TheVariants as Vows
 use Rattle.sc_paxos_words.specs.Definitions.{below}
-use Rattle.sc_node_table.specs.Definitions.{has_act, with_act, act_queued, stopped, saw, sent, ordered_command, untaken, taken_or_told, ordered_row, pumped, call_of, without_call, ReplicaState, Place, name_of, next, settled, refused_at, queued, requested, request_row, mailed, asked_next, noted_outcome, standing_vote, sent_elsewhere, offered_by, offer_row, watched_by, watch_row, awaits_vote, awaits_watch, vote_queued, vote_met, vote_row, watch_queued, watch_met, watched_row, elsewhere_row, is_bound, outcome_row, nack_row}
+use Rattle.sc_node_table.specs.Definitions.{has_act, with_act, act_queued, stopped, saw, sent, ordered_command, untaken, queued_or_refused, ordered_row, pumped, queued_number, without_request, ReplicaState, Place, name_of, next, settled, refused_at, queued, requested, request_row, mailed, asked_next, noted_outcome, standing_vote, sent_elsewhere, offered_by, offer_row, watched_by, watch_row, awaits_vote, awaits_watch, vote_queued, vote_met, vote_row, watch_queued, watch_met, watched_row, elsewhere_row, is_bound, outcome_row, nack_row}
 use Rattle.sc_law_walks.specs.Definitions.{GoesOn}
 use Rattle.sc_law_walks.proofs.Lemmas.{idle_pump, either_way}
 use Rattle.sc_live_steps.specs.following.Definitions.{IsAside}
@@ -23,8 +23,8 @@ module _ (r : ReplicaState) (other : Draw) where
     quiet : AreQuiet other place.1
 
   -- what is kept stays so with other queues, or another ballot seen
-  with_queues : (q : ReplicaState) (mails : List Mail) (acts calls : List Command) (top : Ballot) → Keeps (q, mails) → Keeps (record q { acts = acts; calls = calls; top = top }, mails)
-  with_queues q mails acts calls top k = record { next_is = k.next_is; promise_is = k.promise_is; off = k.off; hint_is = k.hint_is; quiet = k.quiet }
+  with_queues : (q : ReplicaState) (mails : List Mail) (acts backlog : List Command) (top : Ballot) → Keeps (q, mails) → Keeps (record q { acts = acts; backlog = backlog; top = top }, mails)
+  with_queues q mails acts backlog top k = record { next_is = k.next_is; promise_is = k.promise_is; off = k.off; hint_is = k.hint_is; quiet = k.quiet }
 
   with_mails : (q : ReplicaState) (mails more : List Mail) → Keeps (q, mails) → AreQuiet other more → Keeps (q, more)
   with_mails q mails more k quiet = record { next_is = k.next_is; promise_is = k.promise_is; off = k.off; hint_is = k.hint_is; quiet = quiet }
@@ -35,7 +35,7 @@ module _ (r : ReplicaState) (other : Draw) where
   act_keeps : (act : Command) (place : Place) → Keeps place → Keeps (act_queued act place)
   unfolding act_queued
   act_keeps act (q, mails) k =
-      pumped_keeps (with_act act q, mails) (either_way (λ (x : ReplicaState). Keeps (x, mails)) (has_act act q) q (record q { acts = q.acts ++ act ∷ [] }) k (with_queues q mails (q.acts ++ act ∷ []) q.calls q.top k))
+      pumped_keeps (with_act act q, mails) (either_way (λ (x : ReplicaState). Keeps (x, mails)) (has_act act q) q (record q { acts = q.acts ++ act ∷ [] }) k (with_queues q mails (q.acts ++ act ∷ []) q.backlog q.top k))
 
   one_more : (q : ReplicaState) (mails : List Mail) (to : ℕ) (body : MailBody) → Keeps (q, mails) → ((name : Draw) → wide_mark name q.me body ≡ None) → Keeps (q, sent q.me to body mails)
   one_more q mails to body k none = with_mails q mails (sent q.me to body mails) k (one_sent other q.me to body mails (λ name f. none name) k.quiet)
@@ -44,15 +44,15 @@ module _ (r : ReplicaState) (other : Draw) where
 
   queued_keeps : (o : Option ℕ) (client seq : ℕ) (op : Op) (place : Place) → Keeps place → Keeps (queued o client seq op place)
   unfolding queued
-  queued_keeps None client seq op (q, mails) k = pumped_keeps (record q { calls = q.calls ++ Call client seq op ∷ [] }, mails) (with_queues q mails q.acts (q.calls ++ Call client seq op ∷ []) q.top k)
+  queued_keeps None client seq op (q, mails) k = pumped_keeps (record q { backlog = q.backlog ++ Call client seq op ∷ [] }, mails) (with_queues q mails q.acts (q.backlog ++ Call client seq op ∷ []) q.top k)
   queued_keeps (Some seen) client seq op (q, mails) k =
-      either_way Keeps (nat_le seq seen) (q, mails) (pumped (record q { calls = without_call q.calls client ++ Call client seq op ∷ [] }, mails)) k
-      (pumped_keeps (record q { calls = without_call q.calls client ++ Call client seq op ∷ [] }, mails) (with_queues q mails q.acts (without_call q.calls client ++ Call client seq op ∷ []) q.top k))
+      either_way Keeps (nat_le seq seen) (q, mails) (pumped (record q { backlog = without_request q.backlog client ++ Call client seq op ∷ [] }, mails)) k
+      (pumped_keeps (record q { backlog = without_request q.backlog client ++ Call client seq op ∷ [] }, mails) (with_queues q mails q.acts (without_request q.backlog client ++ Call client seq op ∷ []) q.top k))
 
   requested_keeps : (o : Option AnswerBody) (client seq : ℕ) (op : Op) (place : Place) → Keeps place → Keeps (requested o client seq op place)
   unfolding requested
   requested_keeps (Some answer) client seq op (q, mails) k = one_more q mails (client_actor client) (Answer (name_of q) seq answer) k (λ name. refl)
-  requested_keeps None client seq op (q, mails) k = queued_keeps (call_of q.calls client) client seq op (q, mails) k
+  requested_keeps None client seq op (q, mails) k = queued_keeps (queued_number q.backlog client) client seq op (q, mails) k
 
   request_keeps : (client seq : ℕ) (op : Op) (place : Place) → Keeps place → Keeps (request_row client seq op place)
   unfolding request_row
@@ -122,14 +122,14 @@ module _ (r : ReplicaState) (other : Draw) where
   nack_keeps ballot q mails goes k = by (below q.top ballot)
     where
       by : (b : Bool) → Keeps (cond {A = Place} (q.running && below q.leader.ballot ballot) (stopped (Some ballot.node) (cond b (record q { top = ballot }) q, mails)) (cond b (record q { top = ballot }) q, mails))
-      by true = subst (λ c. Keeps (cond {A = Place} c (stopped (Some ballot.node) (record q { top = ballot }, mails)) (record q { top = ballot }, mails))) (sym goes) (with_queues q mails q.acts q.calls ballot k)
+      by true = subst (λ c. Keeps (cond {A = Place} c (stopped (Some ballot.node) (record q { top = ballot }, mails)) (record q { top = ballot }, mails))) (sym goes) (with_queues q mails q.acts q.backlog ballot k)
       by false = subst (λ c. Keeps (cond {A = Place} c (stopped (Some ballot.node) (q, mails)) (q, mails))) (sym goes) k
 
   -- ---- orders
 
-  told_keeps : (o : Option OrderRefusal) (number : ℕ) (command : Command) (place : Place) → Keeps place → Keeps (taken_or_told o number command place)
+  told_keeps : (o : Option OrderRefusal) (number : ℕ) (command : Command) (place : Place) → Keeps place → Keeps (queued_or_refused o number command place)
   told_keeps (Some why) number command (q, mails) k = one_more q mails 0 (Told number (Refused why)) k (λ name. refl)
-  told_keeps None number command (q, mails) k = pumped_keeps (record q { calls = q.calls ++ command ∷ [] }, mails) (with_queues q mails q.acts (q.calls ++ command ∷ []) q.top k)
+  told_keeps None number command (q, mails) k = pumped_keeps (record q { backlog = q.backlog ++ command ∷ [] }, mails) (with_queues q mails q.acts (q.backlog ++ command ∷ []) q.top k)
 
   order_keeps : (drawer : Drawer) (line : OrderLine) (place : Place) → Keeps place → Keeps (ordered_row drawer line place)
   unfolding ordered_row

@@ -76,17 +76,17 @@ module _ (me : ℕ) where
     readied = λ slot command r on good k. k;
     promised = λ ballot r good top t k. k;
     accepted = λ report r good top t k. k;
-    back = λ command r on k. back_any (λ x. RunsAlone x) (λ x acts calls p. p) command r k;
+    back = λ command r on k. back_any (λ x. RunsAlone x) (λ x acts backlog p. p) command r k;
     filed = λ act r on good f k. k;
     ordered = λ order r on good k. k;
     requested = λ client seq op r on e k. k;
     requested_again = λ client seq other op r on e f k. k;
     unfiled = λ act acts r on e k. k;
-    uncalled = λ command calls r on e k. k;
+    uncalled = λ command backlog r on e k. k;
     must_found = λ slot command r e k. tt;
     noop_found = tt;
     act_found = λ act acts r e k. tt;
-    call_found = λ command calls r e k. tt;
+    call_found = λ command backlog r e k. tt;
     flown = λ slot command r on near good k. k;
   }
 

@@ -11,7 +11,7 @@ use Rattle.sc_actor.specs.declared.rows.Input.TheVariants.{Go as GoInput, Told a
 use Rattle.sc_actor.specs.Definitions.{mails, numbered, value, acted, input_of}
 use Rattle.sc_client_table.specs.Definitions.{Client as ClientState}
 use Rattle.sc_paxos_words.proofs.Lemmas.{find_found}
-use Rattle.sc_node_table.specs.Definitions.{told_desk, NodeState, replica_of, with_replica, with_new, group_of_mail, with_made, unknown, may_come, taken_by, routed, on_mail, group_of_order, ordered_of, on_order, absent, with_children, ordered_row, ReplicaState, Place, Executed, name_of, last_slot, mailed, made_by, slots_ahead}
+use Rattle.sc_node_table.specs.Definitions.{result_sent, NodeState, replica_of, with_replica, with_new, group_of_mail, with_made, unknown, may_come, taken_by, routed, on_mail, group_of_order, ordered_of, on_order, absent, with_children, ordered_row, ReplicaState, Place, Executed, name_of, last_slot, mailed, made_by, slots_ahead}
 use Rattle.sc_law_walks.proofs.Lemmas.{either_way}
 use Rattle.sc_sound.specs.Definitions.{Player, player_table}
 use Rattle.sc_live_steps.specs.calm.Definitions.{Rows}
@@ -166,8 +166,8 @@ missed_leaves name from body node none named here =
 
 -- ---- orders
 
-refused_marks : (name : Draw) (who me number : ℕ) → marks_for name who (told_desk me number (Refused (NotLeader None)) []) ≡ []
-refused_marks name who me number = none_marked name who (told_desk me number (Refused (NotLeader None)) []) (refl, tt)
+refused_marks : (name : Draw) (who me number : ℕ) → marks_for name who (result_sent me number (Refused (NotLeader None)) []) ≡ []
+refused_marks name who me number = none_marked name who (result_sent me number (Refused (NotLeader None)) []) (refl, tt)
 
 -- an order for another group leaves the replica of this one, and its mail no mark
 abbrev OrdersLeave : Draw → NodeState → NodeState × List Mail → Type 0
@@ -217,7 +217,7 @@ others_idle = record {
       (let step = order_other base.core.id line node ne (replica_of (group_of_order line.order) node.replicas) refl in
       alone_by births rows seat (Told line) born (Node node) is (Some (ToldInput line)) refl base refl step.0 step.1);
   refused = λ births rows seat line base node born is none.
-      (let stays : on_order line node ≡ (node, told_desk node.me line.number (Refused (NotLeader None)) []) = ap (λ o. ordered_of o line node) none in
+      (let stays : on_order line node ≡ (node, result_sent node.me line.number (Refused (NotLeader None)) []) = ap (λ o. ordered_of o line node) none in
       alone_by births rows seat (Told line) born (Node node) is (Some (ToldInput line)) refl base refl
       (ap (λ (step : NodeState × List Mail). replica_of base.core.id step.0.replicas) stays)
       (λ who. ap (λ (step : NodeState × List Mail). marks_for base.core.id who step.1) stays ∙ refused_marks base.core.id who node.me line.number));

@@ -77,7 +77,7 @@ parts me = record {
   promised = λ ballot r top t k. k;
   accepted = λ report r top t k. k;
   flown = λ slot command r on near k. k;
-  queues = λ r acts calls k. k;
+  queues = λ r acts backlog k. k;
   waited = λ waits r k. k;
 }
 

@@ -1,7 +1,7 @@
 -- What is sent leaves no mark for another group than its sender's: mail that stays so whatever is put behind it.
 use Rattle.std.proofs.Common.{◌≡◌, ℕ, eqb, Bool, false, cond, List, [], ◌∷◌, Option, Some, None, refl, ◌∙◌, ap}
 use Rattle.sc_base.specs.Definitions.{Each, client_actor, same_draw, least_of}
-use Rattle.sc_node_table.specs.Values.{Draw, Body, Offer, Watch, Command, Call, Split, Begin, Prepared, RecordVote, GiveUp, Watched, RecordWatch, Core, Lock, Free, Coordinating, Promised, Watching, Effect, Link, ToldResult, Heard, Outcome, Past, Vote, AnswerBody, Mail, MailBody, Request, Answer, Prepare, Promise, Accept, Accepted, Nack, Learn, Ask, Install, TxPrepare, TxVote, TxOutcome, TxWatched, Told}
+use Rattle.sc_node_table.specs.Values.{Draw, Body, Offer, Watch, Command, Call, Split, Begin, Prepared, RecordVote, GiveUp, Watched, RecordWatch, Core, Lock, Free, Coordinating, Promised, Watching, Effect, Link, OrderResult, Heard, Outcome, Past, Vote, AnswerBody, Mail, MailBody, Request, Answer, Prepare, Promise, Accept, Accepted, Nack, Learn, Ask, Install, TxPrepare, TxVote, TxOutcome, TxWatched, Told}
 use Rattle.sc_cmd.specs.declared.bodies.Body.TheVariants as At
 use Rattle.sc_cmd.specs.declared.votes.Outcome.TheVariants as Is
 use Rattle.sc_cmd.specs.declared.votes.Past.TheVariants as Cast
@@ -9,9 +9,9 @@ use Rattle.sc_cmd.specs.declared.votes.Vote.TheVariants as Says
 use Rattle.sc_cmd.specs.Definitions.{decided_in, cast_in, is_changed}
 use Rattle.sc_machine_table.specs.Definitions.{Group, frozen_of}
 use Rattle.sc_paxos_words.proofs.Lemmas.{Each-append}
-use Rattle.sc_policy.specs.Definitions.{is_told}
+use Rattle.sc_policy.specs.Definitions.{is_reported}
 use Rattle.sc_node_table.specs.declared.Before.{Before}
-use Rattle.sc_node_table.specs.Definitions.{sent, sent_all, sent_others, answered, answered_all, told_desk, told_order, dismissed, dismissed_all, offer_of, question, asked_first, asked_link, voted_to, watched_to, told_outcome, next_asked, asked_next, begun_result, spoken_number, told_result, told_begun, asked_on, begun_asks, vote_sent, watch_sent, aborted_to, aborted_watcher, given_up_by, vote_answered, released_to, watch_answered_by, went_on, spoken_mails}
+use Rattle.sc_node_table.specs.Definitions.{sent, sent_all, sent_others, answered, answered_all, result_sent, order_reported, dismissed, dismissed_all, offer_of, question, asked_first, asked_link, voted_to, watched_to, outcome_sent, next_asked, asked_next, begun_result, spoken_number, result_reported, begun_reported, asked_on, begun_asks, vote_sent, watch_sent, aborted_to, aborted_watcher, given_up_by, vote_answered, released_to, watch_answered_by, went_on, spoken_mails}
 use Rattle.sc_law_walks.proofs.Lemmas.{either_way}
 use Rattle.sc_live_steps.specs.following.Definitions.{Mark, Tells, named_mark, mark_of}
 
@@ -71,9 +71,9 @@ module _ (name : Draw) where
 
   -- ---- clients and the desk
 
-  pub desk_reported : (me number : ℕ) (result : ToldResult) (mails : List Mail) → AreQuiet name mails → AreQuiet name (told_order me number result mails)
-  unfolding told_order
-  desk_reported me number result mails m = either_way (AreQuiet name) (is_told number) (told_desk me number result mails) mails (one_sent me 0 (Told number result) mails (λ other f. refl) m) m
+  pub desk_reported : (me number : ℕ) (result : OrderResult) (mails : List Mail) → AreQuiet name mails → AreQuiet name (order_reported me number result mails)
+  unfolding order_reported
+  desk_reported me number result mails m = either_way (AreQuiet name) (is_reported number) (result_sent me number result mails) mails (one_sent me 0 (Told number result) mails (λ other f. refl) m) m
 
   pub one_answered : (me : ℕ) (group : Draw) (answer : AnswerBody) (command : Command) (mails : List Mail) → AreQuiet name mails → AreQuiet name (answered me group answer command mails)
   unfolding answered
@@ -156,7 +156,7 @@ module _ (name : Draw) where
   given_up_said None me before tx mails m = m
   given_up_said (Some outcome) me before tx mails m = watcher_said me tx before.heard (aborted_to me tx before.succ mails) (aborted_said me tx before.succ mails m)
 
-  pub outcome_said : (me node : ℕ) (tx part : Draw) (outcome : Outcome) (mails : List Mail) → AreQuiet name mails → AreQuiet name (told_outcome me node tx part outcome mails)
+  pub outcome_said : (me node : ℕ) (tx part : Draw) (outcome : Outcome) (mails : List Mail) → AreQuiet name mails → AreQuiet name (outcome_sent me node tx part outcome mails)
   outcome_said me node tx part outcome mails m = one_sent me node (TxOutcome tx part outcome) mails (λ other f. refl) m
 
   vote_replied : (o : Option Outcome) (vote : Vote) (me : ℕ) (before : Before) (tx : Draw) (by : ℕ) (mails : List Mail) → AreQuiet name mails → AreQuiet name (vote_answered o vote me before tx by mails)
@@ -167,7 +167,7 @@ module _ (name : Draw) where
   released_said : (o : Option (ℕ × Link)) (me : ℕ) (succ : Link) (tx : Draw) (by : ℕ) (outcome : Outcome) (mails : List Mail) → AreQuiet name mails → AreQuiet name (released_to o me succ tx by outcome mails)
   released_said None me succ tx by outcome mails m = outcome_said me by tx succ.group outcome mails m
   released_said (Some heard) me succ tx by outcome mails m =
-      outcome_said me by tx heard.1.group outcome (told_outcome me heard.0 tx succ.group outcome mails) (outcome_said me heard.0 tx succ.group outcome mails m)
+      outcome_said me by tx heard.1.group outcome (outcome_sent me heard.0 tx succ.group outcome mails) (outcome_said me heard.0 tx succ.group outcome mails m)
 
   watch_replied : (o : Option Outcome) (vote : Past) (me : ℕ) (before : Before) (tx : Draw) (by : ℕ) (mails : List Mail) → AreQuiet name mails → AreQuiet name (watch_answered_by o vote me before tx by mails)
   watch_replied None vote me before tx by mails m = m
@@ -186,11 +186,11 @@ module _ (name : Draw) where
   went_quiet me group before effect (RecordWatch tx vote by) mails m = watch_replied (decided_in effect) vote me before tx by mails m
   went_quiet me group before effect _ mails m = m
 
-  begun_quiet : (me : ℕ) (before : Before) (effect : Effect) (command : Command) (mails : List Mail) → AreQuiet name mails → AreQuiet name (told_begun me before effect command mails)
-  unfolding told_begun
+  begun_quiet : (me : ℕ) (before : Before) (effect : Effect) (command : Command) (mails : List Mail) → AreQuiet name mails → AreQuiet name (begun_reported me before effect command mails)
+  unfolding begun_reported
   begun_quiet me before effect command mails m = by (begun_result before.alone effect command)
     where
-      by : (o : Option ToldResult) → AreQuiet name (told_result me o (spoken_number before.order command) mails)
+      by : (o : Option OrderResult) → AreQuiet name (result_reported me o (spoken_number before.order command) mails)
       by None = m
       by (Some result) = desk_reported me (spoken_number before.order command) result mails m
 
@@ -198,5 +198,5 @@ module _ (name : Draw) where
   pub spoken_quiet : (counted : Bool) (me : ℕ) (group : Group) (before : Before) (effect : Effect) (command : Command) (mails : List Mail) → AreQuiet name mails → AreQuiet name (spoken_mails counted me group before effect command mails)
   unfolding spoken_mails
   spoken_quiet counted me group before effect command mails m =
-      either_way (AreQuiet name) counted (went_on me group before effect command (told_begun me before effect command mails)) (told_begun me before effect command mails)
-      (went_quiet me group before effect command (told_begun me before effect command mails) (begun_quiet me before effect command mails m)) (begun_quiet me before effect command mails m)
+      either_way (AreQuiet name) counted (went_on me group before effect command (begun_reported me before effect command mails)) (begun_reported me before effect command mails)
+      (went_quiet me group before effect command (begun_reported me before effect command mails) (begun_quiet me before effect command mails m)) (begun_quiet me before effect command mails m)

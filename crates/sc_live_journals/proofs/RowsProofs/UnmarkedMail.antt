@@ -7,7 +7,7 @@ use Rattle.sc_node_table.specs.Values.{Draw, Op, OrderLine, AnswerBody, Mail, Ma
 use Rattle.sc_mail.specs.declared.bodies.AnswerBody.TheVariants as Says
 use Rattle.sc_actor.specs.declared.rows.Input.TheVariants.{Tick, Go, Told}
 use Rattle.sc_client_table.specs.Definitions.{Client, waiting_request, ClientStep, asked_of, sent_to, sent_where, chosen_for, request_sent, started, client_ticked, waits_for, was_asked, redirected, answer_taken, got, table}
-use Rattle.sc_lookup.specs.Definitions.{target_in, preferring, passed_on, told_not_mine, told_gone}
+use Rattle.sc_lookup.specs.Definitions.{target_in, preferring, passed_on, learnt_from_not_mine, learnt_from_gone}
 use Rattle.sc_node_table.specs.Definitions.{absent, ordered_row, name_of, mailed}
 use Rattle.sc_law_walks.proofs.Lemmas.{either_way}
 use Rattle.sc_live_steps.specs.following.Definitions.{Mark, mark_of, marks_of, marks_for}
@@ -81,8 +81,8 @@ module _ (name : Draw) where
   redirected_none : (group : Draw) (answer : AnswerBody) (client : Client) → None_ (redirected group answer client)
   redirected_none group (Says.NotLeader (Some hint)) client = to_none group (record client { known = preferring group hint client.known })
   redirected_none group (Says.NotLeader None) client = to_none group (record client { known = passed_on group client.known })
-  redirected_none group (Says.NotMine arc succ) client = sent_none (record client { known = told_not_mine group arc succ client.known })
-  redirected_none group (Says.Gone into) client = sent_none (record client { known = told_gone group into client.known })
+  redirected_none group (Says.NotMine arc succ) client = sent_none (record client { known = learnt_from_not_mine group arc succ client.known })
+  redirected_none group (Says.Gone into) client = sent_none (record client { known = learnt_from_gone group into client.known })
   redirected_none group (Says.Value reply) client = tt
   redirected_none group (Says.Stale last) client = tt
 

@@ -14,7 +14,7 @@ use Rattle.sc_actor.specs.declared.rows.Input.TheVariants.{Told as ToldInput}
 use Rattle.sc_actor.specs.Definitions.{mails, numbered, value, System, row_of, numbers_of}
 use Rattle.sc_live_orderly.specs.Definitions.{IsCalmRow, is_born}
 use Rattle.sc_live_orderly.proofs.Lemmas.{in_time_before, in_time_tidy, last_in_time, TakesFirst, quiet-empty, is_born-from, takes_first}
-use Rattle.sc_node_table.specs.Definitions.{NodeState, replica_of, with_replica, with_children, group_of_mail, may_come, unknown, taken_by, routed, on_mail, absent, group_of_order, ordered_of, told_desk, ordered_row, ReplicaState, Place, Executed, name_of, mailed}
+use Rattle.sc_node_table.specs.Definitions.{NodeState, replica_of, with_replica, with_children, group_of_mail, may_come, unknown, taken_by, routed, on_mail, absent, group_of_order, ordered_of, result_sent, ordered_row, ReplicaState, Place, Executed, name_of, mailed}
 use Rattle.sc_law_walks.proofs.Lemmas.{either_way}
 use Rattle.sc_sound.specs.Definitions.{Player, player_table}
 use Rattle.sc_live_steps.specs.calm.Definitions.{players, Rows}
@@ -211,7 +211,7 @@ module _ (words : ℕ → ℕ → ℕ × ℕ) (births : List (Seat Player)) (qui
   -- where there is none, it is refused
   none_leaves_it : (node : NodeState) → value player_table seat quiet ≡ Node node → (name : Draw) → replica_of group node.replicas ≡ None → Kept name
   none_leaves_it node is name here =
-      node_leaves words births quiet seat told b.seated b.timely node is (node, told_desk node.me line.number (Refused (NotLeader None)) []) (Some (ToldInput line)) refl
+      node_leaves words births quiet seat told b.seated b.timely node is (node, result_sent node.me line.number (Refused (NotLeader None)) []) (Some (ToldInput line)) refl
       (ap (λ (x : NodeState × List Mail). (Node x.0, x.1)) (ap (λ o. ordered_of o line node) here)) name refl ((λ n. absurd (none_some n)), tt)
 
   ordered_leaves : (node : NodeState) → value player_table seat quiet ≡ Node node → (name : Draw) → (name ≡ group → ⊥) → (o : Option ReplicaState) → replica_of group node.replicas ≡ o → Kept name

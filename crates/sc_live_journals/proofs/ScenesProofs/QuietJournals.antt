@@ -49,7 +49,7 @@ module _ (words : ℕ → ℕ → ℕ × ℕ) (births : List (Seat Player)) (nam
 nothing_works : (r : ReplicaState) → HasNothing r → works r ≡ []
 nothing_works r n =
     let w = n.waits n.flights in
-    ap (λ l. l ++ (works_in r.calls ++ (works_flying r.leader.flights ++ works_ready r.ready))) w.0
+    ap (λ l. l ++ (works_in r.backlog ++ (works_flying r.leader.flights ++ works_ready r.ready))) w.0
     ∙ (ap (λ l. l ++ (works_flying r.leader.flights ++ works_ready r.ready)) w.1 ∙ (ap (λ l. works_flying l ++ works_ready r.ready) n.flights ∙ ap works_ready n.ready))
 
 view_works : (o : Option ReplicaState) → ((r : ReplicaState) → o ≡ Some r → r.running ≡ true → HasNothing r) → is_running o ≡ true → works_of o ≡ []
@@ -110,12 +110,12 @@ some_long (y ∷ xs) x is = omega arith
 pub fly_lone : WorksFlyLone
 fly_lone work flight r running unbound one flying readies among slot =
     let acts = works_in r.acts in
-    let calls = works_in r.calls in
+    let backlog = works_in r.backlog in
     let flights = works_flying r.leader.flights in
     let ready = works_ready r.ready in
     let whole : length (works r) ≡ 1 = ap length one in
-    let a = length-append acts (calls ++ (flights ++ ready)) in
-    let b = length-append calls (flights ++ ready) in
+    let a = length-append acts (backlog ++ (flights ++ ready)) in
+    let b = length-append backlog (flights ++ ready) in
     let c = length-append flights ready in
     let f = flights_long r.leader.flights flying in
     let g = ready_long r.ready readies in
@@ -127,7 +127,7 @@ fly_lone work flight r running unbound one flying readies among slot =
       here = slot;
       ready = none_long r.ready (omega (arith, whole, a, b, c, f, g, some));
       acts = none_long acts (omega (arith, whole, a, b, c, f, g, some));
-      calls = none_long calls (omega (arith, whole, a, b, c, f, g, some));
+      backlog = none_long backlog (omega (arith, whole, a, b, c, f, g, some));
     }
 
 -- ---- through a journal

@@ -8,7 +8,7 @@ use Rattle.sc_actor.specs.declared.rows.Event.TheVariants.{Told}
 use Rattle.sc_actor.specs.Definitions.{mails, numbered, value, row_of}
 use Rattle.sc_live_orderly.specs.Definitions.{AreInTime}
 use Rattle.sc_live_orderly.proofs.Lemmas.{last_in_time}
-use Rattle.sc_node_table.specs.Definitions.{NodeState, replica_of, group_of_mail, may_come, absent, unknown, group_of_order, ReplicaState, name_of, mailed, request_row, requested, call_refusal}
+use Rattle.sc_node_table.specs.Definitions.{NodeState, replica_of, group_of_mail, may_come, absent, unknown, group_of_order, ReplicaState, name_of, mailed, request_row, requested, request_refusal}
 use Rattle.sc_sound.specs.Definitions.{Player, player_table, births, as_nodes}
 use Rattle.sc_live_steps.specs.calm.Definitions.{players, Rows}
 use Rattle.sc_live_steps.specs.orders.Definitions.{Unbound, Bound, Errand, Question, Elsewhere, Reply, Result, Answers, Here, IsOnly, IsTaken, Comes, IsUnderWay, IsUnbound, MayFile, bond_of, errand_by, errands_for, is_yes, is_cast_yes}
@@ -34,7 +34,7 @@ module _ (r : ReplicaState) (stopped : r.running ≡ false) where
   unfolding mailed request_row requested
   requests_silent from named client seq op = (tt, λ name none. by name r.group.core.gone r.running stopped)
     where
-      by : (name : Draw) (gone : Option Route) (running : Bool) → running ≡ false → errands_for name (requested (call_refusal gone r.group.core running r.hint op) client seq op (r, [])).1 ≡ []
+      by : (name : Draw) (gone : Option Route) (running : Bool) → running ≡ false → errands_for name (requested (request_refusal gone r.group.core running r.hint op) client seq op (r, [])).1 ≡ []
       by name (Some into) running e = errands-none name r.me (client_actor client) (Answer (name_of r) seq (Says.Gone into)) [] refl
       by name None true e = absurd cc
       by name None false e = errands-none name r.me (client_actor client) (Answer (name_of r) seq (Says.NotLeader r.hint)) [] refl

@@ -10,10 +10,10 @@ use Rattle.sc_actor.specs.declared.rows.Event.TheVariants.{Told as Orders}
 use Rattle.sc_actor.specs.declared.rows.Input.TheVariants.{Tick, Go, Told}
 use Rattle.sc_actor.specs.Definitions.{mails, numbered, value, acted, input_of}
 use Rattle.sc_client_table.specs.Definitions.{Client, waiting_request, ClientStep, asked_of, sent_to, sent_where, chosen_for, request_sent, started, client_ticked, waits_for, was_asked, redirected, answer_taken, got, table}
-use Rattle.sc_lookup.specs.Definitions.{target_in, preferring, passed_on, told_not_mine, told_gone}
+use Rattle.sc_lookup.specs.Definitions.{target_in, preferring, passed_on, learnt_from_not_mine, learnt_from_gone}
 use Rattle.sc_law_walks.proofs.Lemmas.{either_way}
 use Rattle.sc_live_orderly.specs.Definitions.{AreInTime}
-use Rattle.sc_node_table.specs.Definitions.{told_desk, NodeState, replica_of, group_of_mail, may_come, absent, taken_by, routed, on_mail, ordered_of, on_order}
+use Rattle.sc_node_table.specs.Definitions.{result_sent, NodeState, replica_of, group_of_mail, may_come, absent, taken_by, routed, on_mail, ordered_of, on_order}
 use Rattle.sc_sound.specs.Definitions.{Player, player_table}
 use Rattle.sc_live_steps.specs.calm.Definitions.{players, Rows}
 use Rattle.sc_live_steps.specs.orders.Definitions.{errand_by, errand_for, errands_for}
@@ -59,8 +59,8 @@ ticked_none client None asked = tt
 redirected_none : (group : Draw) (answer : AnswerBody) (client : Client) → None_ (redirected group answer client)
 redirected_none group (Says.NotLeader (Some hint)) client = to_none group (record client { known = preferring group hint client.known })
 redirected_none group (Says.NotLeader None) client = to_none group (record client { known = passed_on group client.known })
-redirected_none group (Says.NotMine arc succ) client = sent_none (record client { known = told_not_mine group arc succ client.known })
-redirected_none group (Says.Gone into) client = sent_none (record client { known = told_gone group into client.known })
+redirected_none group (Says.NotMine arc succ) client = sent_none (record client { known = learnt_from_not_mine group arc succ client.known })
+redirected_none group (Says.Gone into) client = sent_none (record client { known = learnt_from_gone group into client.known })
 redirected_none group (Says.Value reply) client = tt
 redirected_none group (Says.Stale last) client = tt
 
@@ -154,7 +154,7 @@ others_keep = record {
       ∙ (ap (λ g. routed g mail.from mail.body c.node) c.taking.named ∙ (ap (λ x. taken_by x group mail.from mail.body c.node) c.none ∙ makes)))
       (λ name. no_errands name (absent c.node.me mail.from mail.body) (absent_none c.node.me mail.from mail.to mail.body none));
   refused = λ words births rows seat line node born timely is none.
-      (let step : on_order line node ≡ (node, told_desk node.me line.number (Refused (NotLeader None)) []) = ap (λ o. ordered_of o line node) none in
+      (let step : on_order line node ≡ (node, result_sent node.me line.number (Refused (NotLeader None)) []) = ap (λ o. ordered_of o line node) none in
       keeps_still words births rows seat (Orders line) born timely (ANode node) is refl (Some (Told line)) refl
       (λ name. ap (λ (x : NodeState × List Mail). replica_of name x.0.replicas) step) (λ name. ap (λ (x : NodeState × List Mail). errands_for name x.1) step));
 }

@@ -37,12 +37,12 @@ module _ {M : Type 0} where
   abbrev all : M → Bool
   all mail = true
 
-  past : (mail : M) (front had has : List M) → Takes mail had has → Takes mail (front ++ had) (front ++ has)
-  past mail front had has t = record {
-    before = front ++ t.before;
+  past : (mail : M) (prefix had has : List M) → Takes mail had has → Takes mail (prefix ++ had) (prefix ++ has)
+  past mail prefix had has t = record {
+    before = prefix ++ t.before;
     behind = t.behind;
-    had_is = ap (λ l. front ++ l) t.had_is ∙ sym (append_assoc front t.before (mail ∷ t.behind));
-    has_is = ap (λ l. front ++ l) t.has_is ∙ sym (append_assoc front t.before t.behind);
+    had_is = ap (λ l. prefix ++ l) t.had_is ∙ sym (append_assoc prefix t.before (mail ∷ t.behind));
+    has_is = ap (λ l. prefix ++ l) t.has_is ∙ sym (append_assoc prefix t.before t.behind);
   }
 
   one_out : (sent : List M) (counts : List ℕ) (place : ℕ) (mail : M) → slice_get sent place ≡ Some mail → 0 < get_or counts place 0 → Takes mail (mail_with all sent counts) (mail_with all sent (less_at counts place))

@@ -31,7 +31,7 @@ pub record SlotsHaveRosters : Type 0 where
 -- A player of the scenario is a node that has this replica of the group after a prefix of the journal.
 pub record HasReplica (ahead : Ahead) (scenario : Scenario) (journal : Rows) (base : Base) (rows : Rows) (seat : Seat Player) (node : NodeState) (r : ReplicaState) : Type 0 where
   pub more : Rows
-  pub front : journal ≡ rows ++ more
+  pub prefix : journal ≡ rows ++ more
   pub seated : IsSeat (births ahead scenario) seat
   pub is : value player_table seat rows ≡ Node node
   pub here : replica_of base.core.id node.replicas ≡ Some r

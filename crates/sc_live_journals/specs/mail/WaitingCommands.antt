@@ -13,7 +13,7 @@ use Rattle.sc_law_walks.specs.Definitions.{IsFiled, IsAsked}
 
 -- Where the replica does not lead, nothing is in flight or queued. It has waited for no tick. One queue has commands of transactions alone, the other calls and orders.
 abbrev pub IsIdlyKept : ReplicaState → Type 0
-IsIdlyKept r = (r.running ≡ false → (r.leader.flights ≡ []) × (r.acts ≡ []) × (r.calls ≡ [])) × (r.waits ≡ 0) × Each IsFiled r.acts × Each IsAsked r.calls
+IsIdlyKept r = (r.running ≡ false → (r.leader.flights ≡ []) × (r.acts ≡ []) × (r.backlog ≡ [])) × (r.waits ≡ 0) × Each IsFiled r.acts × Each IsAsked r.backlog
 
 -- `IsIdlyKept` holds of the replica, and it is its node's and has the members of as many slots as are open.
 abbrev pub IsPlainlyKept : ℕ → ReplicaState → Type 0

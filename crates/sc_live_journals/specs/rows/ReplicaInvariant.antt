@@ -11,8 +11,8 @@ use Rattle.sc_law_walks.specs.Definitions.{IsFiled, IsAsked}
 -- The replica is its node's, has the members of as many slots as are open, and its acceptor has forgotten nothing from its next slot on.
 -- Where it does not lead, nothing is in flight, ready or queued. One queue has commands of transactions alone, the other requests and orders.
 abbrev pub IsWellKept : ℕ → ReplicaState → Type 0
-IsWellKept me r = (r.me ≡ me) × (length r.sets ≡ slots_ahead) × (r.acceptor.floor < next r) × (r.running ≡ false → (r.leader.flights ≡ []) × (r.ready ≡ [])) × (r.running ≡ false → (r.acts ≡ []) × (r.calls ≡ []))
-    × Each IsFiled r.acts × Each IsAsked r.calls
+IsWellKept me r = (r.me ≡ me) × (length r.sets ≡ slots_ahead) × (r.acceptor.floor < next r) × (r.running ≡ false → (r.leader.flights ≡ []) × (r.ready ≡ [])) × (r.running ≡ false → (r.acts ≡ []) × (r.backlog ≡ []))
+    × Each IsFiled r.acts × Each IsAsked r.backlog
 
 -- Each replica of the node is well kept.
 abbrev pub IsWellKeptNode : NodeState → Type 0

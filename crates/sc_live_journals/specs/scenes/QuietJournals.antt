@@ -23,7 +23,7 @@ GoesToActor words births mail = (entry : Draw × Errand) → errand_by mail.from
 pub record HasNothing (r : ReplicaState) : Type 0 where
   pub flights : r.leader.flights ≡ []
   pub ready : r.ready ≡ []
-  pub waits : r.leader.flights ≡ [] → (works_in r.acts ≡ []) × (works_in r.calls ≡ [])
+  pub waits : r.leader.flights ≡ [] → (works_in r.acts ≡ []) × (works_in r.backlog ≡ [])
 
 -- `over`: in a quiet journal in which all errands go to actors and no leader has anything in flight, no order is under way and no group is bound.
 -- `free`: a group that is led and not bound is free, by its leader's state.

@@ -9,7 +9,7 @@ use Rattle.sc_cmd.specs.declared.effects.Effect.TheVariants as Was
 use Rattle.sc_mail.specs.declared.bodies.AnswerBody.TheVariants as Says
 use Rattle.sc_machine_table.specs.Definitions.{Group, applied, called, served, served_by_note, done}
 use Rattle.sc_node_table.specs.declared.Before.{Before}
-use Rattle.sc_node_table.specs.Definitions.{entered, told_effect, told_call, announced, answer_of, executed_one, serves_calls, ReplicaState, Place, name_of, members, forgotten, before_of, went_on, spoken_mails, spoken}
+use Rattle.sc_node_table.specs.Definitions.{entered, effect_reported, answered_or_put_back, announced, answer_of, executed_one, admits_requests, ReplicaState, Place, name_of, members, forgotten, before_of, went_on, spoken_mails, spoken}
 use Rattle.sc_live_steps.specs.calm.Definitions.{IsServed, said_place, newcomers, IsCounting, LeadsOn, Ways, answer_owes, mail_owes, place_owes}
 use Rattle.sc_live_steps.proofs.CalmProofs.PotentialSums.{sent_owes}
 use Rattle.sc_live_steps.proofs.CalmProofs.LearntEntries.{begun_owes}
@@ -44,7 +44,7 @@ serves_held group client seq op holds = by (holds_key group.core.arc (key_of op)
     by true e = serves_noted (get group.clients client) group client seq op
     by false e = absurd (true≢false (sym e))
 
-serves_called : (gone : Option Route) (lock : Lock) (group : Group) (client seq : ℕ) (op : Op) → gone ≡ None → serves_calls lock ≡ true → holds_key group.core.arc (key_of op) ≡ true → Serves group (called gone lock group client seq op)
+serves_called : (gone : Option Route) (lock : Lock) (group : Group) (client seq : ℕ) (op : Op) → gone ≡ None → admits_requests lock ≡ true → holds_key group.core.arc (key_of op) ≡ true → Serves group (called gone lock group client seq op)
 serves_called (Some into) lock group client seq op stands may holds = cc
 serves_called None Free group client seq op stands may holds = serves_held group client seq op holds
 serves_called None (Watching tx watch) group client seq op stands may holds = serves_held group client seq op holds
@@ -75,11 +75,11 @@ call_leads client seq op r counting is =
 module _ (ways : Ways) where
   announced_call : (effect : Effect) (client seq : ℕ) (op : Op) (r : ReplicaState) (mails : List Mail) (answer : AnswerBody) → answer_of effect ≡ Some answer → answer_owes ways (name_of r) answer ≤ 1 →
       ((announced true effect (Call client seq op) (r, mails)).0 ≡ r) × (sum_by (mail_owes ways) (announced true effect (Call client seq op) (r, mails)).1 ≤ sum_by (mail_owes ways) mails + 1)
-  unfolding announced told_call told_effect
+  unfolding announced answered_or_put_back effect_reported
   announced_call effect client seq op r mails answer is ends = by (answer_of effect) is
     where
       by : (o : Option AnswerBody) → o ≡ Some answer →
-          ((told_effect None (Call client seq op) (told_call o (Call client seq op) (r, mails))).0 ≡ r) × (sum_by (mail_owes ways) (told_effect None (Call client seq op) (told_call o (Call client seq op) (r, mails))).1 ≤ sum_by (mail_owes ways) mails + 1)
+          ((effect_reported None (Call client seq op) (answered_or_put_back o (Call client seq op) (r, mails))).0 ≡ r) × (sum_by (mail_owes ways) (effect_reported None (Call client seq op) (answered_or_put_back o (Call client seq op) (r, mails))).1 ≤ sum_by (mail_owes ways) mails + 1)
       by None e = cc
       by (Some other) e =
           let same : other ≡ answer = cc in

@@ -9,7 +9,7 @@ use Rattle.std.proofs.Math.Nat.{suc-mul}
 use Rattle.sc_base.specs.Definitions.{Each, same_draw, Arc, end_of}
 use Rattle.sc_node_table.specs.Values.{Draw, Op, Reply, Link, Route, AnswerBody, Answer}
 use Rattle.sc_base.proofs.Lemmas.{draw_is}
-use Rattle.sc_lookup.specs.Definitions.{KnownGroups, way_to, target_in, changed, preferring, passed_on, starting, group_learnt, told_not_mine, told_gone, new_way, next_target}
+use Rattle.sc_lookup.specs.Definitions.{KnownGroups, way_to, target_in, changed, preferring, passed_on, starting, group_learnt, learnt_from_not_mine, learnt_from_gone, new_way, next_target}
 use Rattle.sc_lookup.specs.declared.ways.Way.{Way}
 use Rattle.sc_mail.specs.declared.bodies.AnswerBody.TheVariants as Says
 use Rattle.sc_client_table.specs.Definitions.{Client as ClientState, waiting_request, ClientStep, asked_of, sent_where, chosen_for, request_sent, started, waits_for, was_asked, redirected, got}
@@ -66,7 +66,7 @@ module _ (reach : Reach) where
       by true = ends_changed (λ way. record way { lo = lo }) group known (way_to group known)
       by false = let s = sum_by_push (λ (entry : Draw × Way). reach.ends entry.0) known (group, new_way lo members) in omega (arith, s, none)
 
-  ends_told : (group : Draw) (arc : Arc) (succ : Link) (known : KnownGroups) → reach.ends succ.group ≡ 0 → ends_of (told_not_mine group arc succ known) ≡ ends_of known
+  ends_told : (group : Draw) (arc : Arc) (succ : Link) (known : KnownGroups) → reach.ends succ.group ≡ 0 → ends_of (learnt_from_not_mine group arc succ known) ≡ ends_of known
   ends_told group arc succ known none =
       ends_learnt succ.group (end_of arc) succ.members (starting group arc.lo known) none ∙ ends_changed (λ way. record way { lo = arc.lo }) group known (way_to group known)
 
@@ -106,7 +106,7 @@ module _ (reach : Reach) where
       none_known true is = absurd (apart.0 (draw_is other group is))
       none_known false is = refl
 
-  leaves_less : (group : Draw) (into : Route) (client : ClientState) → LeavesFor reach group into.group client → sent_on reach (told_gone group into client.known) + 1 ≤ sent_on reach client.known
+  leaves_less : (group : Draw) (into : Route) (client : ClientState) → LeavesFor reach group into.group client → sent_on reach (learnt_from_gone group into client.known) + 1 ≤ sent_on reach client.known
   leaves_less group into client is =
       let now = ap (sent_on reach) (gone_known group into is.way client.known is.known) in
       let was = ap (sent_on reach) is.known in
@@ -227,7 +227,7 @@ module _ (ways : Ways) (reach : Reach) (client : ClientState) (bounded : AreBoun
   not_mine_pays from seq group arc succ may = by (waits_for client.waiting seq) refl (was_asked client.asked from group) refl
     where
       after : ClientState
-      after = record client { known = told_not_mine group arc succ client.known }
+      after = record client { known = learnt_from_not_mine group arc succ client.known }
 
       learns : waits_for client.waiting seq ≡ true → LearnsOf reach succ.group client → client_turn_owes ways reach (request_sent after) + 1 ≤ client_owes ways reach client + 27
       learns waits is =
@@ -236,11 +236,11 @@ module _ (ways : Ways) (reach : Reach) (client : ClientState) (bounded : AreBoun
           let few = told.1 in
           let knows = told_unknown in
           let ends = ends_told reach group arc succ client.known is.ends in
-          let less = less_search reach ways.most client (told_not_mine group arc succ client.known) client.waiting seq waits (omega (arith, few, knows, ends)) in
+          let less = less_search reach ways.most client (learnt_from_not_mine group arc succ client.known) client.waiting seq waits (omega (arith, few, knows, ends)) in
           let same = request_search reach ways.most after in
           omega (arith, owes, less, same)
         where
-          told_unknown : unknown reach.stands (request_sent after).0.known ≡ unknown reach.stands (told_not_mine group arc succ client.known)
+          told_unknown : unknown reach.stands (request_sent after).0.known ≡ unknown reach.stands (learnt_from_not_mine group arc succ client.known)
           told_unknown = ap (unknown reach.stands) (sent_knows after (chosen_for after (waiting_request after)))
 
       by : (b : Bool) → waits_for client.waiting seq ≡ b → (c : Bool) → was_asked client.asked from group ≡ c → client_turn_owes ways reach (cond {A = ClientStep} b (cond c (request_sent after) (client, [])) (client, [])) + 1 ≤ client_owes ways reach client + 27
@@ -252,12 +252,12 @@ module _ (ways : Ways) (reach : Reach) (client : ClientState) (bounded : AreBoun
   gone_pays from seq group into may = by (waits_for client.waiting seq) refl (was_asked client.asked from group) refl
     where
       after : ClientState
-      after = record client { known = told_gone group into client.known }
+      after = record client { known = learnt_from_gone group into client.known }
 
       leaves : waits_for client.waiting seq ≡ true → LeavesFor reach group into.group client → client_turn_owes ways reach (request_sent after) + 1 ≤ client_owes ways reach client + 27
       leaves waits is =
           let owes = (gone_one ways group into is.way client bounded is.known).0 in
-          let less = less_search reach ways.most client (told_gone group into client.known) client.waiting seq waits (leaves_less reach group into client is) in
+          let less = less_search reach ways.most client (learnt_from_gone group into client.known) client.waiting seq waits (leaves_less reach group into client is) in
           let same = request_search reach ways.most after in
           omega (arith, owes, less, same)
 

@@ -16,7 +16,7 @@ pub entered_me : (command : Command) (r : ReplicaState) → (entered command r).
 unfolding entered forgotten
 entered_me command r = refl
 
-entered_calls : (command : Command) (r : ReplicaState) → (entered command r).calls ≡ r.calls
+entered_calls : (command : Command) (r : ReplicaState) → (entered command r).backlog ≡ r.backlog
 unfolding entered forgotten
 entered_calls command r = refl
 
@@ -93,7 +93,7 @@ module _ (ways : Ways) where
   landed_counted : (slot : ℕ) (command : Command) (r : ReplicaState) (mails : List Mail) → at_slot r.ready slot ≡ Some command →
       ((landed true slot command (r, mails)).0.running ≡ r.running) × ((landed true slot command (r, mails)).0.group ≡ r.group) × ((landed true slot command (r, mails)).0.me ≡ r.me)
       × (replica_owes ways.most (landed true slot command (r, mails)).0 + offered_owes ways.most command ≤ replica_owes ways.most r) × ((landed true slot command (r, mails)).1 ≡ mails)
-      × ((landed true slot command (r, mails)).0.leader.flights ≡ without_flight slot r.leader.flights) × ((landed true slot command (r, mails)).0.ready ≡ without_slot r.ready slot) × ((landed true slot command (r, mails)).0.calls ≡ r.calls)
+      × ((landed true slot command (r, mails)).0.leader.flights ≡ without_flight slot r.leader.flights) × ((landed true slot command (r, mails)).0.ready ≡ without_slot r.ready slot) × ((landed true slot command (r, mails)).0.backlog ≡ r.backlog)
       × ((landed true slot command (r, mails)).0.sets ≡ r.sets) × ((landed true slot command (r, mails)).0.log ≡ r.log) × ((landed true slot command (r, mails)).0.leader.reports ≡ r.leader.reports)
   unfolding landed
   landed_counted slot command r mails ready = by (flying r slot)
@@ -108,7 +108,7 @@ module _ (ways : Ways) where
       by : (o : Option Command) →
           ((slot_lost true command o over).running ≡ r.running) × ((slot_lost true command o over).group ≡ r.group) × ((slot_lost true command o over).me ≡ r.me)
           × (replica_owes ways.most (slot_lost true command o over) + offered_owes ways.most command ≤ replica_owes ways.most r) × (mails ≡ mails)
-          × ((slot_lost true command o over).leader.flights ≡ without_flight slot r.leader.flights) × ((slot_lost true command o over).ready ≡ without_slot r.ready slot) × ((slot_lost true command o over).calls ≡ r.calls)
+          × ((slot_lost true command o over).leader.flights ≡ without_flight slot r.leader.flights) × ((slot_lost true command o over).ready ≡ without_slot r.ready slot) × ((slot_lost true command o over).backlog ≡ r.backlog)
           × ((slot_lost true command o over).sets ≡ r.sets) × ((slot_lost true command o over).log ≡ r.log) × ((slot_lost true command o over).leader.reports ≡ r.leader.reports)
       by o =
           let same = lost o in
@@ -122,7 +122,7 @@ module _ (ways : Ways) where
             refl,
             ap (λ (q : ReplicaState). q.leader.flights) same,
             ap (λ (q : ReplicaState). q.ready) same,
-            ap (λ (q : ReplicaState). q.calls) same,
+            ap (λ (q : ReplicaState). q.backlog) same,
             ap (λ (q : ReplicaState). q.sets) same,
             ap (λ (q : ReplicaState). q.log) same,
             ap (λ (q : ReplicaState). q.leader.reports) same,
@@ -159,7 +159,7 @@ module _ (ways : Ways) where
     pub sent : sum place.1 ≤ sum before.1 + said + 8 + 3 * length (newcomers command before.0)
     pub flights : place.0.leader.flights ≡ without_flight (next before.0) before.0.leader.flights
     pub ready : place.0.ready ≡ without_slot before.0.ready (next before.0)
-    pub calls : place.0.calls ≡ before.0.calls
+    pub backlog : place.0.backlog ≡ before.0.backlog
     pub sets : place.0.sets ≡ (entered command before.0).sets
     pub log : place.0.log ≡ (entered command before.0).log
     pub reports : place.0.leader.reports ≡ before.0.leader.reports
@@ -190,7 +190,7 @@ module _ (ways : Ways) where
         sent = (let mails5 = ap sum c.4 in let b1 = b.1 in let a1 = a.1 in omega (arith, mails5, b1, a1, welcome, told));
         flights = c.5 ∙ (ap (λ (q : ReplicaState). without_flight (next r) q.leader.flights) is ∙ ap (λ (l : LeaderState Command). without_flight (next r) l.flights) (entered_flights ways command r));
         ready = c.6 ∙ (ap (λ (q : ReplicaState). without_slot q.ready (next r)) is ∙ ap (λ (es : List (ℕ × Command)). without_slot es (next r)) (entered_ready ways command r));
-        calls = c.7 ∙ (ap (λ (q : ReplicaState). q.calls) is ∙ entered_calls command r);
+        backlog = c.7 ∙ (ap (λ (q : ReplicaState). q.backlog) is ∙ entered_calls command r);
         sets = c.8 ∙ ap (λ (q : ReplicaState). q.sets) is;
         log = c.9 ∙ ap (λ (q : ReplicaState). q.log) is;
         reports = c.10 ∙ (ap (λ (q : ReplicaState). q.leader.reports) is ∙ ap (λ (l : LeaderState Command). l.reports) (entered_flights ways command r));
@@ -218,13 +218,13 @@ module _ (ways : Ways) where
       let none : taken_at r slot ≡ None = ap (λ (fs : List (Flight Command)). either (option_map (λ (flight : Flight Command). flight.value) (flight_at slot fs)) (at_slot r.ready slot)) f ∙ ap (λ (es : List (ℕ × Command)). at_slot es slot) e in
       ap (λ (o : Option Command). listed o ++ taken_from r slots) none ∙ taken_none r slots f e
 
-  pub stops_idle : (hint : Option ℕ) (r : ReplicaState) (mails : List Mail) → r.leader.flights ≡ [] → r.ready ≡ [] → r.calls ≡ [] →
+  pub stops_idle : (hint : Option ℕ) (r : ReplicaState) (mails : List Mail) → r.leader.flights ≡ [] → r.ready ≡ [] → r.backlog ≡ [] →
       ((stopped hint (r, mails)).0.running ≡ false) × (replica_owes ways.most (stopped hint (r, mails)).0 ≡ 0) × ((stopped hint (r, mails)).1 ≡ mails)
   unfolding ended answered_all dismissed_all
   stops_idle hint r mails f e c = (
     refl,
     refl,
-    ap (λ (calls : List Command). dismissed_all r.me (name_of r) hint (Says.NotLeader hint) calls (answered_all r.me (name_of r) (Says.NotLeader hint) (under_way r) mails)) c
+    ap (λ (backlog : List Command). dismissed_all r.me (name_of r) hint (Says.NotLeader hint) backlog (answered_all r.me (name_of r) (Says.NotLeader hint) (under_way r) mails)) c
         ∙ ap (λ (commands : List Command). answered_all r.me (name_of r) (Says.NotLeader hint) commands mails) (taken_none r (open_slots r) f e),
   )
 
@@ -235,18 +235,18 @@ module _ (ways : Ways) where
       ∙ (ap (λ (g : Option Route). left_gone g (r, mails)) stands ∙ ap (λ c. cond c (r, mails) (stopped (Some (least_of (members r))) (r, mails))) other)
 
   pub leaving_owes : (command : Command) (place : Place) (said : ℕ) → IsCounting command place.0 → (entered command place.0).group.core.gone ≡ None → is_member (members (entered command place.0)) place.0.me ≡ false
-      → without_flight (next place.0) place.0.leader.flights ≡ [] → without_slot place.0.ready (next place.0) ≡ [] → place.0.calls ≡ []
+      → without_flight (next place.0) place.0.leader.flights ≡ [] → without_slot place.0.ready (next place.0) ≡ [] → place.0.backlog ≡ []
       → (said_place command place).0 ≡ entered command place.0 → sum (said_place command place).1 ≤ sum place.1 + said
       → 8 + said + 3 * length (newcomers command place.0) + election ≤ offered_owes ways.most command
       → place_owes ways (executed_one true command place) ≤ place_owes ways place
-  leaving_owes command (r, mails) said is_counting stands leaves flights ready calls state told paid =
+  leaving_owes command (r, mails) said is_counting stands leaves flights ready backlog state told paid =
       counted_ends (λ p. place_owes ways p ≤ place_owes ways (r, mails)) command (r, mails) said is_counting state told
       (λ q more counts.
       let gone : q.group.core.gone ≡ None = ap (λ (g : Group). g.core.gone) counts.group_is ∙ stands in
       let member : is_member (members q) q.me ≡ false = ap (λ n. is_member (members q) n) counts.me_is ∙ (ap (λ (g : Group). is_member g.core.members r.me) counts.group_is ∙ leaves) in
       let hint = Some (least_of (members q)) in
       let off = stopped hint (q, more) in
-      let stop = stops_idle hint q more (counts.flights ∙ flights) (counts.ready ∙ ready) (counts.calls ∙ calls) in
+      let stop = stops_idle hint q more (counts.flights ∙ flights) (counts.ready ∙ ready) (counts.backlog ∙ backlog) in
       let same = ap (λ p. place_owes ways (looked p)) (left_stops q more counts.running gone member) in
       let last = looked_owes ways off.0 off.1 stop.0 in
       let none = stop.1 in

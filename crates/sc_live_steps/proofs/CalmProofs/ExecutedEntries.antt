@@ -30,7 +30,7 @@ module _ (ways : Ways) where
 
   stops_owes : (command : Command) (place : Place) (said : ℕ) → StopsAfter command place.0 → SaysMost ways command place.0 place.1 said → 8 + said + 3 * length (newcomers command place.0) + election ≤ offered_owes ways.most command
       → place_owes ways (executed_one true command place) ≤ place_owes ways place
-  stops_owes command place said stops says paid = leaving_owes ways command place said stops.counting stops.stands stops.leaves stops.flights stops.alone stops.calls says.0 says.1 paid
+  stops_owes command place said stops says paid = leaving_owes ways command place said stops.counting stops.stands stops.leaves stops.flights stops.alone stops.backlog says.0 says.1 paid
 
   watching_owes : (tx : Draw) (vote : Past) (by : ℕ) (place : Place) → IsWatchPaid tx vote by place.0 → place_owes ways (executed_one true (RecordWatch tx vote by) place) ≤ place_owes ways place
   watching_owes tx Cast.Yes by place (few, inl leads) =
@@ -172,7 +172,7 @@ module _ (ways : Ways) (command : Command) (before : Place) (may : MayPump befor
       let other = ap (λ n. is_member (members r) n) counts.me_is ∙ (ap (λ (g : Group). is_member g.core.members before.0.me) counts.group_is ∙ stops.leaves) in
       let place : Place = stopped (Some (least_of (members r))) (r, mails) in
       let same = left_stops ways r mails counts.running gone other in
-      let idle = stops_idle ways (Some (least_of (members r))) r mails (counts.flights ∙ stops.flights) (counts.ready ∙ stops.alone) (counts.calls ∙ stops.calls) in
+      let idle = stops_idle ways (Some (least_of (members r))) r mails (counts.flights ∙ stops.flights) (counts.ready ∙ stops.alone) (counts.backlog ∙ stops.backlog) in
       let nines = (after_counting said r mails counts).few in
       subst (λ (p : Place). ArePaid (looked p).0.ready (looked p)) (sym same) (fresh_paid (looked place) (looked_fresh place.0 place.1 idle.0 (kept_sets (Some (least_of (members r))) r mails nines))))
 

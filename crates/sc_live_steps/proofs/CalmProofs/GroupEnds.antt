@@ -6,7 +6,7 @@ use Rattle.sc_node_table.specs.Values.{Draw, Command, Noop, Call, Join, Leave, S
 use Rattle.sc_cmd.specs.declared.orders.OrderRefusal.TheVariants.{NotLeader}
 use Rattle.sc_mail.specs.declared.bodies.AnswerBody.TheVariants as Says
 use Rattle.sc_machine_table.specs.Definitions.{Group}
-use Rattle.sc_node_table.specs.Definitions.{ended, entered, left_gone, left, looked_for, looked, executed_one, answered_all, dismissed, dismissed_all, order_number, told_order, ReplicaState, Place, name_of, open_slots}
+use Rattle.sc_node_table.specs.Definitions.{ended, entered, left_gone, left, looked_for, looked, executed_one, answered_all, dismissed, dismissed_all, order_number, order_reported, ReplicaState, Place, name_of, open_slots}
 use Rattle.sc_live_steps.specs.calm.Definitions.{EndsAfter, ArePaid, said_place, newcomers, Ways, command_owes, offered_owes, mail_owes, idle_owes, place_owes}
 use Rattle.sc_live_steps.proofs.CalmProofs.PotentialSums.{sent_owes}
 use Rattle.sc_live_steps.proofs.CalmProofs.LearntEntries.{desk_owes}
@@ -18,7 +18,7 @@ module _ (ways : Ways) where
   sum mails = sum_by (mail_owes ways) mails
 
   module _ (me : ℕ) (group : Draw) (hint : Option ℕ) (into : Route) where
-    desk : (command : Command) (mails : List Mail) → dismissed me group hint (Says.Gone into) command mails ≡ told_order me (order_number command) (Refused (NotLeader hint)) mails →
+    desk : (command : Command) (mails : List Mail) → dismissed me group hint (Says.Gone into) command mails ≡ order_reported me (order_number command) (Refused (NotLeader hint)) mails →
         sum (dismissed me group hint (Says.Gone into) command mails) ≤ sum mails + command_owes ways.most command
     desk command mails e =
         let d = desk_owes ways me (order_number command) (Refused (NotLeader hint)) mails in
@@ -40,13 +40,13 @@ module _ (ways : Ways) where
     dismissed_most (Watched tx watch) mails = desk (Watched tx watch) mails refl
     dismissed_most (RecordWatch tx vote by) mails = desk (RecordWatch tx vote by) mails refl
 
-    all_most : (calls : List Command) (mails : List Mail) → sum (dismissed_all me group hint (Says.Gone into) calls mails) ≤ sum mails + sum_by (command_owes ways.most) calls
+    all_most : (backlog : List Command) (mails : List Mail) → sum (dismissed_all me group hint (Says.Gone into) backlog mails) ≤ sum mails + sum_by (command_owes ways.most) backlog
     unfolding dismissed_all
     all_most [] mails = omega arith
-    all_most (command ∷ calls) mails =
+    all_most (command ∷ backlog) mails =
         let one = dismissed_most command mails in
-        let more = all_most calls (dismissed me group hint (Says.Gone into) command mails) in
-        let s = sum_by-cons (command_owes ways.most) command calls in
+        let more = all_most backlog (dismissed me group hint (Says.Gone into) command mails) in
+        let s = sum_by-cons (command_owes ways.most) command backlog in
         omega (arith, one, more, s)
 
   -- ---- it ends
@@ -55,12 +55,12 @@ module _ (ways : Ways) where
   unfolding ended
   ended_off into r mails = (refl, refl)
 
-  ended_owes : (into : Route) (r : ReplicaState) (mails : List Mail) → r.group.core.gone ≡ Some into → r.leader.flights ≡ [] → r.ready ≡ [] → place_owes ways (ended None (Says.Gone into) (r, mails)) ≤ sum mails + sum_by (command_owes ways.most) r.calls
+  ended_owes : (into : Route) (r : ReplicaState) (mails : List Mail) → r.group.core.gone ≡ Some into → r.leader.flights ≡ [] → r.ready ≡ [] → place_owes ways (ended None (Says.Gone into) (r, mails)) ≤ sum mails + sum_by (command_owes ways.most) r.backlog
   unfolding ended answered_all
   ended_owes into r mails gone f e =
       let none = taken_none ways r (open_slots r) f e in
-      let same = ap (λ (commands : List Command). sum (dismissed_all r.me (name_of r) None (Says.Gone into) r.calls (answered_all r.me (name_of r) (Says.Gone into) commands mails))) none in
-      let le = all_most r.me (name_of r) None into r.calls mails in
+      let same = ap (λ (commands : List Command). sum (dismissed_all r.me (name_of r) None (Says.Gone into) r.backlog (answered_all r.me (name_of r) (Says.Gone into) commands mails))) none in
+      let le = all_most r.me (name_of r) None into r.backlog mails in
       let idle : idle_owes false r.group.core.gone ≡ 0 = ap (idle_owes false) gone in
       omega (arith, same, le, idle)
 

@@ -3,12 +3,12 @@ use Rattle.std.proofs.Common.{◌≡◌, ℕ, zero, suc, ◌+◌, ◌-◌, ◌^�
 use Rattle.std.specs.List.{filter}
 use Rattle.std.specs.Option.{option_map}
 use Rattle.sc_base.specs.Definitions.{most_nodes, least_of}
-use Rattle.sc_node_table.specs.Values.{Ballot, Command, Effect, Route, ToldResult, Mail, Prepare, Told, Flight}
-use Rattle.sc_policy.specs.Definitions.{is_told}
+use Rattle.sc_node_table.specs.Values.{Ballot, Command, Effect, Route, OrderResult, Mail, Prepare, Told, Flight}
+use Rattle.sc_policy.specs.Definitions.{is_reported}
 use Rattle.sc_paxos_words.specs.Definitions.{LeaderState, new_leader, flight_at, without_flight_at}
 use Rattle.sc_machine_table.specs.Definitions.{applied}
 use Rattle.sc_node_table.specs.declared.Before.{Before}
-use Rattle.sc_node_table.specs.Definitions.{is_in_some, nodes_to, open_nodes, elected, entered, order_result, told_effect, announced, learnt_to, welcomed, slot_lost, landed, is_among, looked_for, looked, executed_one, told_order, told_desk, sent_all, order_number, ReplicaState, Place, name_of, next, members, flying, forgotten, numbers_from, without_slot, before_of, begun_result, spoken_number, told_result, told_begun, spoken_mails, spoken}
+use Rattle.sc_node_table.specs.Definitions.{is_in_some, nodes_to, open_nodes, elected, entered, order_result, effect_reported, announced, learnt_to, welcomed, slot_lost, landed, is_among, looked_for, looked, executed_one, order_reported, result_sent, sent_all, order_number, ReplicaState, Place, name_of, next, members, flying, forgotten, numbers_from, without_slot, before_of, begun_result, spoken_number, result_reported, begun_reported, spoken_mails, spoken}
 use Rattle.sc_live_steps.specs.calm.Definitions.{Ways, mail_owes, replica_owes, idle_owes, election, place_owes}
 use Rattle.sc_live_steps.proofs.CalmProofs.PotentialSums.{sent_owes, all_owe, without_flight_owes, without_slot_owes}
 use Rattle.sc_live_steps.proofs.FollowingProofs.FollowerTables.{left_same as left_learnt, learnt_same as learnt_learnt, welcomed_same as welcomed_learnt}
@@ -37,25 +37,25 @@ open_few sets =
 module _ (ways : Ways) where
   -- ---- what is reported to the desk owes nothing
 
-  pub desk_owes : (me number : ℕ) (result : ToldResult) (mails : List Mail) → sum_by (mail_owes ways) (told_order me number result mails) ≡ sum_by (mail_owes ways) mails
-  unfolding told_order
-  desk_owes me number result mails = by (is_told number)
+  pub desk_owes : (me number : ℕ) (result : OrderResult) (mails : List Mail) → sum_by (mail_owes ways) (order_reported me number result mails) ≡ sum_by (mail_owes ways) mails
+  unfolding order_reported
+  desk_owes me number result mails = by (is_reported number)
     where
-      by : (b : Bool) → sum_by (mail_owes ways) (cond b (told_desk me number result mails) mails) ≡ sum_by (mail_owes ways) mails
+      by : (b : Bool) → sum_by (mail_owes ways) (cond b (result_sent me number result mails) mails) ≡ sum_by (mail_owes ways) mails
       by true = let s = sent_owes ways me 0 (Told number result) mails in omega (arith, s)
       by false = refl
 
-  pub effect_owes : (o : Option ToldResult) (command : Command) (r : ReplicaState) (mails : List Mail) →
-      ((told_effect o command (r, mails)).0 ≡ r) × (sum_by (mail_owes ways) (told_effect o command (r, mails)).1 ≡ sum_by (mail_owes ways) mails)
-  unfolding told_effect
+  pub effect_owes : (o : Option OrderResult) (command : Command) (r : ReplicaState) (mails : List Mail) →
+      ((effect_reported o command (r, mails)).0 ≡ r) × (sum_by (mail_owes ways) (effect_reported o command (r, mails)).1 ≡ sum_by (mail_owes ways) mails)
+  unfolding effect_reported
   effect_owes None command r mails = (refl, refl)
   effect_owes (Some result) command r mails = (refl, desk_owes r.me (order_number command) result mails)
 
-  pub begun_owes : (me : ℕ) (before : Before) (effect : Effect) (command : Command) (mails : List Mail) → sum_by (mail_owes ways) (told_begun me before effect command mails) ≡ sum_by (mail_owes ways) mails
-  unfolding told_begun
+  pub begun_owes : (me : ℕ) (before : Before) (effect : Effect) (command : Command) (mails : List Mail) → sum_by (mail_owes ways) (begun_reported me before effect command mails) ≡ sum_by (mail_owes ways) mails
+  unfolding begun_reported
   begun_owes me before effect command mails = by (begun_result before.alone effect command)
     where
-      by : (o : Option ToldResult) → sum_by (mail_owes ways) (told_result me o (spoken_number before.order command) mails) ≡ sum_by (mail_owes ways) mails
+      by : (o : Option OrderResult) → sum_by (mail_owes ways) (result_reported me o (spoken_number before.order command) mails) ≡ sum_by (mail_owes ways) mails
       by None = refl
       by (Some result) = desk_owes me (spoken_number before.order command) result mails
 

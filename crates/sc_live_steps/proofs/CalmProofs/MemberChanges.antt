@@ -7,7 +7,7 @@ use Rattle.sc_base.specs.Definitions.{Among, is_member, with_member}
 use Rattle.sc_node_table.specs.Values.{Command, Noop, Join, Leave, Effect, Route, OrderRefusal, AnswerBody, Mail}
 use Rattle.sc_machine_table.specs.Definitions.{Group, applied, ordered, refusal_of, with_node, without_node}
 use Rattle.sc_node_table.specs.declared.Before.{Before}
-use Rattle.sc_node_table.specs.Definitions.{entered, order_result, told_effect, told_call, announced, answer_of, executed_one, ReplicaState, Place, members, forgotten, before_of, told_begun, went_on, spoken_mails, spoken}
+use Rattle.sc_node_table.specs.Definitions.{entered, order_result, effect_reported, answered_or_put_back, announced, answer_of, executed_one, ReplicaState, Place, members, forgotten, before_of, begun_reported, went_on, spoken_mails, spoken}
 use Rattle.sc_live_steps.specs.calm.Definitions.{said_place, newcomers, IsChange, LeadsOn, StopsAfter, Ways, offered_owes, mail_owes, place_owes}
 use Rattle.sc_live_steps.proofs.CalmProofs.LearntEntries.{effect_owes, begun_owes}
 use Rattle.sc_live_steps.proofs.CalmProofs.CountedEntries.{counted_owes, leaving_owes}
@@ -83,8 +83,8 @@ leave_new node order r =
 
 -- ---- what is said: a report to the desk alone
 
-call_silent : (o : Option AnswerBody) (command : Command) (place : Place) → IsChange command → told_call o command place ≡ place
-unfolding told_call
+call_silent : (o : Option AnswerBody) (command : Command) (place : Place) → IsChange command → answered_or_put_back o command place ≡ place
+unfolding answered_or_put_back
 call_silent None Noop place is = refl
 call_silent (Some answer) Noop place is = refl
 call_silent None (Join node order) place is = refl
@@ -105,14 +105,14 @@ module _ (ways : Ways) where
       ((announced true effect command (r, mails)).0 ≡ r) × (sum_by (mail_owes ways) (announced true effect command (r, mails)).1 ≡ sum_by (mail_owes ways) mails)
   unfolding announced
   announced_silent effect command r mails is =
-      subst (λ (p : Place). ((told_effect (order_result command effect) command p).0 ≡ r) × (sum_by (mail_owes ways) (told_effect (order_result command effect) command p).1 ≡ sum_by (mail_owes ways) mails))
+      subst (λ (p : Place). ((effect_reported (order_result command effect) command p).0 ≡ r) × (sum_by (mail_owes ways) (effect_reported (order_result command effect) command p).1 ≡ sum_by (mail_owes ways) mails))
       (sym (call_silent (answer_of effect) command (r, mails) is)) (effect_owes ways (order_result command effect) command r mails)
 
   spoken_silent : (before : Before) (effect : Effect) (command : Command) (r : ReplicaState) (mails : List Mail) → IsChange command →
       ((spoken true before effect command (r, mails)).0 ≡ r) × (sum_by (mail_owes ways) (spoken true before effect command (r, mails)).1 ≡ sum_by (mail_owes ways) mails)
   unfolding spoken spoken_mails
   spoken_silent before effect command r mails is =
-      (refl, ap (sum_by (mail_owes ways)) (went_silent r.me r.group before effect command (told_begun r.me before effect command mails) is) ∙ begun_owes ways r.me before effect command mails)
+      (refl, ap (sum_by (mail_owes ways)) (went_silent r.me r.group before effect command (begun_reported r.me before effect command mails) is) ∙ begun_owes ways r.me before effect command mails)
 
   pub silent_said : (command : Command) (r : ReplicaState) (mails : List Mail) → IsChange command →
       ((said_place command (r, mails)).0 ≡ entered command r) × (sum_by (mail_owes ways) (said_place command (r, mails)).1 ≡ sum_by (mail_owes ways) mails)
@@ -140,4 +140,4 @@ module _ (ways : Ways) where
       let said = silent_said (Leave node order) place.0 place.1 tt in
       let told = said.1 in
       let none = ap length (leave_new node order place.0) in
-      leaving_owes ways (Leave node order) place 0 stops.counting stops.stands stops.leaves stops.flights stops.alone stops.calls said.0 (omega (arith, told)) (omega (arith, none))
+      leaving_owes ways (Leave node order) place 0 stops.counting stops.stands stops.leaves stops.flights stops.alone stops.backlog said.0 (omega (arith, told)) (omega (arith, none))

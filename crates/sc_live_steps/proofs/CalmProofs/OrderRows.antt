@@ -4,7 +4,7 @@ use Rattle.std.proofs.lemmas.List.Sums.{sum_by_push}
 use Rattle.sc_base.specs.Definitions.{Drawer, next_name}
 use Rattle.sc_node_table.specs.Values.{Draw, Command, Order, OrderLine, OrderRefusal, Refused, Mail, Told}
 use Rattle.sc_cmd.specs.declared.orders.Order.TheVariants as An
-use Rattle.sc_node_table.specs.Definitions.{ordered_command, untaken, taken_or_told, ordered_row, with_call, ReplicaState, Place}
+use Rattle.sc_node_table.specs.Definitions.{ordered_command, untaken, queued_or_refused, ordered_row, with_order_queued, ReplicaState, Place}
 use Rattle.sc_live_steps.specs.calm.Definitions.{MayPump, Ways, command_owes, place_owes}
 use Rattle.sc_live_steps.proofs.CalmProofs.PotentialSums.{sent_owes}
 use Rattle.sc_live_steps.proofs.CalmProofs.Pumps.{pump_owes}
@@ -14,11 +14,11 @@ order_most most name number (An.Join node group) = omega arith
 order_most most name number _ = omega arith
 
 module _ (ways : Ways) where
-  taken : (o : Option OrderRefusal) (number : ℕ) (command : Command) (r : ReplicaState) (mails : List Mail) → MayPump r → place_owes ways (taken_or_told o number command (r, mails)) ≤ place_owes ways (r, mails) + command_owes ways.most command
+  taken : (o : Option OrderRefusal) (number : ℕ) (command : Command) (r : ReplicaState) (mails : List Mail) → MayPump r → place_owes ways (queued_or_refused o number command (r, mails)) ≤ place_owes ways (r, mails) + command_owes ways.most command
   taken (Some why) number command r mails may = let s = sent_owes ways r.me 0 (Told number (Refused why)) mails in omega (arith, s)
   taken None number command r mails may =
-      let le = pump_owes ways (with_call command r, mails) may.unbound may.few in
-      let s = sum_by_push (command_owes ways.most) r.calls command in
+      let le = pump_owes ways (with_order_queued command r, mails) may.unbound may.few in
+      let s = sum_by_push (command_owes ways.most) r.backlog command in
       omega (arith, le, s)
 
   pub order_raises : (drawer : Drawer) (line : OrderLine) (place : Place) → MayPump place.0 → place_owes ways (ordered_row drawer line place) ≤ place_owes ways place + (242 + 4 * ways.most)

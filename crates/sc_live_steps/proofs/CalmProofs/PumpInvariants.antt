@@ -5,17 +5,17 @@ use Rattle.std.specs.List.{list_any}
 use Rattle.sc_node_table.specs.Values.{Command, Must, Gap}
 use Rattle.sc_paxos_words.specs.declared.answers.Must.TheVariants.{Value, Free as Open}
 use Rattle.sc_paxos_words.specs.Definitions.{must}
-use Rattle.sc_node_table.specs.Definitions.{entered, Found, is_act, from_calls, from_acts, from_queues, found_by, found_for, offered, pumped_from, pumped, ReplicaState, Place, next, members, settled, may_offer, taken_at, under_way, is_idle, forgotten, last_slot, rest_of}
+use Rattle.sc_node_table.specs.Definitions.{entered, Found, is_act, from_backlog, from_acts, from_queues, found_by, found_for, offered, pumped_from, pumped, ReplicaState, Place, next, members, settled, may_offer, taken_at, under_way, is_idle, forgotten, last_slot, rest_of}
 use Rattle.sc_live_steps.specs.calm.Definitions.{MayGoOn, AreNines}
 
 -- ---- a pump leaves all but what is in flight and the queues
 
 -- a replica but for these
 abbrev frame : ReplicaState → ReplicaState
-frame r = record r { leader = record r.leader { flights = [] }; acts = []; calls = [] }
+frame r = record r { leader = record r.leader { flights = [] }; acts = []; backlog = [] }
 
-calls_kept : (place : Place) → frame (from_calls place).1.0 ≡ frame place.0
-unfolding from_calls
+calls_kept : (place : Place) → frame (from_backlog place).1.0 ≡ frame place.0
+unfolding from_backlog
 calls_kept place = refl
 
 either_kept : (b : Bool) (x y : Found) (r : ReplicaState) → frame x.1.0 ≡ frame r → frame y.1.0 ≡ frame r → frame (cond b x y).1.0 ≡ frame r

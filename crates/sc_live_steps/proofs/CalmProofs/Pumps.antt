@@ -9,7 +9,7 @@ use Rattle.sc_mail.specs.declared.bodies.AnswerBody.TheVariants as Says
 use Rattle.sc_paxos_words.specs.declared.answers.Must.TheVariants.{Free as Open}
 use Rattle.sc_paxos_words.specs.Definitions.{must}
 use Rattle.sc_base.specs.Definitions.{client_actor}
-use Rattle.sc_node_table.specs.Definitions.{answered, Found, is_act, waits, refused_by, turned_down, next_call, from_calls, from_acts, from_queues, found_by, found_for, offered, pumped_from, pumped, ReplicaState, Place, name_of, next, settled, may_offer, taken_at, under_way, is_idle, last_slot}
+use Rattle.sc_node_table.specs.Definitions.{answered, Found, is_act, waits, refused_by, turned_down, next_queued, from_backlog, from_acts, from_queues, found_by, found_for, offered, pumped_from, pumped, ReplicaState, Place, name_of, next, settled, may_offer, taken_at, under_way, is_idle, last_slot}
 use Rattle.sc_live_steps.specs.calm.Definitions.{IsUnbound, AreNines, Ways, command_owes, offered_owes, answer_owes, mail_owes, place_owes}
 use Rattle.sc_live_steps.proofs.CalmProofs.PotentialSums.{command_most, sent_owes, all_owe}
 
@@ -58,30 +58,30 @@ module _ (ways : Ways) where
   turned_owes me core Noop answer mails e = cc
   turned_owes me core _ answer mails e = cc
 
-  next_owes : (me : ℕ) (idle : Bool) (core : Core) (calls : List Command) (mails : List Mail) →
-      queue_owes ways (next_call me idle core calls mails) ≤ sum_by (command_owes ways.most) calls + sum_by (mail_owes ways) mails
-  unfolding next_call
+  next_owes : (me : ℕ) (idle : Bool) (core : Core) (backlog : List Command) (mails : List Mail) →
+      queue_owes ways (next_queued me idle core backlog mails) ≤ sum_by (command_owes ways.most) backlog + sum_by (mail_owes ways) mails
+  unfolding next_queued
   next_owes me idle core [] mails = omega arith
-  next_owes me idle core (command ∷ calls) mails =
-      by (waits idle core.lock command) (turned_down core command) refl (λ answer. next_owes me idle core calls (answered me core.id answer command mails))
+  next_owes me idle core (command ∷ backlog) mails =
+      by (waits idle core.lock command) (turned_down core command) refl (λ answer. next_owes me idle core backlog (answered me core.id answer command mails))
     where
       by : (b : Bool) (o : Option AnswerBody) → turned_down core command ≡ o →
-          ((answer : AnswerBody) → queue_owes ways (next_call me idle core calls (answered me core.id answer command mails)) ≤ sum_by (command_owes ways.most) calls + sum_by (mail_owes ways) (answered me core.id answer command mails)) →
-          queue_owes ways (cond b (None, command ∷ calls, mails) (elim o [ None ↦ (Some command, calls, mails) | Some answer ↦ next_call me idle core calls (answered me core.id answer command mails) ])) ≤ sum_by (command_owes ways.most) (command ∷ calls) + sum_by (mail_owes ways) mails
+          ((answer : AnswerBody) → queue_owes ways (next_queued me idle core backlog (answered me core.id answer command mails)) ≤ sum_by (command_owes ways.most) backlog + sum_by (mail_owes ways) (answered me core.id answer command mails)) →
+          queue_owes ways (cond b (None, command ∷ backlog, mails) (elim o [ None ↦ (Some command, backlog, mails) | Some answer ↦ next_queued me idle core backlog (answered me core.id answer command mails) ])) ≤ sum_by (command_owes ways.most) (command ∷ backlog) + sum_by (mail_owes ways) mails
       by true o e more = omega arith
-      by false None e more = let s = sum_by-cons (command_owes ways.most) command calls in omega (arith, s)
+      by false None e more = let s = sum_by-cons (command_owes ways.most) command backlog in omega (arith, s)
       by false (Some answer) e more =
           let rec = more answer in
           let turned = turned_owes me core command answer mails e in
-          let s = sum_by-cons (command_owes ways.most) command calls in
+          let s = sum_by-cons (command_owes ways.most) command backlog in
           omega (arith, rec, turned, s)
 
-  calls_owe : (r : ReplicaState) (mails : List Mail) → found_owes ways (from_calls (r, mails)) ≤ place_owes ways (r, mails)
-  unfolding from_calls
-  calls_owe r mails = let le = next_owes r.me (is_idle r) r.group.core r.calls mails in omega (arith, le)
+  calls_owe : (r : ReplicaState) (mails : List Mail) → found_owes ways (from_backlog (r, mails)) ≤ place_owes ways (r, mails)
+  unfolding from_backlog
+  calls_owe r mails = let le = next_owes r.me (is_idle r) r.group.core r.backlog mails in omega (arith, le)
 
-  calls_leader : (r : ReplicaState) (mails : List Mail) → (from_calls (r, mails)).1.0.leader ≡ r.leader
-  unfolding from_calls
+  calls_leader : (r : ReplicaState) (mails : List Mail) → (from_backlog (r, mails)).1.0.leader ≡ r.leader
+  unfolding from_backlog
   calls_leader r mails = refl
 
   acts_owe : (acts : List Command) (r : ReplicaState) (mails : List Mail) → r.acts ≡ acts → found_owes ways (from_acts acts (r, mails)) ≤ place_owes ways (r, mails)

@@ -8,7 +8,7 @@ use Rattle.sc_live_steps.specs.calm.Definitions.{ReplicasBeginAtRest, FirstMembe
 -- At birth a replica is at rest, as in a quiet journal: it waits for nothing, nothing is in flight or ready, and it has promised no later ballot than its own.
 pub begin_at_rest : ReplicasBeginAtRest
 begin_at_rest ahead me base free = (
-  record { free = free; acts = refl; calls = refl; waits = refl; flights = refl; ready = refl },
+  record { free = free; acts = refl; backlog = refl; waits = refl; flights = refl; ready = refl },
   λ slot at. refl,
   record { promised = at_least_itself (first_ballot base.core); top = at_least_itself (first_ballot base.core); accepted = tt },
 )

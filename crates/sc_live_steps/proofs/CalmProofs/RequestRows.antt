@@ -10,7 +10,7 @@ use Rattle.sc_cmd.specs.declared.votes.Vote.TheVariants as Votes
 use Rattle.sc_mail.specs.declared.bodies.AnswerBody.TheVariants as Says
 use Rattle.sc_machine_table.specs.Definitions.{locked_in, frozen_of, is_locked_in}
 use Rattle.sc_paxos_words.specs.Definitions.{LeaderState, must, promise_counted}
-use Rattle.sc_node_table.specs.Definitions.{act_queued, serves_calls, pumped, call_of, is_call_of, without_call, ReplicaState, Place, name_of, call_refusal, refused_at, queued, requested, request_row, standing_by, standing_vote, noted_vote, voted_to, sent_elsewhere, offered_by, offer_row, watched_to, watched_by, watch_row, leads, promise_row}
+use Rattle.sc_node_table.specs.Definitions.{act_queued, admits_requests, pumped, queued_number, is_request_of, without_request, ReplicaState, Place, name_of, request_refusal, refused_at, queued, requested, request_row, standing_by, standing_vote, noted_vote, voted_to, sent_elsewhere, offered_by, offer_row, watched_to, watched_by, watch_row, leads, promise_row}
 use Rattle.sc_live_steps.specs.calm.Definitions.{MayPump, IsUnbound, Points, Ways, command_owes, answer_owes, prepare_owes, watch_owes, asked_owes, elsewhere_owes, mail_owes, flights_owe, place_owes}
 use Rattle.sc_live_steps.proofs.CalmProofs.PotentialSums.{sent_owes}
 use Rattle.sc_live_steps.proofs.CalmProofs.Pumps.{pump_owes}
@@ -29,15 +29,15 @@ counted_same from ballot leader = by (same_ballot ballot leader.ballot && not (i
     by false = (refl, refl)
 
 -- calls without one of them owe no more
-without_owes : (most client : ℕ) (calls : List Command) → sum_by (command_owes most) (without_call calls client) ≤ sum_by (command_owes most) calls
+without_owes : (most client : ℕ) (backlog : List Command) → sum_by (command_owes most) (without_request backlog client) ≤ sum_by (command_owes most) backlog
 without_owes most client [] = omega arith
-without_owes most client (command ∷ calls) = by (is_call_of client command) (without_owes most client calls)
+without_owes most client (command ∷ backlog) = by (is_request_of client command) (without_owes most client backlog)
   where
-    by : (b : Bool) → sum_by (command_owes most) (without_call calls client) ≤ sum_by (command_owes most) calls → sum_by (command_owes most) (cond b calls (command ∷ without_call calls client)) ≤ sum_by (command_owes most) (command ∷ calls)
-    by true le = let s = sum_by-cons (command_owes most) command calls in omega (arith, s)
+    by : (b : Bool) → sum_by (command_owes most) (without_request backlog client) ≤ sum_by (command_owes most) backlog → sum_by (command_owes most) (cond b backlog (command ∷ without_request backlog client)) ≤ sum_by (command_owes most) (command ∷ backlog)
+    by true le = let s = sum_by-cons (command_owes most) command backlog in omega (arith, s)
     by false le =
-        let s = sum_by-cons (command_owes most) command calls in
-        let t = sum_by-cons (command_owes most) command (without_call calls client) in
+        let s = sum_by-cons (command_owes most) command backlog in
+        let t = sum_by-cons (command_owes most) command (without_request backlog client) in
         omega (arith, le, s, t)
 
 -- where no vote stands the group is not gone
@@ -76,17 +76,17 @@ module _ (ways : Ways) where
   call_queues : (o : Option ℕ) (client seq : ℕ) (op : Op) (r : ReplicaState) (mails : List Mail) → MayPump r → place_owes ways (queued o client seq op (r, mails)) ≤ place_owes ways (r, mails) + 27
   unfolding queued
   call_queues None client seq op r mails may =
-      let le = pump_owes ways (record r { calls = r.calls ++ Call client seq op ∷ [] }, mails) may.unbound may.few in
-      let s = sum_by_push (command_owes ways.most) r.calls (Call client seq op) in
+      let le = pump_owes ways (record r { backlog = r.backlog ++ Call client seq op ∷ [] }, mails) may.unbound may.few in
+      let s = sum_by_push (command_owes ways.most) r.backlog (Call client seq op) in
       omega (arith, le, s)
   call_queues (Some other) client seq op r mails may = by (nat_le seq other)
     where
-      by : (b : Bool) → place_owes ways (cond {A = Place} b (r, mails) (pumped (record r { calls = without_call r.calls client ++ Call client seq op ∷ [] }, mails))) ≤ place_owes ways (r, mails) + 27
+      by : (b : Bool) → place_owes ways (cond {A = Place} b (r, mails) (pumped (record r { backlog = without_request r.backlog client ++ Call client seq op ∷ [] }, mails))) ≤ place_owes ways (r, mails) + 27
       by true = omega arith
       by false =
-          let le = pump_owes ways (record r { calls = without_call r.calls client ++ Call client seq op ∷ [] }, mails) may.unbound may.few in
-          let s = sum_by_push (command_owes ways.most) (without_call r.calls client) (Call client seq op) in
-          let w = without_owes ways.most client r.calls in
+          let le = pump_owes ways (record r { backlog = without_request r.backlog client ++ Call client seq op ∷ [] }, mails) may.unbound may.few in
+          let s = sum_by_push (command_owes ways.most) (without_request r.backlog client) (Call client seq op) in
+          let w = without_owes ways.most client r.backlog in
           omega (arith, le, s, w)
 
   -- why a request is not taken owes less than the request
@@ -100,8 +100,8 @@ module _ (ways : Ways) where
           let owes = ap (answer_owes ways (name_of r)) same in
           omega (arith, owes)
 
-      by_run : (b : Bool) → r.running ≡ b → r.group.core.gone ≡ None → call_refusal None r.group.core b r.hint op ≡ Some answer → answer_owes ways (name_of r) answer ≤ 27 + 2 * ways.far (name_of r) r.me
-      by_run true run stands is = by_hold (serves_calls r.group.core.lock && not (holds_key r.group.core.arc (key_of op))) is
+      by_run : (b : Bool) → r.running ≡ b → r.group.core.gone ≡ None → request_refusal None r.group.core b r.hint op ≡ Some answer → answer_owes ways (name_of r) answer ≤ 27 + 2 * ways.far (name_of r) r.me
+      by_run true run stands is = by_hold (admits_requests r.group.core.lock && not (holds_key r.group.core.arc (key_of op))) is
       by_run false run stands is =
           let p = points run stands in
           let same : Says.NotLeader r.hint ≡ answer = cc in
@@ -110,7 +110,7 @@ module _ (ways : Ways) where
           let near = p.2 in
           omega (arith, owes, named, near)
 
-      by_gone : (gone : Option Route) → r.group.core.gone ≡ gone → call_refusal gone r.group.core r.running r.hint op ≡ Some answer → answer_owes ways (name_of r) answer ≤ 27 + 2 * ways.far (name_of r) r.me
+      by_gone : (gone : Option Route) → r.group.core.gone ≡ gone → request_refusal gone r.group.core r.running r.hint op ≡ Some answer → answer_owes ways (name_of r) answer ≤ 27 + 2 * ways.far (name_of r) r.me
       by_gone (Some into) went is =
           let same : Says.Gone into ≡ answer = cc in
           let owes = ap (answer_owes ways (name_of r)) same in
@@ -122,7 +122,7 @@ module _ (ways : Ways) where
   request_lowers client seq op (r, mails) may points = by (refused_at r.group.core.gone op r) refl
     where
       by : (o : Option AnswerBody) → refused_at r.group.core.gone op r ≡ o → place_owes ways (requested o client seq op (r, mails)) + 1 ≤ place_owes ways (r, mails) + (28 + 2 * ways.far (name_of r) r.me)
-      by None e = let le = call_queues (call_of r.calls client) client seq op r mails may in omega (arith, le)
+      by None e = let le = call_queues (queued_number r.backlog client) client seq op r mails may in omega (arith, le)
       by (Some answer) e =
           let s = sent_owes ways r.me (client_actor client) (Answer (name_of r) seq answer) mails in
           let le = refusal_owes r op answer points e in

@@ -41,10 +41,10 @@ module _ (words : ℕ → ℕ → ℕ × ℕ) (births : List (Seat Player)) wher
 rest_owes : (most : ℕ) (r : ReplicaState) → IsAtRest r → replica_owes most r ≡ 0
 rest_owes most r is =
     let acts = ap (sum_by (command_owes most)) is.acts in
-    let calls = ap (sum_by (command_owes most)) is.calls in
+    let backlog = ap (sum_by (command_owes most)) is.backlog in
     let flights = ap (flights_owe most) is.flights in
     let ready = ap (ready_owes most) is.ready in
-    omega (arith, acts, calls, flights, ready)
+    omega (arith, acts, backlog, flights, ready)
 
 rests_owe : (most : ℕ) (replicas : List ReplicaState) → Each IsAtRest replicas → sum_by (replica_owes most) replicas ≡ 0
 rests_owe most [] each = refl

@@ -6,7 +6,7 @@ use Rattle.std.proofs.lemmas.List.Sums.{sum_by-cons}
 use Rattle.sc_base.specs.Definitions.{Among, Arc, end_of, same_draw}
 use Rattle.sc_node_table.specs.Values.{Draw, Op, Link, Route}
 use Rattle.sc_base.proofs.Lemmas.{same_name}
-use Rattle.sc_lookup.specs.Definitions.{KnownGroups, way_to, target_in, changed, starting, group_learnt, told_not_mine, told_gone, new_way}
+use Rattle.sc_lookup.specs.Definitions.{KnownGroups, way_to, target_in, changed, starting, group_learnt, learnt_from_not_mine, learnt_from_gone, new_way}
 use Rattle.sc_lookup.specs.declared.ways.Way.{Way}
 use Rattle.sc_client_table.specs.Definitions.{Client as ClientState, waiting_request, ClientStep, asked_of, sent_where, chosen_for, request_sent, waits_for, was_asked}
 use Rattle.sc_live_steps.specs.calm.Definitions.{unknown_one, unknown, LearnsOneGroup, NotMineTeaches, IsSentOn, GoneSendsOn, AreBounded, Ways}
@@ -124,13 +124,13 @@ sent_knows client (Some group) = asked_knows client group (target_in group clien
 
 -- one that learns of another group
 pub told_one : (ways : Ways) (groups : List Draw) (group : Draw) (arc : Arc) (succ : Link) (client : ClientState) → AreBounded ways → Among succ.group groups → way_to succ.group client.known ≡ None
-    → LearnsOneGroup ways groups group arc succ client (request_sent (record client { known = told_not_mine group arc succ client.known }))
+    → LearnsOneGroup ways groups group arc succ client (request_sent (record client { known = learnt_from_not_mine group arc succ client.known }))
 told_one ways groups group arc succ client bounded a none =
     let le = request_owes ways ways.most after (λ g node e. bounded g node) in
-    let keeps : (g : Draw) → is_some (way_to g client.known) ≡ true → is_some (way_to g (told_not_mine group arc succ client.known)) ≡ true = λ g e. learnt_knows succ.group (end_of arc) succ.members middle g (starting_knows g group arc.lo client.known ∙ e) in
+    let keeps : (g : Draw) → is_some (way_to g client.known) ≡ true → is_some (way_to g (learnt_from_not_mine group arc succ client.known)) ≡ true = λ g e. learnt_knows succ.group (end_of arc) succ.members middle g (starting_knows g group arc.lo client.known ∙ e) in
     let was : unknown_one client.known succ.group ≡ 1 = ap (λ (o : Option Way). cond (is_some o) 0 1) none in
-    let is : unknown_one (told_not_mine group arc succ client.known) succ.group ≡ 0 = known_one (told_not_mine group arc succ client.known) succ.group (learnt_known succ.group (end_of arc) succ.members middle) in
-    let few = one_fewer client.known (told_not_mine group arc succ client.known) keeps groups succ.group a was is in
+    let is : unknown_one (learnt_from_not_mine group arc succ client.known) succ.group ≡ 0 = known_one (learnt_from_not_mine group arc succ client.known) succ.group (learnt_known succ.group (end_of arc) succ.members middle) in
+    let few = one_fewer client.known (learnt_from_not_mine group arc succ client.known) keeps groups succ.group a was is in
     let same = ap (unknown groups) (sent_knows after (chosen_for after (waiting_request after))) in
     (omega (arith, le), omega (arith, few, same))
   where
@@ -138,21 +138,21 @@ told_one ways groups group arc succ client bounded a none =
     middle = starting group arc.lo client.known
 
     after : ClientState
-    after = record client { known = told_not_mine group arc succ client.known }
+    after = record client { known = learnt_from_not_mine group arc succ client.known }
 
 -- ---- an answer that the group is gone
 
-pub gone_known : (group : Draw) (into : Route) (way : Way) (known : KnownGroups) → known ≡ (group, way) ∷ [] → told_gone group into known ≡ (into.group, new_way into.lo into.members) ∷ []
+pub gone_known : (group : Draw) (into : Route) (way : Way) (known : KnownGroups) → known ≡ (group, way) ∷ [] → learnt_from_gone group into known ≡ (into.group, new_way into.lo into.members) ∷ []
 gone_known group into way known is =
-    ap (told_gone group into) is
+    ap (learnt_from_gone group into) is
     ∙ ap (λ b. group_learnt into.group into.lo into.members (cond {A = KnownGroups} b [] ((group, way) ∷ []))) (same_name group group refl)
 
 -- one that leaves a group for another
 pub gone_one : (ways : Ways) (group : Draw) (into : Route) (way : Way) (client : ClientState) → AreBounded ways → client.known ≡ (group, way) ∷ []
-    → IsSentOn ways group into client (request_sent (record client { known = told_gone group into client.known }))
+    → IsSentOn ways group into client (request_sent (record client { known = learnt_from_gone group into client.known }))
 gone_one ways group into way client bounded is =
     let le = request_owes ways ways.most after (λ g node e. bounded g node) in
     (omega (arith, le), sent_knows after (chosen_for after (waiting_request after)) ∙ gone_known group into way client.known is)
   where
     after : ClientState
-    after = record client { known = told_gone group into client.known }
+    after = record client { known = learnt_from_gone group into client.known }

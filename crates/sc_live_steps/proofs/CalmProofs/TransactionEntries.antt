@@ -2,7 +2,7 @@
 use Rattle.std.proofs.Common.{◌≡◌, ℕ, ◌+◌, ◌*◌, ◌≤◌, not, Bool, true, false, true≢false, cond, List, [], ◌∷◌, ◌++◌, length, take, drop, sum_by, Option, Some, None, inl, inr, refl, sym, ◌∙◌, ap, subst, arith, take-append-drop}
 use Rattle.std.specs.List.{filter}
 use Rattle.sc_base.specs.Definitions.{Among, same_draw, is_member, with_member, least_of, united}
-use Rattle.sc_node_table.specs.Values.{Draw, Body, Offer, Watch, Command, Noop, Call, Join, Leave, Split, Begin, Prepared, RecordVote, GiveUp, Finish, Watched, RecordWatch, Core, Lock, Free, Coordinating, Promised, Watching, Effect, Link, Route, OrderRefusal, ToldResult, Frozen, Heard, No, Outcome, Past, Vote, AnswerBody, Mail, TxPrepare, TxVote, TxOutcome, TxWatched}
+use Rattle.sc_node_table.specs.Values.{Draw, Body, Offer, Watch, Command, Noop, Call, Join, Leave, Split, Begin, Prepared, RecordVote, GiveUp, Finish, Watched, RecordWatch, Core, Lock, Free, Coordinating, Promised, Watching, Effect, Link, Route, OrderRefusal, OrderResult, Frozen, Heard, No, Outcome, Past, Vote, AnswerBody, Mail, TxPrepare, TxVote, TxOutcome, TxWatched}
 use Rattle.sc_cmd.specs.Definitions.{is_alone, is_changed, decided_in, cast_in}
 use Rattle.sc_cmd.specs.declared.bodies.Body.TheVariants as At
 use Rattle.sc_cmd.specs.declared.effects.Effect.TheVariants as Was
@@ -11,7 +11,7 @@ use Rattle.sc_cmd.specs.declared.votes.Outcome.TheVariants as Is
 use Rattle.sc_cmd.specs.declared.votes.Past.TheVariants as Cast
 use Rattle.sc_cmd.specs.declared.votes.Vote.TheVariants as Says
 use Rattle.sc_machine_table.specs.Definitions.{gained_group, lost_group, welcomed_group, participant_after, settled_in, finished, Group, applied, ordered_by, split_group, refusal_of, ordered, frozen_of, closing_plan, repart_plan, migrate_plan, staying, has_named, left_group, begun_group, decided_group, heard_group, committed, granted, participant_answered, asks_watcher, vote_recorded, has_voted, voted_on, vote_of, watch_vote_of}
-use Rattle.sc_node_table.specs.Definitions.{sent, entered, order_result, told_effect, told_call, announced, answer_of, is_act, offer_of, asked_link, question, asked_first, ReplicaState, Place, members, forgotten, before_of, asked_on, vote_sent, watch_sent, released_to, vote_answered, watch_answered_by, told_begun, went_on, spoken_mails, spoken}
+use Rattle.sc_node_table.specs.Definitions.{sent, entered, order_result, effect_reported, answered_or_put_back, announced, answer_of, is_act, offer_of, asked_link, question, asked_first, ReplicaState, Place, members, forgotten, before_of, asked_on, vote_sent, watch_sent, released_to, vote_answered, watch_answered_by, begun_reported, went_on, spoken_mails, spoken}
 use Rattle.sc_live_steps.specs.calm.Definitions.{AreBounded, said_place, newcomers, Ways, mail_owes}
 use Rattle.sc_live_steps.proofs.CalmProofs.PotentialSums.{sent_owes}
 use Rattle.sc_live_steps.proofs.CalmProofs.LearntEntries.{filter_short, begun_owes}
@@ -115,8 +115,8 @@ finish_new tx outcome r =
 -- ---- what is said
 
 -- an entry that is no call sends no answer to a client
-call_passes : (o : Option AnswerBody) (command : Command) (place : Place) → is_act command ≡ true → told_call o command place ≡ place
-unfolding told_call
+call_passes : (o : Option AnswerBody) (command : Command) (place : Place) → is_act command ≡ true → answered_or_put_back o command place ≡ place
+unfolding answered_or_put_back
 call_passes (Some answer) Noop place is = refl
 call_passes o (Call client seq op) place is = absurd (true≢false (sym is))
 call_passes (Some answer) (Join node order) place is = refl
@@ -144,15 +144,15 @@ module _ (ways : Ways) where
   Goes command r step said = (more : List Mail) → sum (went_on r.me step.0 (before_of r.group.core) step.1 command more) ≤ sum more + said
 
   act_said : (command : Command) (r : ReplicaState) (mails : List Mail) (said : ℕ) → is_act command ≡ true → order_result command (applied r.group command).1 ≡ None → Goes command r (applied r.group command) said → SaysMost command r mails said
-  unfolding announced told_effect spoken spoken_mails entered forgotten
+  unfolding announced effect_reported spoken spoken_mails entered forgotten
   act_said command r mails said act none went =
       let effect = (applied r.group command).1 in
       let before = before_of r.group.core in
       let q = entered command r in
-      let here : announced true effect command (q, mails) ≡ (q, mails) = ap (λ (o : Option ToldResult). told_effect o command (told_call (answer_of effect) command (q, mails))) none ∙ call_passes (answer_of effect) command (q, mails) act in
+      let here : announced true effect command (q, mails) ≡ (q, mails) = ap (λ (o : Option OrderResult). effect_reported o command (answered_or_put_back (answer_of effect) command (q, mails))) none ∙ call_passes (answer_of effect) command (q, mails) act in
       let same = ap (λ (p : Place). spoken true before effect command p) here in
       let quiet = begun_owes ways r.me before effect command mails in
-      let le = went (told_begun r.me before effect command mails) in
+      let le = went (begun_reported r.me before effect command mails) in
       let whole = ap (λ (p : Place). sum p.1) same in
       (ap (λ (p : Place). p.0) same, omega (arith, whole, quiet, le))
 

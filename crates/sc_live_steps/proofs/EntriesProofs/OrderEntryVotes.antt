@@ -13,14 +13,14 @@ use Rattle.sc_live_steps.specs.entries.LoneEntries.{IsEntry, OrderEntriesCount}
 use Rattle.sc_live_steps.proofs.EntriesProofs.MemberChanges.{join-stands, join-keeps, leave-stands, split-stands, split-keeps, vote-waits, watch-stands, finish-keeps}
 use Rattle.sc_live_steps.proofs.EntriesProofs.LoneEntries.{leads_on}
 
-module _ (q : ReplicaState) (stands : q.group.core.gone ≡ None) (mine : is_member (members q) q.me ≡ true) (flights : without_flight (next q) q.leader.flights ≡ []) (alone : without_slot q.ready (next q) ≡ []) (calls : q.calls ≡ []) where
+module _ (q : ReplicaState) (stands : q.group.core.gone ≡ None) (mine : is_member (members q) q.me ≡ true) (flights : without_flight (next q) q.leader.flights ≡ []) (alone : without_slot q.ready (next q) ≡ []) (backlog : q.backlog ≡ []) where
   leads_if : (command : Command) → IsCounting command q → (applied q.group command).0.core.gone ≡ q.group.core.gone → is_member (applied q.group command).0.core.members q.me ≡ true → LeadsOn command q
   unfolding entered forgotten
   leads_if command c g m = record { counting = c; stands = g ∙ stands; stays = m }
 
   stops_if : (command : Command) → IsCounting command q → (applied q.group command).0.core.gone ≡ q.group.core.gone → is_member (applied q.group command).0.core.members q.me ≡ false → StopsAfter command q
   unfolding entered forgotten
-  stops_if command c g m = record { counting = c; stands = g ∙ stands; leaves = m; flights = flights; alone = alone; calls = calls }
+  stops_if command c g m = record { counting = c; stands = g ∙ stands; leaves = m; flights = flights; alone = alone; backlog = backlog }
 
   either_if : (command : Command) → IsCounting command q → (applied q.group command).0.core.gone ≡ q.group.core.gone → (b : Bool) → is_member (applied q.group command).0.core.members q.me ≡ b → LeadsOn command q ⊎ StopsAfter command q
   either_if command c g true m = inl (leads_if command c g m)
@@ -77,13 +77,13 @@ few_ready slot value r few = few
 
 -- So may one at which any entry of an order is in flight, alone, and no call waits: it is paid for, also where the leader leaves by it, or its group is gone.
 pub order-entries-count : OrderEntriesCount
-order-entries-count slot flight r lone calls may few after mine stands entry = inr (inr (
+order-entries-count slot flight r lone backlog may few after mine stands entry = inr (inr (
   flight,
   record {
     flights = lone.flights;
     ready = lone.ready;
     may = may;
-    paid = λ e. entry_paid (readied_at slot flight.value r) stands mine (none_flies e) (none_ready e) calls flight.value (counting e) (few_ready slot flight.value r after) (entry_ready slot flight.value flight.value r entry);
+    paid = λ e. entry_paid (readied_at slot flight.value r) stands mine (none_flies e) (none_ready e) backlog flight.value (counting e) (few_ready slot flight.value r after) (entry_ready slot flight.value flight.value r entry);
     leaves = λ e. few_ready slot flight.value r after;
   },
 ))

@@ -78,9 +78,9 @@ module _ (P : Place → Type 0) (r : ReplicaState) (mails : List Mail) (running 
 
 module _ (at : Sets) (course : Course) (command : Command) (r : ReplicaState) (mails : List Mail) (led : IsLed at course r) (is_next : IsNext at command r) where
   -- with these queues, once it has said so much
-  module _ (acts calls : List Command) (more : List Mail) (same : (who : ℕ) → marks_for (name_of r) who more ≡ marks_for (name_of r) who mails) where
+  module _ (acts backlog : List Command) (more : List Mail) (same : (who : ℕ) → marks_for (name_of r) who more ≡ marks_for (name_of r) who mails) where
     abbrev pub here : ReplicaState
-    here = record (entered command r) { acts = acts; calls = calls }
+    here = record (entered command r) { acts = acts; backlog = backlog }
 
     leads_here : IsLeader at course (members r) (next r) here
     leads_here = record {
@@ -105,7 +105,7 @@ module _ (at : Sets) (course : Course) (command : Command) (r : ReplicaState) (m
     abbrev pub over : ReplicaState
     over = record here { leader = without_flight_at (next r) (entered command r).leader; ready = without_slot (entered command r).ready (next r) }
 
-    over_is : over ≡ led_on command acts calls r
+    over_is : over ≡ led_on command acts backlog r
     over_is =
         ap (λ l. record here { leader = without_flight_at (next r) l; ready = without_slot (entered command r).ready (next r) }) (entered_keeps command r).1
         ∙ ap (λ es. record here { leader = without_flight_at (next r) r.leader; ready = without_slot es (next r) }) (entered_keeps command r).2
@@ -116,12 +116,12 @@ module _ (at : Sets) (course : Course) (command : Command) (r : ReplicaState) (m
     goes_on : (entered command r).group.core.gone ≡ None → is_member (members (entered command r)) (entered command r).me ≡ true → LeadsPast at course command (r, mails) (over, told.1)
     goes_on stands stays = record {
       sends = tells;
-      state = inl (record { stands = stands; stays = ap (is_member (members (entered command r))) (sym (entered_keeps command r).3) ∙ stays; acts = acts; calls = calls; is = over_is });
+      state = inl (record { stands = stands; stays = ap (is_member (members (entered command r))) (sym (entered_keeps command r).3) ∙ stays; acts = acts; backlog = backlog; is = over_is });
     }
 
     off_is : (hint : Option ℕ) (answer : AnswerBody) → (ended hint answer (over, told.1)).0 ≡ led_off command hint r
     unfolding ended
-    off_is hint answer = ap (λ l. record (entered command r) { running = false; leader = new_leader l.ballot (next (entered command r)); ready = []; acts = []; calls = []; hint = hint }) (entered_keeps command r).1
+    off_is hint answer = ap (λ l. record (entered command r) { running = false; leader = new_leader l.ballot (next (entered command r)); ready = []; acts = []; backlog = []; hint = hint }) (entered_keeps command r).1
 
     ends_off : ((into : Route) × ((entered command r).group.core.gone ≡ Some into)) ⊎ (((entered command r).group.core.gone ≡ None) × (is_member (members (entered command r)) (entered command r).me ≡ false))
         → (hint : Option ℕ) (answer : AnswerBody) → LeadsPast at course command (r, mails) (ended hint answer (over, told.1))
@@ -148,12 +148,12 @@ module _ (at : Sets) (course : Course) (command : Command) (r : ReplicaState) (m
   unfolding executed_one
   leads_past =
       announced_keeps (name_of r) (λ place. LeadsPast at course command (r, mails) (then_on place)) (entered command r) mails
-      (λ acts calls more same.
-      let q : ReplicaState = record (entered command r) { acts = acts; calls = calls } in
+      (λ acts backlog more same.
+      let q : ReplicaState = record (entered command r) { acts = acts; backlog = backlog } in
       let said : Place = spoken true (before_of r.group.core) (applied r.group command).1 command (q, more) in
       subst (λ (x : ReplicaState). LeadsPast at course command (r, mails) (looked (left (landed true (next r) command (welcomed true (members r) (learnt_to true (members r) (next r) command (x, said.1)))))))
       (sym (spoken_same (name_of r) 0 (before_of r.group.core) (applied r.group command).1 command q more).0)
-      (past acts calls said.1 (λ who. (spoken_same (name_of r) who (before_of r.group.core) (applied r.group command).1 command q more).1 ∙ same who)))
+      (past acts backlog said.1 (λ who. (spoken_same (name_of r) who (before_of r.group.core) (applied r.group command).1 command q more).1 ∙ same who)))
       (applied r.group command).1 command
 
 -- A leader that has counted an entry sends no other mail of agreement than what `reported_of` says of it, and leads on where it is a member of a group that stands, with the entry's slot over; else it runs no longer.

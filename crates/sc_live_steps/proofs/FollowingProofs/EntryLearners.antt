@@ -89,8 +89,8 @@ module _ (at : Sets) (by : Tellers) (now after : Progress) (node : ℕ) (taken :
   abbrev lead : ℕ
   lead = now.course.ballot.node
 
-  told_row : ((who : ℕ) → Each (IsForMember at who) (sent who)) → (who : ℕ) → Each (IsForMember at who) (marks_after who)
-  told_row new who = each-row now after node taken sent marks marks_after row (IsForMember at who) who (o.told who) (new who)
+  row_of_entry : ((who : ℕ) → Each (IsForMember at who) (sent who)) → (who : ℕ) → Each (IsForMember at who) (marks_after who)
+  row_of_entry new who = each-row now after node taken sent marks marks_after row (IsForMember at who) who (o.told who) (new who)
 
   -- another node is taken no less far
   others_reached : IsFollowing at after marks_after → (who : ℕ) → (who ≡ node → ⊥) → reached (now.next who) (marks who) ≤ reached (after.next who) (marks_after who)
@@ -105,7 +105,7 @@ module _ (at : Sets) (by : Tellers) (now after : Progress) (node : ℕ) (taken :
   idle_taught : IsIdle now after node taken sent → AreTaught at after marks_after
   idle_taught i = record {
     taught = λ who slot low is. subst (λ n. slot < n) (sym (ends who)) (o.taught who slot (subst (λ (c : Course). slot < c.newest) i.course low) is);
-    told = told_row (λ who. subst (Each (IsForMember at who)) (sym (i.sends who)) tt);
+    told = row_of_entry (λ who. subst (Each (IsForMember at who)) (sym (i.sends who)) tt);
     learnt = λ who slot is. o.learnt who slot (sym (next who) ∙ is);
   }
     where
@@ -133,7 +133,7 @@ module _ (at : Sets) (by : Tellers) (now after : Progress) (node : ℕ) (taken :
     takes_taught : AreTaught at after marks_after
     takes_taught = record {
       taught = λ who slot low is. subst (λ n. slot < n) (sym (reached_left at now after node taken sent marks marks_after row t was who)) (o.taught who slot (subst (λ (c : Course). slot < c.newest) t.course low) is);
-      told = told_row (λ who. Each-weaker IsCount (IsForMember at who) (count_member at who) (sent who) (subst (Each IsCount) (sym (t.sends who)) (counts_of node (now.promise node) t.mark who)));
+      told = row_of_entry (λ who. Each-weaker IsCount (IsForMember at who) (count_member at who) (sent who) (subst (Each IsCount) (sym (t.sends who)) (counts_of node (now.promise node) t.mark who)));
       learnt = λ who slot is. elim (cases_eq who node) [
         | inl e ↦ subst (λ n. IsMemberBy at n slot) (sym e)
             (by_mark t.mark (now.next node) slot (subst (Each (IsForMember at node)) here (o.told node)).0 (o.learnt node slot) (sym t.next ∙ subst (λ n. after.next n ≡ suc slot) e is))
@@ -195,7 +195,7 @@ module _ (at : Sets) (by : Tellers) (now after : Progress) (node : ℕ) (taken :
           | inr from ↦ new_reached who ne slot from low is
         ]
       ];
-      told = told_row sent_members;
+      told = row_of_entry sent_members;
       learnt = λ who slot is. elim (cases_eq who node) [ inl e ↦ subst (λ n. IsMemberBy at n slot) (sym e) (own_learnt slot (subst (λ n. after.next n ≡ suc slot) e is)) | inr ne ↦ others_learnt who ne slot is ];
     }
 
@@ -230,7 +230,7 @@ module _ (at : Sets) (by : Tellers) (now after : Progress) (node : ℕ) (taken :
             subst (λ n. slot < reached (after.next n) (marks_after n)) (sym own) far)
         | inr ne ↦ (let same = e.newest in let a = o.taught who slot (omega (arith, low, same)) is in let b = others_reached then_elected who ne in omega (arith, a, b))
       ];
-      told = told_row asks_members;
+      told = row_of_entry asks_members;
       learnt = λ who slot is. elim (cases_eq who node) [ inl own ↦ subst (λ n. IsMemberBy at n slot) (sym own) (last_learnt slot (subst (λ n. after.next n ≡ suc slot) own is)) | inr ne ↦ others_learnt who ne slot is ];
     }
 

@@ -49,8 +49,8 @@ module _ (at : Sets) (course : Course) (command : Command) (r : ReplicaState) (l
       none : taken_at r (next r) ≡ None → ⊥
       none e = by (flying r (next r)) (ap (λ o. either (flying r (next r)) o) (sym ready) ∙ e)
 
-  pub stays_led : (acts calls : List Command) → (entered command r).group.core.gone ≡ None → is_member (members (entered command r)) r.me ≡ true → IsLed at course (led_on command acts calls r)
-  stays_led acts calls stands stays = record {
+  pub stays_led : (acts backlog : List Command) → (entered command r).group.core.gone ≡ None → is_member (members (entered command r)) r.me ≡ true → IsLed at course (led_on command acts backlog r)
+  stays_led acts backlog stands stays = record {
     running = (entered_keeps command r).0 ∙ led.running;
     stands = stands;
     first = led.first;
@@ -73,7 +73,7 @@ module _ (at : Sets) (course : Course) (command : Command) (r : ReplicaState) (l
       apart : (s : ℕ) → next (entered command r) ≤ s → s ≡ next r → ⊥
       apart s least e = (let up = entered_next command r in omega (arith, up, least, e))
 
-      same : (s : ℕ) → (s ≡ next r → ⊥) → taken_at (led_on command acts calls r) s ≡ taken_at r s
+      same : (s : ℕ) → (s ≡ next r → ⊥) → taken_at (led_on command acts backlog r) s ≡ taken_at r s
       same s ne =
           ap (λ (o : Option (Flight Command)). either (option_map (λ flight. flight.value) o) (at_slot (without_slot r.ready (next r)) s)) (flight_out (next r) s r.leader.flights ne)
           ∙ ap (λ o. either (flying r s) o) (slot_out (next r) s r.ready ne)
@@ -167,7 +167,7 @@ module _ (at : Sets) (course : Course) (place mid : Place) (b : LeadsBy at cours
     state = inl (subst (IsStill at course o.bound place.0) (sym o.is) (record { led = led_then; promisers = still.promisers; flies = flies_then }));
   }
     where
-      led_then : IsLed at (to_bound o.bound course) (record mid.0 { leader = record mid.0.leader { flights = mid.0.leader.flights ++ o.begun }; acts = o.acts; calls = o.calls })
+      led_then : IsLed at (to_bound o.bound course) (record mid.0 { leader = record mid.0.leader { flights = mid.0.leader.flights ++ o.begun }; acts = o.acts; backlog = o.backlog })
       led_then = record {
         running = still.led.running;
         stands = still.led.stands;
@@ -330,7 +330,7 @@ step_leads at course command place es led ready is_next rest =
     let past = entries_lead at course command place led is_next in
     elim (past.state) [
       | inl on ↦ before_rest at course command place mid led ready is_next past on (pumped (executed_ready es mid).0)
-          (pump_leads at course mid (executed_ready es mid).0 (rest (subst (IsLed at course) (sym on.is) (stays_led at course command place.0 led ready is_next on.acts on.calls on.stands on.stays))))
+          (pump_leads at course mid (executed_ready es mid).0 (rest (subst (IsLed at course) (sym on.is) (stays_led at course command place.0 led ready is_next on.acts on.backlog on.stands on.stays))))
       | inr off ↦ (let still : mid.0.running ≡ false = ap (λ (q : ReplicaState). q.running) off.is in
           subst (λ (s : Executed). LeadsBy at course place (pumped s.0)) (sym (idle_ready es mid still))
           (subst (LeadsBy at course place) (sym (idle_pump mid still)) (last_one at course command place mid led ready is_next past off)))

@@ -9,7 +9,7 @@ use Rattle.std.proofs.lemmas.List.Sums.{sum_by-cons}
 use Rattle.sc_node_table.specs.Values.{Command, Noop, Call, Core, AnswerBody, Mail, Accept, Flight, Report}
 use Rattle.sc_base.specs.Definitions.{votes_of, is_majority, is_member}
 use Rattle.sc_paxos_words.specs.Definitions.{below, chosen_value, names_above, must_without, flight_at, without_flight, with_voters}
-use Rattle.sc_node_table.specs.Definitions.{answered, sent_all, Found, is_act, waits, turned_down, next_call, from_calls, from_acts, from_queues, found_by, found_for, offered, pumped_from, pumped, ReplicaState, Place, listed, name_of, next, settled, may_offer, either, taken_at, flying, taken_from, under_way, is_idle, first_set, last_slot, at_slot, with_slot, numbers_from}
+use Rattle.sc_node_table.specs.Definitions.{answered, sent_all, Found, is_act, waits, turned_down, next_queued, from_backlog, from_acts, from_queues, found_by, found_for, offered, pumped_from, pumped, ReplicaState, Place, listed, name_of, next, settled, may_offer, either, taken_at, flying, taken_from, under_way, is_idle, first_set, last_slot, at_slot, with_slot, numbers_from}
 use Rattle.sc_live_steps.specs.following.Definitions.{AreApart, HasBallot, IsOrderly}
 use Rattle.sc_live_steps.proofs.FollowingProofs.FlightSlots.{flight_out, slot_in, slot_over, polled_here, polled_out}
 use Rattle.sc_live_steps.proofs.FollowingProofs.LeaderTables.{none_taken}
@@ -123,43 +123,43 @@ not_waiting idle core command w act = by command w act
     by (Call client seq op) w act = absurd (true≢false (sym act))
     by _ w act = idle_by _ idle w
 
-call_idle : (me : ℕ) (idle : Bool) (core : Core) (calls : List Command) (mails : List Mail) (command : Command) → (next_call me idle core calls mails).0 ≡ Some command → is_act command ≡ true → idle ≡ true
-unfolding next_call
+call_idle : (me : ℕ) (idle : Bool) (core : Core) (backlog : List Command) (mails : List Mail) (command : Command) → (next_queued me idle core backlog mails).0 ≡ Some command → is_act command ≡ true → idle ≡ true
+unfolding next_queued
 call_idle me idle core [] mails command e act = cc
-call_idle me idle core (head ∷ calls) mails command e act = by (waits idle core.lock head) refl (turned_down core head) e (λ more i. call_idle me idle core calls more command i act)
+call_idle me idle core (head ∷ backlog) mails command e act = by (waits idle core.lock head) refl (turned_down core head) e (λ more i. call_idle me idle core backlog more command i act)
   where
     by : (b : Bool) → waits idle core.lock head ≡ b → (o : Option AnswerBody)
-        → (cond {A = Option Command × List Command × List Mail} b (None, head ∷ calls, mails) (elim o [ None ↦ (Some head, calls, mails) | Some answer ↦ next_call me idle core calls (answered me core.id answer head mails) ])).0 ≡ Some command
-        → ((more : List Mail) → (next_call me idle core calls more).0 ≡ Some command → idle ≡ true) → idle ≡ true
+        → (cond {A = Option Command × List Command × List Mail} b (None, head ∷ backlog, mails) (elim o [ None ↦ (Some head, backlog, mails) | Some answer ↦ next_queued me idle core backlog (answered me core.id answer head mails) ])).0 ≡ Some command
+        → ((more : List Mail) → (next_queued me idle core backlog more).0 ≡ Some command → idle ≡ true) → idle ≡ true
     by true w o e more = cc
     by false w None e more = (let same : head ≡ command = cc in not_waiting idle core head w (ap is_act same ∙ act))
     by false w (Some answer) e more = more (answered me core.id answer head mails) e
 
 module _ (P : Found → Type 0) (r : ReplicaState) (mails : List Mail) (plain : r.leader.reports ≡ [])
-    (p : (o : Option Command) (acts calls : List Command) (more : List Mail) → ((command : Command) → o ≡ Some command → MayBegin r command) → P (o, (record r { acts = acts; calls = calls }, more))) where
-  nothing : (acts calls : List Command) (more : List Mail) → P (None, (record r { acts = acts; calls = calls }, more))
-  nothing acts calls more = p None acts calls more (λ command e. cc)
+    (p : (o : Option Command) (acts backlog : List Command) (more : List Mail) → ((command : Command) → o ≡ Some command → MayBegin r command) → P (o, (record r { acts = acts; backlog = backlog }, more))) where
+  nothing : (acts backlog : List Command) (more : List Mail) → P (None, (record r { acts = acts; backlog = backlog }, more))
+  nothing acts backlog more = p None acts backlog more (λ command e. cc)
 
-  calls_may : list_any is_act (under_way r) ≡ false → P (from_calls (r, mails))
-  unfolding from_calls
+  calls_may : list_any is_act (under_way r) ≡ false → P (from_backlog (r, mails))
+  unfolding from_backlog
   calls_may quiet =
-      let found = next_call r.me (is_idle r) r.group.core r.calls mails in
-      p found.0 r.acts found.1 found.2 (λ command e. record { quiet = quiet; idle = λ act. call_idle r.me (is_idle r) r.group.core r.calls mails command e act })
+      let found = next_queued r.me (is_idle r) r.group.core r.backlog mails in
+      p found.0 r.acts found.1 found.2 (λ command e. record { quiet = quiet; idle = λ act. call_idle r.me (is_idle r) r.group.core r.backlog mails command e act })
 
   acts_may : list_any is_act (under_way r) ≡ false → (acts : List Command) → P (from_acts acts (r, mails))
   acts_may quiet [] = calls_may quiet
   acts_may quiet (act ∷ acts) = by (is_idle r) refl
     where
       by : (b : Bool) → is_idle r ≡ b → P (cond b (Some act, (record r { acts = acts }, mails)) (None, (r, mails)))
-      by true t = p (Some act) acts r.calls mails (λ command e. record { quiet = quiet; idle = λ _. t })
-      by false f = nothing r.acts r.calls mails
+      by true t = p (Some act) acts r.backlog mails (λ command e. record { quiet = quiet; idle = λ _. t })
+      by false f = nothing r.acts r.backlog mails
 
   queues_may : P (from_queues (r, mails))
   unfolding from_queues
   queues_may = by (list_any is_act (under_way r)) refl
     where
       by : (b : Bool) → list_any is_act (under_way r) ≡ b → P (cond b (None, (r, mails)) (from_acts r.acts (r, mails)))
-      by true t = nothing r.acts r.calls mails
+      by true t = nothing r.acts r.backlog mails
       by false f = acts_may f r.acts
 
   found_may : (slot : ℕ) → P (found_for slot (r, mails))
@@ -172,12 +172,12 @@ module _ (P : Found → Type 0) (r : ReplicaState) (mails : List Mail) (plain : 
 abbrev pub IsBounded : ReplicaState → Type 0
 IsBounded r = (slot : ℕ) → next r + length r.sets ≤ slot → taken_at r slot ≡ None
 
-module _ (r : ReplicaState) (o : IsOrderly r) (bounded : IsBounded r) (slot : ℕ) (command : Command) (least : next r ≤ slot) (most : slot < next r + length r.sets) (free : taken_at r slot ≡ None) (may : MayBegin r command) (has : HasBallot r) (acts calls : List Command) where
+module _ (r : ReplicaState) (o : IsOrderly r) (bounded : IsBounded r) (slot : ℕ) (command : Command) (least : next r ≤ slot) (most : slot < next r + length r.sets) (free : taken_at r slot ≡ None) (may : MayBegin r command) (has : HasBallot r) (acts backlog : List Command) where
   abbrev new : Flight Command
   new = record { slot = slot; value = command; voters = None }
 
   abbrev pub begins : ReplicaState
-  begins = record r { leader = record r.leader { flights = r.leader.flights ++ new ∷ [] }; acts = acts; calls = calls }
+  begins = record r { leader = record r.leader { flights = r.leader.flights ++ new ∷ [] }; acts = acts; backlog = backlog }
 
   same_at : (s : ℕ) → (s ≡ slot → ⊥) → taken_at begins s ≡ taken_at r s
   same_at s ne = ap (λ (f : Option (Flight Command)). either (option_map (λ (x : Flight Command). x.value) f) (at_slot r.ready s)) (pushed_at s r.leader.flights new (λ e. ne (sym e)))
@@ -235,13 +235,13 @@ orderly_from slot (set ∷ sets) r mails o bounded has least ends = by (is_some 
     goes : Found → Place
     goes f = elim (f.0) [ None ↦ f.1 | Some command ↦ pumped_from (slot + 1) sets (offered slot set command f.1) ]
 
-    found : Rest → taken_at r slot ≡ None → (x : Option Command) (acts calls : List Command) (more : List Mail) → ((command : Command) → x ≡ Some command → MayBegin r command) → IsOrderly (goes (x, (record r { acts = acts; calls = calls }, more))).0
-    found rest free None acts calls more may = record { apart = o.apart; single = o.single; alone = o.alone; plain = o.plain; asked = o.asked }
-    found rest free (Some command) acts calls more may =
+    found : Rest → taken_at r slot ≡ None → (x : Option Command) (acts backlog : List Command) (more : List Mail) → ((command : Command) → x ≡ Some command → MayBegin r command) → IsOrderly (goes (x, (record r { acts = acts; backlog = backlog }, more))).0
+    found rest free None acts backlog more may = record { apart = o.apart; single = o.single; alone = o.alone; plain = o.plain; asked = o.asked }
+    found rest free (Some command) acts backlog more may =
         let most : slot < next r + length r.sets = omega (arith, ends) in
-        subst (λ (p : Place). IsOrderly (pumped_from (slot + 1) sets p).0) (sym (offered_is slot set command (record r { acts = acts; calls = calls }) more))
-        (rest (begins r o bounded slot command least most free (may command refl) has acts calls) (sent_all r.me set (Accept (name_of r) r.leader.ballot slot command) more)
-        (begins_orderly r o bounded slot command least most free (may command refl) has acts calls) (begins_bounded r o bounded slot command least most free (may command refl) has acts calls) has (omega (arith, least)) (omega (arith, ends)))
+        subst (λ (p : Place). IsOrderly (pumped_from (slot + 1) sets p).0) (sym (offered_is slot set command (record r { acts = acts; backlog = backlog }) more))
+        (rest (begins r o bounded slot command least most free (may command refl) has acts backlog) (sent_all r.me set (Accept (name_of r) r.leader.ballot slot command) more)
+        (begins_orderly r o bounded slot command least most free (may command refl) has acts backlog) (begins_bounded r o bounded slot command least most free (may command refl) has acts backlog) has (omega (arith, least)) (omega (arith, ends)))
 
     offering : Rest → taken_at r slot ≡ None → (b : Bool) → IsOrderly (cond b (goes (found_for slot (r, mails))) (r, mails)).0
     offering rest free true = found_may (λ f. IsOrderly (goes f).0) r mails o.plain (found rest free) slot

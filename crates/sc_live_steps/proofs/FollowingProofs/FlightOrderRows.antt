@@ -47,7 +47,7 @@ module _ (at : Sets) (course : Course) (command : Command) (place : Place) (led 
   past = entries_lead at course command place led is_next
 
   on_led : IsOn command place.0 mid.0 → IsLed at course mid.0
-  on_led on = subst (IsLed at course) (sym on.is) (stays_led at course command place.0 led ready is_next on.acts on.calls on.stands on.stays)
+  on_led on = subst (IsLed at course) (sym on.is) (stays_led at course command place.0 led ready is_next on.acts on.backlog on.stands on.stays)
 
   up_by : IsOn command place.0 mid.0 → next mid.0 ≡ next place.0 + 1
   up_by on = ap next on.is ∙ entered_next command place.0
@@ -136,11 +136,11 @@ module _ (at : Sets) (now : Progress) (r : ReplicaState) (was : IsLeadOf at now 
   abbrev Kept : Place → Type 0
   Kept p = IsOrderly p.0
 
-  quiet : (top : Ballot) (acts calls : List Command) (more : List Mail) → Kept (record r { top = top; acts = acts; calls = calls }, more)
-  quiet top acts calls more = record { apart = o.apart; single = o.single; alone = o.alone; plain = o.plain; asked = o.asked }
+  quiet : (top : Ballot) (acts backlog : List Command) (more : List Mail) → Kept (record r { top = top; acts = acts; backlog = backlog }, more)
+  quiet top acts backlog more = record { apart = o.apart; single = o.single; alone = o.alone; plain = o.plain; asked = o.asked }
 
-  offers : (acts calls : List Command) → Kept (pumped (record r { acts = acts; calls = calls }, []))
-  offers acts calls = pump_orderly (record r { acts = acts; calls = calls }) [] (record { apart = o.apart; single = o.single; alone = o.alone; plain = o.plain; asked = o.asked }) (led_bounded at now.course r was.led.may)
+  offers : (acts backlog : List Command) → Kept (pumped (record r { acts = acts; backlog = backlog }, []))
+  offers acts backlog = pump_orderly (record r { acts = acts; backlog = backlog }) [] (record { apart = o.apart; single = o.single; alone = o.alone; plain = o.plain; asked = o.asked }) (led_bounded at now.course r was.led.may)
 
 -- What a leader has in flight and ready stays one command at a slot, and anything but a call or a filler alone, by each of its rows after which it leads on, where promises have no reports.
 pub order_is_kept : OrderIsKept
@@ -151,6 +151,6 @@ order_is_kept = record {
       vote_row at now from ballot slot r rosters was decides (λ e. e.0.0.running ≡ true → IsOrderly e.0.0) (λ mid c keeps goes. keeps o)
       (λ command mid c ready entries before keeps. executed_orderly at now.course command (mid, []) c.led ready entries.0 entries.1 (keeps o));
   promises = λ at now from ballot r was o. promise_orderly at now from ballot r was o;
-  asides = λ at now from body r was aside o. aside_is (λ p. IsOrderly p.0) r was.led.running (λ top acts calls more none. quiet at now r was o top acts calls more) (offers at now r was o) from body aside;
-  orders = λ at now on drawer line r was o. order_is (λ p. IsOrderly p.0) r was.led.running (λ top acts calls more none. quiet at now r was o top acts calls more) (offers at now r was o) on drawer line;
+  asides = λ at now from body r was aside o. aside_is (λ p. IsOrderly p.0) r was.led.running (λ top acts backlog more none. quiet at now r was o top acts backlog more) (offers at now r was o) from body aside;
+  orders = λ at now on drawer line r was o. order_is (λ p. IsOrderly p.0) r was.led.running (λ top acts backlog more none. quiet at now r was o top acts backlog more) (offers at now r was o) on drawer line;
 }

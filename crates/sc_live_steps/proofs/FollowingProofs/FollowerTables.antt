@@ -2,13 +2,13 @@
 use Rattle.std.proofs.Common.{◌≡◌, ℕ, max, ◌≤◌, eqb, ltb, Bool, true, false, true≢false, cond, List, [], Option, Some, None, inl, inr, refl, sym, ◌∙◌, ap, subst, arith}
 use Rattle.std.specs.Option.{option_map}
 use Rattle.std.proofs.lemmas.Bool.{eqb-true, eq-eqb, le-ltb}
-use Rattle.sc_node_table.specs.Values.{Draw, Command, Effect, Route, ToldResult, Mail, Ask, Told, Flight}
+use Rattle.sc_node_table.specs.Values.{Draw, Command, Effect, Route, OrderResult, Mail, Ask, Told, Flight}
 use Rattle.sc_base.specs.Definitions.{least_of}
-use Rattle.sc_policy.specs.Definitions.{is_told}
+use Rattle.sc_policy.specs.Definitions.{is_reported}
 use Rattle.sc_paxos_words.specs.Definitions.{LeaderState, flight_at, without_flight_at}
 use Rattle.sc_machine_table.specs.Definitions.{applied}
 use Rattle.sc_node_table.specs.declared.Before.{Before}
-use Rattle.sc_node_table.specs.Definitions.{elected, entered, order_result, told_effect, announced, learnt_to, welcomed, slot_lost, landed, left_gone, left, is_among, looked_for, looked, executed_one, executed_ready, executed, sent, told_order, told_desk, order_number, pumped, ReplicaState, Place, Executed, childless, name_of, next, members, last_slot, floor_of, forgotten, learn_row, mailed, without_slot, before_of, begun_result, spoken_number, told_result, told_begun, spoken_mails, spoken}
+use Rattle.sc_node_table.specs.Definitions.{elected, entered, order_result, effect_reported, announced, learnt_to, welcomed, slot_lost, landed, left_gone, left, is_among, looked_for, looked, executed_one, executed_ready, executed, sent, order_reported, result_sent, order_number, pumped, ReplicaState, Place, Executed, childless, name_of, next, members, last_slot, floor_of, forgotten, learn_row, mailed, without_slot, before_of, begun_result, spoken_number, result_reported, begun_reported, spoken_mails, spoken}
 use Rattle.sc_live_steps.specs.following.Definitions.{Tells, marks_for, StepsBy, IsInTime, Stays, TablesFollow}
 use Rattle.sc_live_steps.proofs.FollowingProofs.MailTables.{marks-push, floor_low, accept_steps, prepare_steps, install_steps}
 use Rattle.sc_law_walks.proofs.Lemmas.{entered_next, idle_ready, idle_pump}
@@ -16,17 +16,17 @@ use Rattle.sc_law_walks.proofs.Lemmas.{entered_next, idle_ready, idle_pump}
 -- ---- what the desk is sent is nothing to a group
 
 module _ (name : Draw) (who : ℕ) where
-  pub desk_marks : (me number : ℕ) (result : ToldResult) (mails : List Mail) → marks_for name who (told_order me number result mails) ≡ marks_for name who mails
-  unfolding told_order
-  desk_marks me number result mails = by (is_told number)
+  pub desk_marks : (me number : ℕ) (result : OrderResult) (mails : List Mail) → marks_for name who (order_reported me number result mails) ≡ marks_for name who mails
+  unfolding order_reported
+  desk_marks me number result mails = by (is_reported number)
     where
-      by : (b : Bool) → marks_for name who (cond b (told_desk me number result mails) mails) ≡ marks_for name who mails
+      by : (b : Bool) → marks_for name who (cond b (result_sent me number result mails) mails) ≡ marks_for name who mails
       by true = marks-push name who mails (record { from = me; to = 0; body = Told number result }) refl
       by false = refl
 
-  effect_marks : (o : Option ToldResult) (command : Command) (r : ReplicaState) (mails : List Mail) →
-      ((told_effect o command (r, mails)).0 ≡ r) × (marks_for name who (told_effect o command (r, mails)).1 ≡ marks_for name who mails)
-  unfolding told_effect
+  effect_marks : (o : Option OrderResult) (command : Command) (r : ReplicaState) (mails : List Mail) →
+      ((effect_reported o command (r, mails)).0 ≡ r) × (marks_for name who (effect_reported o command (r, mails)).1 ≡ marks_for name who mails)
+  unfolding effect_reported
   effect_marks None command r mails = (refl, refl)
   effect_marks (Some result) command r mails = (refl, desk_marks r.me (order_number command) result mails)
 
@@ -35,11 +35,11 @@ module _ (name : Draw) (who : ℕ) where
   unfolding announced
   announced_marks effect command r mails = effect_marks (order_result command effect) command r mails
 
-  pub begun_marks : (me : ℕ) (before : Before) (effect : Effect) (command : Command) (mails : List Mail) → marks_for name who (told_begun me before effect command mails) ≡ marks_for name who mails
-  unfolding told_begun
+  pub begun_marks : (me : ℕ) (before : Before) (effect : Effect) (command : Command) (mails : List Mail) → marks_for name who (begun_reported me before effect command mails) ≡ marks_for name who mails
+  unfolding begun_reported
   begun_marks me before effect command mails = by (begun_result before.alone effect command)
     where
-      by : (o : Option ToldResult) → marks_for name who (told_result me o (spoken_number before.order command) mails) ≡ marks_for name who mails
+      by : (o : Option OrderResult) → marks_for name who (result_reported me o (spoken_number before.order command) mails) ≡ marks_for name who mails
       by None = refl
       by (Some result) = desk_marks me (spoken_number before.order command) result mails
 

@@ -9,7 +9,7 @@ use Rattle.sc_node_table.specs.Values.{Ballot, Draw, Command, Core, AnswerBody, 
 use Rattle.sc_machine_table.specs.Definitions.{base_of, applied}
 use Rattle.sc_paxos_words.specs.declared.answers.Must.TheVariants.{Value, Free as Open}
 use Rattle.sc_paxos_words.specs.Definitions.{must, promise_counted, without_flight_at}
-use Rattle.sc_node_table.specs.Definitions.{entered, learnt_to, welcomed, landed, left, looked, executed_one, next_child, next_ready, ending, executed_ready, executed, install_to, welcomed_all, sent, sent_all, sent_others, answered, Found, is_act, waits, turned_down, next_call, from_calls, from_acts, from_queues, found_by, found_for, offered, pumped_from, pumped, ReplicaState, Place, Executed, childless, listed, name_of, next, members, settled, may_offer, taken_at, under_way, is_idle, last_slot, mailed, at_slot, without_slot, before_of, spoken, leads, promise_row}
+use Rattle.sc_node_table.specs.Definitions.{entered, learnt_to, welcomed, landed, left, looked, executed_one, next_child, next_ready, ending, executed_ready, executed, install_to, welcomed_all, sent, sent_all, sent_others, answered, Found, is_act, waits, turned_down, next_queued, from_backlog, from_acts, from_queues, found_by, found_for, offered, pumped_from, pumped, ReplicaState, Place, Executed, childless, listed, name_of, next, members, settled, may_offer, taken_at, under_way, is_idle, last_slot, mailed, at_slot, without_slot, before_of, spoken, leads, promise_row}
 use Rattle.sc_law_walks.specs.Definitions.{IfThere}
 use Rattle.sc_law_walks.proofs.Lemmas.{idle_ready}
 use Rattle.sc_live_steps.specs.following.Definitions.{Dated, marks_in, from_slot_of, dated_of, dated_for, AreLow, IsNoPrepare, AsksLow, RowsAskNext, Mark, Asks, Tells, Installs, Prepares, mark_of, reached, Course, Sets, IsLed, IsNext, AreNext, marks_for}
@@ -119,23 +119,23 @@ module _ (name : Draw) where
 
   -- ---- the pump
 
-  low_calls : (me : ℕ) (idle : Bool) (core : Core) (calls : List Command) (mails : List Mail) → Low mails → Low (next_call me idle core calls mails).2
-  unfolding next_call
+  low_calls : (me : ℕ) (idle : Bool) (core : Core) (backlog : List Command) (mails : List Mail) → Low mails → Low (next_queued me idle core backlog mails).2
+  unfolding next_queued
   low_calls me idle core [] mails f = f
-  low_calls me idle core (command ∷ calls) mails f = by (waits idle core.lock command) (turned_down core command) (λ answer. low_calls me idle core calls (answered me core.id answer command mails) (turned_kept name Keeps (λ _ g. g) (λ a b c one other g. other (one g)) keep me core.id command answer mails f))
+  low_calls me idle core (command ∷ backlog) mails f = by (waits idle core.lock command) (turned_down core command) (λ answer. low_calls me idle core backlog (answered me core.id answer command mails) (turned_kept name Keeps (λ _ g. g) (λ a b c one other g. other (one g)) keep me core.id command answer mails f))
     where
-      by : (b : Bool) (o : Option AnswerBody) → ((answer : AnswerBody) → Low (next_call me idle core calls (answered me core.id answer command mails)).2)
-          → Low (cond {A = Option Command × List Command × List Mail} b (None, command ∷ calls, mails) (elim o [ None ↦ (Some command, calls, mails) | Some answer ↦ next_call me idle core calls (answered me core.id answer command mails) ])).2
+      by : (b : Bool) (o : Option AnswerBody) → ((answer : AnswerBody) → Low (next_queued me idle core backlog (answered me core.id answer command mails)).2)
+          → Low (cond {A = Option Command × List Command × List Mail} b (None, command ∷ backlog, mails) (elim o [ None ↦ (Some command, backlog, mails) | Some answer ↦ next_queued me idle core backlog (answered me core.id answer command mails) ])).2
       by true o more = f
       by false None more = f
       by false (Some answer) more = more answer
 
   low_found : (slot : ℕ) (r : ReplicaState) (mails : List Mail) → Low mails → Low (found_for slot (r, mails)).1.1
-  unfolding found_for from_queues from_calls
+  unfolding found_for from_queues from_backlog
   low_found slot r mails f = by (must slot r.leader)
     where
       acts : (list : List Command) → Low (from_acts list (r, mails)).1.1
-      acts [] = low_calls r.me (is_idle r) r.group.core r.calls mails f
+      acts [] = low_calls r.me (is_idle r) r.group.core r.backlog mails f
       acts (a ∷ list) = if_idle (is_idle r)
         where
           if_idle : (b : Bool) → Low (cond {A = Found} b (Some a, (record r { acts = list }, mails)) (None, (r, mails))).1.1
@@ -187,9 +187,9 @@ module _ (name : Draw) where
   -- ---- an entry
 
   module _ (at : Sets) (course : Course) (command : Command) (r : ReplicaState) (mails : List Mail) (led : IsLed at course r) (is_next : IsNext at command r) (f : Low mails) where
-    module _ (acts calls : List Command) (more : List Mail) (g : Low more) where
+    module _ (acts backlog : List Command) (more : List Mail) (g : Low more) where
       abbrev here : ReplicaState
-      here = record (entered command r) { acts = acts; calls = calls }
+      here = record (entered command r) { acts = acts; backlog = backlog }
 
       abbrev told : Place
       told = welcomed true (members r) (learnt_to true (members r) (next r) command (here, more))
@@ -215,11 +215,11 @@ module _ (name : Draw) where
         announced_kept name Keeps (λ _ h. h) (λ a b c one other h. other (one h)) keep
         (λ place1. Low (looked (left (landed true (next r) command (welcomed true (members r) (learnt_to true (members r) (next r) command (spoken true (before_of r.group.core) (applied r.group command).1 command place1)))))).1)
         (entered command r) mails
-        (λ acts calls more kept.
-        let q : ReplicaState = record (entered command r) { acts = acts; calls = calls } in
+        (λ acts backlog more kept.
+        let q : ReplicaState = record (entered command r) { acts = acts; backlog = backlog } in
         let said : Place = spoken true (before_of r.group.core) (applied r.group command).1 command (q, more) in
         let is = spoken_kept name Keeps (λ _ h. h) (λ a b c one other h. other (one h)) keep (before_of r.group.core) (applied r.group command).1 command q more in
-        subst (λ (x : ReplicaState). Low (looked (left (landed true (next r) command (welcomed true (members r) (learnt_to true (members r) (next r) command (x, said.1)))))).1) (sym is.0) (low_past acts calls said.1 (is.1 (kept f))))
+        subst (λ (x : ReplicaState). Low (looked (left (landed true (next r) command (welcomed true (members r) (learnt_to true (members r) (next r) command (x, said.1)))))).1) (sym is.0) (low_past acts backlog said.1 (is.1 (kept f))))
         (applied r.group command).1 command
 
 -- ---- all that is executed at once
@@ -233,7 +233,7 @@ module _ (name : Draw) (at : Sets) (course : Course) (command : Command) (place 
 
   step_low : (es : List (ℕ × Command)) → (IsLed at course mid.0 → AsksLow name mid.1 → AsksLow name (executed_ready es mid).0.1) → AsksLow name (pumped (executed_ready es mid).0).1
   step_low es rest = elim ((entries_lead at course command place led is_next).state) [
-    | inl on ↦ low_pumped name (executed_ready es mid).0.0 (executed_ready es mid).0.1 (rest (subst (IsLed at course) (sym on.is) (stays_led at course command place.0 led ready is_next on.acts on.calls on.stands on.stays)) low_mid)
+    | inl on ↦ low_pumped name (executed_ready es mid).0.0 (executed_ready es mid).0.1 (rest (subst (IsLed at course) (sym on.is) (stays_led at course command place.0 led ready is_next on.acts on.backlog on.stands on.stays)) low_mid)
     | inr off ↦ (let still : mid.0.running ≡ false = ap (λ (q : ReplicaState). q.running) off.is in
         low_pumped name (executed_ready es mid).0.0 (executed_ready es mid).0.1 (subst (λ (s : Executed). AsksLow name s.0.1) (sym (idle_ready es mid still)) low_mid))
   ]
@@ -270,11 +270,11 @@ promise_low name from ballot reports r = by (leads ballot r)
     by false = λ who next_. tt
 
 module _ (r : ReplicaState) where
-  quiet_low : (top : Ballot) (acts calls : List Command) (more : List Mail) → ((who : ℕ) → marks_for (name_of r) who more ≡ []) → AsksLow (name_of r) more
-  quiet_low top acts calls more none who next_ = subst (AreLow next_) (sym (nothing (dated_for (name_of r) who more) (prepares_are_known.same (name_of r) who more ∙ none who))) tt
+  quiet_low : (top : Ballot) (acts backlog : List Command) (more : List Mail) → ((who : ℕ) → marks_for (name_of r) who more ≡ []) → AsksLow (name_of r) more
+  quiet_low top acts backlog more none who next_ = subst (AreLow next_) (sym (nothing (dated_for (name_of r) who more) (prepares_are_known.same (name_of r) who more ∙ none who))) tt
 
-  pump_low : (acts calls : List Command) → AsksLow (name_of r) (pumped (record r { acts = acts; calls = calls }, [])).1
-  pump_low acts calls = low_pumped (name_of r) (record r { acts = acts; calls = calls }) [] (λ who next_. tt)
+  pump_low : (acts backlog : List Command) → AsksLow (name_of r) (pumped (record r { acts = acts; backlog = backlog }, [])).1
+  pump_low acts backlog = low_pumped (name_of r) (record r { acts = acts; backlog = backlog }) [] (λ who next_. tt)
 
 -- Each row of a replica that leads asks to promise its ballot right behind a state that it sends, from the slot after it on.
 pub rows_ask_next : RowsAskNext

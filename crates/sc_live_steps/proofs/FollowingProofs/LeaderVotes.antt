@@ -18,12 +18,12 @@ use Rattle.sc_live_steps.proofs.FollowingProofs.CountedVotes.{HasVoted, vote_kep
 -- ---- nothing changes for what is in flight
 
 module _ (at : Sets) (now : Progress) (taken : Option Mark) (r : ReplicaState) (was : IsLeadOf at now r) (takes : Each IsCount (listed taken))
-    (ignored : (slot : ℕ) (voters : List ℕ) → voters_of r slot ≡ Some voters → (node : ℕ) → taken ≡ Some (Votes node now.course.ballot slot) → ⊥) (top : Ballot) (promisers : List ℕ) (reports : List (Report Command)) (acts calls : List Command)
+    (ignored : (slot : ℕ) (voters : List ℕ) → voters_of r slot ≡ Some voters → (node : ℕ) → taken ≡ Some (Votes node now.course.ballot slot) → ⊥) (top : Ballot) (promisers : List ℕ) (reports : List (Report Command)) (acts backlog : List Command)
     (known : (who : ℕ) → is_member r.leader.promisers who ≡ true → is_member promisers who ≡ true) (counts : (who : ℕ) → taken ≡ Some (Promises who now.course.ballot) → is_member promisers who ≡ true)
     (new : (who : ℕ) → is_member promisers who ≡ true → (is_member r.leader.promisers who ≡ true) ⊎ (taken ≡ Some (Promises who now.course.ballot))) where
   -- another greatest ballot, others whose promises are counted, and other queues
   abbrev pub beside : ReplicaState
-  beside = record r { top = top; leader = record r.leader { promisers = promisers; reports = reports }; acts = acts; calls = calls }
+  beside = record r { top = top; leader = record r.leader { promisers = promisers; reports = reports }; acts = acts; backlog = backlog }
 
   pub counts_beside : Counts at now taken r beside
   counts_beside = record {
@@ -108,7 +108,7 @@ module _ (at : Sets) (now : Progress) (from : ℕ) (ballot : Ballot) (slot : ℕ
 
   -- it is none for what is in flight
   stays : (ballot ≡ now.course.ballot → (voters : List ℕ) → voters_of r slot ≡ Some voters → ⊥) → P (childless (r, []))
-  stays none = plain r (counts_beside at now vote r was (tt, tt) (λ s voters e node t. other s voters e node t) r.top r.leader.promisers r.leader.reports r.acts r.calls (λ who m. m) no_promise (λ who m. inl m)) (λ o. o)
+  stays none = plain r (counts_beside at now vote r was (tt, tt) (λ s voters e node t. other s voters e node t) r.top r.leader.promisers r.leader.reports r.acts r.backlog (λ who m. m) no_promise (λ who m. inl m)) (λ o. o)
     where
       other : (s : ℕ) (voters : List ℕ) → voters_of r s ≡ Some voters → (node : ℕ) → vote ≡ Some (Votes node now.course.ballot s) → ⊥
       other s voters e node t =

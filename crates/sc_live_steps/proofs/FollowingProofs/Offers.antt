@@ -9,7 +9,7 @@ use Rattle.sc_node_table.specs.Values.{Ballot, Draw, Command, Noop, Call, Core, 
 use Rattle.sc_paxos_words.specs.declared.answers.Must.TheVariants.{Value, Free as Open}
 use Rattle.sc_paxos_words.specs.Definitions.{must, flight_at}
 use Rattle.sc_paxos_words.proofs.Lemmas.{Each-append, Each-weaker}
-use Rattle.sc_node_table.specs.Definitions.{answered, sent_all, Found, is_act, waits, turned_down, next_call, from_calls, from_acts, from_queues, found_by, found_for, offered, pumped_from, pumped, ReplicaState, Place, name_of, next, settled, may_offer, either, taken_at, under_way, is_idle, last_slot, at_slot}
+use Rattle.sc_node_table.specs.Definitions.{answered, sent_all, Found, is_act, waits, turned_down, next_queued, from_backlog, from_acts, from_queues, found_by, found_for, offered, pumped_from, pumped, ReplicaState, Place, name_of, next, settled, may_offer, either, taken_at, under_way, is_idle, last_slot, at_slot}
 use Rattle.sc_live_steps.specs.following.Definitions.{Mark, Asks, Course, Sets, marks_for, AreAt, MayOffer, IsBegun, to_bound, OffersBy, PumpsOffer, IsOffer}
 use Rattle.sc_live_steps.proofs.FollowingProofs.LeastMembers.{append_one, marks_to, sent_marks}
 use Rattle.sc_live_steps.proofs.FollowingProofs.Marks.{among-left, among-right}
@@ -56,40 +56,40 @@ module _ (name : Draw) (who : ℕ) where
   turned_marks me group (Call client seq op) answer mails = marks-push name who mails (record { from = me; to = client_actor client; body = Answer group seq answer }) refl
   turned_marks me group _ answer mails = refl
 
-  next_marks : (me : ℕ) (idle : Bool) (core : Core) (calls : List Command) (mails : List Mail) → marks_for name who (next_call me idle core calls mails).2 ≡ marks_for name who mails
-  unfolding next_call
+  next_marks : (me : ℕ) (idle : Bool) (core : Core) (backlog : List Command) (mails : List Mail) → marks_for name who (next_queued me idle core backlog mails).2 ≡ marks_for name who mails
+  unfolding next_queued
   next_marks me idle core [] mails = refl
-  next_marks me idle core (command ∷ calls) mails =
-      by (waits idle core.lock command) (turned_down core command) (λ answer. next_marks me idle core calls (answered me core.id answer command mails) ∙ turned_marks me core.id command answer mails)
+  next_marks me idle core (command ∷ backlog) mails =
+      by (waits idle core.lock command) (turned_down core command) (λ answer. next_marks me idle core backlog (answered me core.id answer command mails) ∙ turned_marks me core.id command answer mails)
     where
-      by : (b : Bool) (o : Option AnswerBody) → ((answer : AnswerBody) → marks_for name who (next_call me idle core calls (answered me core.id answer command mails)).2 ≡ marks_for name who mails)
-          → marks_for name who (cond {A = Option Command × List Command × List Mail} b (None, command ∷ calls, mails) (elim o [ None ↦ (Some command, calls, mails) | Some answer ↦ next_call me idle core calls (answered me core.id answer command mails) ])).2
+      by : (b : Bool) (o : Option AnswerBody) → ((answer : AnswerBody) → marks_for name who (next_queued me idle core backlog (answered me core.id answer command mails)).2 ≡ marks_for name who mails)
+          → marks_for name who (cond {A = Option Command × List Command × List Mail} b (None, command ∷ backlog, mails) (elim o [ None ↦ (Some command, backlog, mails) | Some answer ↦ next_queued me idle core backlog (answered me core.id answer command mails) ])).2
           ≡ marks_for name who mails
       by true o more = refl
       by false None more = refl
       by false (Some answer) more = more answer
 
-module _ (P : Found → Type 0) (r : ReplicaState) (mails : List Mail) (p : (o : Option Command) (acts calls : List Command) (more : List Mail) → ((who : ℕ) → marks_for (name_of r) who more ≡ marks_for (name_of r) who mails) → P (o, (record r { acts = acts; calls = calls }, more))) where
-  calls_keep : P (from_calls (r, mails))
-  unfolding from_calls
+module _ (P : Found → Type 0) (r : ReplicaState) (mails : List Mail) (p : (o : Option Command) (acts backlog : List Command) (more : List Mail) → ((who : ℕ) → marks_for (name_of r) who more ≡ marks_for (name_of r) who mails) → P (o, (record r { acts = acts; backlog = backlog }, more))) where
+  calls_keep : P (from_backlog (r, mails))
+  unfolding from_backlog
   calls_keep =
-      let found = next_call r.me (is_idle r) r.group.core r.calls mails in
-      p found.0 r.acts found.1 found.2 (λ who. next_marks (name_of r) who r.me (is_idle r) r.group.core r.calls mails)
+      let found = next_queued r.me (is_idle r) r.group.core r.backlog mails in
+      p found.0 r.acts found.1 found.2 (λ who. next_marks (name_of r) who r.me (is_idle r) r.group.core r.backlog mails)
 
   acts_keep : (acts : List Command) → P (from_acts acts (r, mails))
   acts_keep [] = calls_keep
   acts_keep (act ∷ acts) = by (is_idle r)
     where
       by : (b : Bool) → P (cond b (Some act, (record r { acts = acts }, mails)) (None, (r, mails)))
-      by true = p (Some act) acts r.calls mails (λ who. refl)
-      by false = p None r.acts r.calls mails (λ who. refl)
+      by true = p (Some act) acts r.backlog mails (λ who. refl)
+      by false = p None r.acts r.backlog mails (λ who. refl)
 
   queues_keep : P (from_queues (r, mails))
   unfolding from_queues
   queues_keep = by (list_any is_act (under_way r))
     where
       by : (b : Bool) → P (cond b (None, (r, mails)) (from_acts r.acts (r, mails)))
-      by true = p None r.acts r.calls mails (λ who. refl)
+      by true = p None r.acts r.backlog mails (λ who. refl)
       by false = acts_keep r.acts
 
   found_keeps : (slot : ℕ) → P (found_for slot (r, mails))
@@ -97,21 +97,21 @@ module _ (P : Found → Type 0) (r : ReplicaState) (mails : List Mail) (p : (o :
   found_keeps slot = by (must slot r.leader)
     where
       by : (m : Must Command) → P (found_by m (r, mails))
-      by (Value command) = p (Some command) r.acts r.calls mails (λ who. refl)
-      by Gap = p (Some Noop) r.acts r.calls mails (λ who. refl)
+      by (Value command) = p (Some command) r.acts r.backlog mails (λ who. refl)
+      by Gap = p (Some Noop) r.acts r.backlog mails (λ who. refl)
       by Open = queues_keep
 
 -- ---- nothing is offered
 
-none_offers : (at : Sets) (course : Course) (r : ReplicaState) (mails : List Mail) → MayOffer at course r → (acts calls : List Command) (more : List Mail) → ((who : ℕ) → marks_for (name_of r) who more ≡ marks_for (name_of r) who mails)
-    → OffersBy at course (r, mails) (record r { acts = acts; calls = calls }, more)
-none_offers at course r mails m acts calls more same = record {
+none_offers : (at : Sets) (course : Course) (r : ReplicaState) (mails : List Mail) → MayOffer at course r → (acts backlog : List Command) (more : List Mail) → ((who : ℕ) → marks_for (name_of r) who more ≡ marks_for (name_of r) who mails)
+    → OffersBy at course (r, mails) (record r { acts = acts; backlog = backlog }, more)
+none_offers at course r mails m acts backlog more same = record {
   bound = course.bound;
   up = omega arith;
   begun = [];
   acts = acts;
-  calls = calls;
-  is = ap (λ (fs : List (Flight Command)). record r { leader = record r.leader { flights = fs }; acts = acts; calls = calls }) (sym (append-nil r.leader.flights));
+  backlog = backlog;
+  is = ap (λ (fs : List (Flight Command)). record r { leader = record r.leader { flights = fs }; acts = acts; backlog = backlog }) (sym (append-nil r.leader.flights));
   fly = tt;
   goes_on = record { ballot = m.ballot; sets = m.sets; low = m.low; high = m.high; taken = m.taken; free = m.free };
   offers = λ who. [];
@@ -123,12 +123,12 @@ none_offers at course r mails m acts calls more same = record {
 -- ---- one more is offered
 
 module _ (at : Sets) (course : Course) (set : List ℕ) (command : Command) (r : ReplicaState) (mails : List Mail) (m : MayOffer at course r) (is_set : at course.bound ≡ set) (room : course.bound < next r + length r.sets)
-    (acts calls : List Command) (more : List Mail) (same : (who : ℕ) → marks_for (name_of r) who more ≡ marks_for (name_of r) who mails) where
+    (acts backlog : List Command) (more : List Mail) (same : (who : ℕ) → marks_for (name_of r) who more ≡ marks_for (name_of r) who mails) where
   abbrev pub new : Flight Command
   new = record { slot = course.bound; value = command; voters = None }
 
   abbrev pub begins : ReplicaState
-  begins = record r { leader = record r.leader { flights = r.leader.flights ++ new ∷ [] }; acts = acts; calls = calls }
+  begins = record r { leader = record r.leader { flights = r.leader.flights ++ new ∷ [] }; acts = acts; backlog = backlog }
 
   taken_same : (s : ℕ) → (course.bound ≡ s → ⊥) → taken_at begins s ≡ taken_at r s
   taken_same s ne = ap (λ (o : Option (Flight Command)). either (option_map (λ flight. flight.value) o) (at_slot r.ready s)) (old_found s r.leader.flights new ne)
@@ -169,8 +169,8 @@ module _ (at : Sets) (course : Course) (set : List ℕ) (command : Command) (r :
     up = (let u = o.up in omega (arith, u));
     begun = new ∷ o.begun;
     acts = o.acts;
-    calls = o.calls;
-    is = o.is ∙ ap (λ (fs : List (Flight Command)). record r { leader = record r.leader { flights = fs }; acts = o.acts; calls = o.calls }) (joined r.leader.flights);
+    backlog = o.backlog;
+    is = o.is ∙ ap (λ (fs : List (Flight Command)). record r { leader = record r.leader { flights = fs }; acts = o.acts; backlog = o.backlog }) (joined r.leader.flights);
     fly = (
       record { least = omega arith; most = (let u = o.up in omega (arith, u)); none = refl },
       Each-weaker (IsBegun (course.bound + 1) o.bound) (IsBegun course.bound o.bound) (λ f b. record { least = (let l = b.least in omega (arith, l)); most = b.most; none = b.none }) o.begun o.fly,
@@ -211,7 +211,7 @@ offered_is number set command r mails = refl
 slots_offer : (at : Sets) (course : Course) (slot : ℕ) (sets : List (List ℕ)) (r : ReplicaState) (mails : List Mail) → MayOffer at course r → AreAt at slot sets → next r ≤ slot → slot ≤ course.bound
     → slot + length sets ≡ next r + length r.sets → OffersBy at course (r, mails) (pumped_from slot sets (r, mails))
 unfolding pumped_from
-slots_offer at course slot [] r mails m are least most ends = none_offers at course r mails m r.acts r.calls mails (λ who. refl)
+slots_offer at course slot [] r mails m are least most ends = none_offers at course r mails m r.acts r.backlog mails (λ who. refl)
 slots_offer at course slot (set ∷ sets) r mails m are least most ends = by (λ c q others mc from to end. slots_offer at c (slot + 1) sets q others mc are.1 from to end)
   where
     goes : Found → Place
@@ -224,22 +224,22 @@ slots_offer at course slot (set ∷ sets) r mails m are least most ends = by (λ
     Rest = (c : Course) (q : ReplicaState) (others : List Mail) → MayOffer at c q → next q ≤ slot + 1 → slot + 1 ≤ c.bound → (slot + 1) + length sets ≡ next q + length q.sets
         → OffersBy at c (q, others) (pumped_from (slot + 1) sets (q, others))
 
-    found : Rest → course.bound ≡ slot → (o : Option Command) (acts calls : List Command) (more : List Mail) → ((who : ℕ) → marks_for (name_of r) who more ≡ marks_for (name_of r) who mails)
-        → OffersBy at course (r, mails) (goes (o, (record r { acts = acts; calls = calls }, more)))
-    found rest is None acts calls more same = none_offers at course r mails m acts calls more same
-    found rest is (Some command) acts calls more same =
+    found : Rest → course.bound ≡ slot → (o : Option Command) (acts backlog : List Command) (more : List Mail) → ((who : ℕ) → marks_for (name_of r) who more ≡ marks_for (name_of r) who mails)
+        → OffersBy at course (r, mails) (goes (o, (record r { acts = acts; backlog = backlog }, more)))
+    found rest is None acts backlog more same = none_offers at course r mails m acts backlog more same
+    found rest is (Some command) acts backlog more same =
         let here : at course.bound ≡ set = ap at is ∙ are.0 in
         let room : course.bound < next r + length r.sets = omega (arith, is, ends) in
-        let kept : ReplicaState = record r { acts = acts; calls = calls } in
+        let kept : ReplicaState = record r { acts = acts; backlog = backlog } in
         subst (λ (p : Place). OffersBy at course (r, mails) (pumped_from (slot + 1) sets p)) (sym (offered_is slot set command kept more))
         (subst (λ s. OffersBy at course (r, mails) (pumped_from (slot + 1) sets (record kept { leader = record r.leader { flights = r.leader.flights ++ (record { slot = s; value = command; voters = None }) ∷ [] } }, sent_all r.me set (Accept (name_of r) r.leader.ballot s command) more))) is
-        (one_more at course set command r mails m here room acts calls more same (pumped_from (slot + 1) sets (begins at course set command r mails m here room acts calls more same, sent_all r.me set (Accept (name_of r) r.leader.ballot course.bound command) more))
-        (rest (to_bound (course.bound + 1) course) (begins at course set command r mails m here room acts calls more same) (sent_all r.me set (Accept (name_of r) r.leader.ballot course.bound command) more)
-        (may_begin at course set command r mails m here room acts calls more same) (omega (arith, least)) (omega (arith, is)) (omega (arith, ends)))))
+        (one_more at course set command r mails m here room acts backlog more same (pumped_from (slot + 1) sets (begins at course set command r mails m here room acts backlog more same, sent_all r.me set (Accept (name_of r) r.leader.ballot course.bound command) more))
+        (rest (to_bound (course.bound + 1) course) (begins at course set command r mails m here room acts backlog more same) (sent_all r.me set (Accept (name_of r) r.leader.ballot course.bound command) more)
+        (may_begin at course set command r mails m here room acts backlog more same) (omega (arith, least)) (omega (arith, is)) (omega (arith, ends)))))
 
     offering : Rest → course.bound ≡ slot → (b : Bool) → OffersBy at course (r, mails) (cond b (goes (found_for slot (r, mails))) (r, mails))
     offering rest is true = found_keeps (λ f. OffersBy at course (r, mails) (goes f)) r mails (found rest is) slot
-    offering rest is false = none_offers at course r mails m r.acts r.calls mails (λ who. refl)
+    offering rest is false = none_offers at course r mails m r.acts r.backlog mails (λ who. refl)
 
     by : Rest → OffersBy at course (r, mails) (step (is_some (taken_at r slot)))
     by rest = elim (cases_lt slot course.bound) [
@@ -255,4 +255,4 @@ pumps_offer at course (r, mails) m = by (settled r && nat_le (next r) last_slot)
   where
     by : (b : Bool) → OffersBy at course (r, mails) (cond b (pumped_from (next r) r.sets (r, mails)) (r, mails))
     by true = slots_offer at course (next r) r.sets r mails m m.sets (omega arith) m.low refl
-    by false = none_offers at course r mails m r.acts r.calls mails (λ who. refl)
+    by false = none_offers at course r mails m r.acts r.backlog mails (λ who. refl)

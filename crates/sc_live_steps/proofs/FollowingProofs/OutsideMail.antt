@@ -1,6 +1,6 @@
 -- What a leader says of an entry to clients, the desk and other groups is nothing to its own group.
 use Rattle.std.proofs.Common.{◌≡◌, ℕ, Bool, true, false, cond, List, [], ◌∷◌, ◌++◌, Option, Some, None, refl, ◌∙◌}
-use Rattle.sc_node_table.specs.Values.{Draw, Body, Offer, Watch, Command, Call, Split, Begin, Prepared, RecordVote, GiveUp, Watched, RecordWatch, Core, Lock, Free, Coordinating, Promised, Watching, Effect, Link, Heard, Outcome, Past, Vote, ToldResult, AnswerBody, Mail, MailBody, Answer, TxPrepare, TxOutcome, Told}
+use Rattle.sc_node_table.specs.Values.{Draw, Body, Offer, Watch, Command, Call, Split, Begin, Prepared, RecordVote, GiveUp, Watched, RecordWatch, Core, Lock, Free, Coordinating, Promised, Watching, Effect, Link, Heard, Outcome, Past, Vote, OrderResult, AnswerBody, Mail, MailBody, Answer, TxPrepare, TxOutcome, Told}
 use Rattle.sc_base.specs.Definitions.{client_actor, least_of}
 use Rattle.sc_cmd.specs.declared.bodies.Body.TheVariants as At
 use Rattle.sc_cmd.specs.declared.votes.Outcome.TheVariants as Is
@@ -8,9 +8,9 @@ use Rattle.sc_cmd.specs.declared.votes.Past.TheVariants as Cast
 use Rattle.sc_cmd.specs.declared.votes.Vote.TheVariants as Says
 use Rattle.sc_cmd.specs.Definitions.{decided_in, cast_in, is_changed}
 use Rattle.sc_machine_table.specs.Definitions.{Group}
-use Rattle.sc_policy.specs.Definitions.{is_told}
+use Rattle.sc_policy.specs.Definitions.{is_reported}
 use Rattle.sc_node_table.specs.declared.Before.{Before}
-use Rattle.sc_node_table.specs.Definitions.{ended, answer_of, order_result, told_call, told_effect, announced, sent, sent_all, answered, answered_all, dismissed, dismissed_all, order_number, told_desk, told_order, offer_of, question, asked_first, put_back, ReplicaState, Place, name_of, under_way, asked_on, begun_asks, vote_sent, watch_sent, aborted_to, aborted_watcher, given_up_by, vote_answered, released_to, watch_answered_by, went_on, begun_result, spoken_number, told_result, told_begun, spoken_mails, spoken, told_outcome}
+use Rattle.sc_node_table.specs.Definitions.{ended, answer_of, order_result, answered_or_put_back, effect_reported, announced, sent, sent_all, answered, answered_all, dismissed, dismissed_all, order_number, result_sent, order_reported, offer_of, question, asked_first, put_back, ReplicaState, Place, name_of, under_way, asked_on, begun_asks, vote_sent, watch_sent, aborted_to, aborted_watcher, given_up_by, vote_answered, released_to, watch_answered_by, went_on, begun_result, spoken_number, result_reported, begun_reported, spoken_mails, spoken, outcome_sent}
 use Rattle.sc_live_steps.specs.following.Definitions.{mark_of, marks_for}
 use Rattle.sc_live_steps.proofs.FollowingProofs.MailTables.{marks-push}
 
@@ -35,19 +35,19 @@ module _ (name : Draw) (R : List Mail → List Mail → Type 0) (same : (mails :
   all_kept me [] body mails e = same mails
   all_kept me (node ∷ nodes) body mails e = then_ _ _ _ (one_kept me node body mails e) (all_kept me nodes body (sent me node body mails) e)
 
-  desk_kept : (me number : ℕ) (result : ToldResult) (mails : List Mail) → R mails (told_order me number result mails)
-  unfolding told_order
-  desk_kept me number result mails = by (is_told number)
+  desk_kept : (me number : ℕ) (result : OrderResult) (mails : List Mail) → R mails (order_reported me number result mails)
+  unfolding order_reported
+  desk_kept me number result mails = by (is_reported number)
     where
-      by : (b : Bool) → R mails (cond b (told_desk me number result mails) mails)
+      by : (b : Bool) → R mails (cond b (result_sent me number result mails) mails)
       by true = one_kept me 0 (Told number result) mails refl
       by false = same mails
 
-  begun_kept : (me : ℕ) (before : Before) (effect : Effect) (command : Command) (mails : List Mail) → R mails (told_begun me before effect command mails)
-  unfolding told_begun
+  begun_kept : (me : ℕ) (before : Before) (effect : Effect) (command : Command) (mails : List Mail) → R mails (begun_reported me before effect command mails)
+  unfolding begun_reported
   begun_kept me before effect command mails = by (begun_result before.alone effect command)
     where
-      by : (o : Option ToldResult) → R mails (told_result me o (spoken_number before.order command) mails)
+      by : (o : Option OrderResult) → R mails (result_reported me o (spoken_number before.order command) mails)
       by None = same mails
       by (Some result) = desk_kept me (spoken_number before.order command) result mails
 
@@ -109,7 +109,7 @@ module _ (name : Draw) (R : List Mail → List Mail → Type 0) (same : (mails :
   released_kept : (o : Option (ℕ × Link)) (me : ℕ) (succ : Link) (tx : Draw) (by : ℕ) (outcome : Outcome) (mails : List Mail) → R mails (released_to o me succ tx by outcome mails)
   released_kept None me succ tx by outcome mails = one_kept me by (TxOutcome tx succ.group outcome) mails refl
   released_kept (Some heard) me succ tx by outcome mails =
-      then_ _ _ _ (one_kept me heard.0 (TxOutcome tx succ.group outcome) mails refl) (one_kept me by (TxOutcome tx heard.1.group outcome) (told_outcome me heard.0 tx succ.group outcome mails) refl)
+      then_ _ _ _ (one_kept me heard.0 (TxOutcome tx succ.group outcome) mails refl) (one_kept me by (TxOutcome tx heard.1.group outcome) (outcome_sent me heard.0 tx succ.group outcome mails) refl)
 
   watched_kept : (o : Option Outcome) (vote : Past) (me : ℕ) (before : Before) (tx : Draw) (by : ℕ) (mails : List Mail) → R mails (watch_answered_by o vote me before tx by mails)
   watched_kept None vote me before tx by mails = same mails
@@ -134,7 +134,7 @@ module _ (name : Draw) (R : List Mail → List Mail → Type 0) (same : (mails :
 
   pub spoken_kept : (before : Before) (effect : Effect) (command : Command) (r : ReplicaState) (mails : List Mail) → ((spoken true before effect command (r, mails)).0 ≡ r) × R mails (spoken true before effect command (r, mails)).1
   unfolding spoken spoken_mails
-  spoken_kept before effect command r mails = (refl, then_ _ _ _ (begun_kept r.me before effect command mails) (went_kept r.me r.group before effect command (told_begun r.me before effect command mails)))
+  spoken_kept before effect command r mails = (refl, then_ _ _ _ (begun_kept r.me before effect command mails) (went_kept r.me r.group before effect command (begun_reported r.me before effect command mails)))
 
   -- ---- one that runs no longer
 
@@ -156,26 +156,26 @@ module _ (name : Draw) (R : List Mail → List Mail → Type 0) (same : (mails :
   pub ended_kept : (hint : Option ℕ) (answer : AnswerBody) (r : ReplicaState) (mails : List Mail) → R mails (ended hint answer (r, mails)).1
   unfolding ended
   ended_kept hint answer r mails =
-      then_ _ _ _ (answered_kept r.me (name_of r) answer (under_way r) mails) (dismissed_kept r.me (name_of r) hint answer r.calls (answered_all r.me (name_of r) answer (under_way r) mails))
+      then_ _ _ _ (answered_kept r.me (name_of r) answer (under_way r) mails) (dismissed_kept r.me (name_of r) hint answer r.backlog (answered_all r.me (name_of r) answer (under_way r) mails))
 
   -- ---- what is sent to clients and the desk, but for queues
 
-  module _ (P : Place → Type 0) (r : ReplicaState) (mails : List Mail) (p : (acts calls : List Command) (more : List Mail) → R mails more → P (record r { acts = acts; calls = calls }, more)) where
-    call_kept : (o : Option AnswerBody) (command : Command) → P (told_call o command (r, mails))
-    unfolding told_call put_back
-    call_kept (Some answer) (Call client seq op) = p r.acts r.calls _ (one_kept r.me (client_actor client) (Answer (name_of r) seq answer) mails refl)
+  module _ (P : Place → Type 0) (r : ReplicaState) (mails : List Mail) (p : (acts backlog : List Command) (more : List Mail) → R mails more → P (record r { acts = acts; backlog = backlog }, more)) where
+    call_kept : (o : Option AnswerBody) (command : Command) → P (answered_or_put_back o command (r, mails))
+    unfolding answered_or_put_back put_back
+    call_kept (Some answer) (Call client seq op) = p r.acts r.backlog _ (one_kept r.me (client_actor client) (Answer (name_of r) seq answer) mails refl)
     call_kept None (Call client seq op) = p r.acts _ mails (same mails)
-    call_kept None _ = p r.acts r.calls mails (same mails)
-    call_kept (Some answer) _ = p r.acts r.calls mails (same mails)
+    call_kept None _ = p r.acts r.backlog mails (same mails)
+    call_kept (Some answer) _ = p r.acts r.backlog mails (same mails)
 
-  pub announced_kept : (P : Place → Type 0) (r : ReplicaState) (mails : List Mail) → ((acts calls : List Command) (more : List Mail) → R mails more → P (record r { acts = acts; calls = calls }, more)) → (effect : Effect) (command : Command) → P (announced true effect command (r, mails))
-  unfolding announced told_effect
+  pub announced_kept : (P : Place → Type 0) (r : ReplicaState) (mails : List Mail) → ((acts backlog : List Command) (more : List Mail) → R mails more → P (record r { acts = acts; backlog = backlog }, more)) → (effect : Effect) (command : Command) → P (announced true effect command (r, mails))
+  unfolding announced effect_reported
   announced_kept P r mails p effect command =
-      call_kept (λ place. P (told_effect (order_result command effect) command place)) r mails (λ acts calls more kept. effect_kept (order_result command effect) acts calls more kept) (answer_of effect) command
+      call_kept (λ place. P (effect_reported (order_result command effect) command place)) r mails (λ acts backlog more kept. effect_kept (order_result command effect) acts backlog more kept) (answer_of effect) command
     where
-      effect_kept : (o : Option ToldResult) (acts calls : List Command) (more : List Mail) → R mails more → P (told_effect o command (record r { acts = acts; calls = calls }, more))
-      effect_kept None acts calls more kept = p acts calls more kept
-      effect_kept (Some result) acts calls more kept = p acts calls _ (then_ _ _ _ kept (desk_kept r.me (order_number command) result more))
+      effect_kept : (o : Option OrderResult) (acts backlog : List Command) (more : List Mail) → R mails more → P (effect_reported o command (record r { acts = acts; backlog = backlog }, more))
+      effect_kept None acts backlog more kept = p acts backlog more kept
+      effect_kept (Some result) acts backlog more kept = p acts backlog _ (then_ _ _ _ kept (desk_kept r.me (order_number command) result more))
 
 -- ---- so marks stay as they are
 
@@ -193,7 +193,7 @@ module _ (name : Draw) (who : ℕ) where
   pub ended_same : (hint : Option ℕ) (answer : AnswerBody) (r : ReplicaState) (mails : List Mail) → Same mails (ended hint answer (r, mails)).1
   ended_same hint answer r mails = ended_kept name Same (λ mails. refl) (λ a b c one other. other ∙ one) (λ mails mail e. marks-push name who mails mail e) hint answer r mails
 
-module _ (name : Draw) (P : Place → Type 0) (r : ReplicaState) (mails : List Mail) (p : (acts calls : List Command) (more : List Mail) → ((who : ℕ) → marks_for name who more ≡ marks_for name who mails) → P (record r { acts = acts; calls = calls }, more)) where
+module _ (name : Draw) (P : Place → Type 0) (r : ReplicaState) (mails : List Mail) (p : (acts backlog : List Command) (more : List Mail) → ((who : ℕ) → marks_for name who more ≡ marks_for name who mails) → P (record r { acts = acts; backlog = backlog }, more)) where
   pub announced_keeps : (effect : Effect) (command : Command) → P (announced true effect command (r, mails))
   announced_keeps effect command =
       announced_kept name (λ mails more. (who : ℕ) → marks_for name who more ≡ marks_for name who mails) (λ mails who. refl) (λ a b c one other who. other who ∙ one who)

@@ -10,7 +10,7 @@ use Rattle.sc_cmd.specs.declared.votes.Past.TheVariants as Cast
 use Rattle.sc_cmd.specs.declared.votes.Vote.TheVariants as Says
 use Rattle.sc_paxos_words.specs.Definitions.{below, LeaderState, promise_counted}
 use Rattle.sc_node_table.specs.declared.ReplicaInput.TheVariants as Given
-use Rattle.sc_node_table.specs.Definitions.{has_act, act_queued, saw, stopped, sent, ordered_command, untaken, taken_or_told, ordered_row, pumped, call_of, without_call, asked_link, question, asked_node, ReplicaState, Place, name_of, settled, refused_at, queued, requested, request_row, mailed, stepped, standing_vote, sent_elsewhere, offered_by, offer_row, watched_by, watch_row, awaits_vote, awaits_watch, told_outcome, noted_outcome, vote_met, vote_row, watch_met, watched_row, next_asked, asked_next, elsewhere_row, is_bound, outcome_row, leads, promise_row, nack_row}
+use Rattle.sc_node_table.specs.Definitions.{has_act, act_queued, saw, stopped, sent, ordered_command, untaken, queued_or_refused, ordered_row, pumped, queued_number, without_request, asked_link, question, asked_node, ReplicaState, Place, name_of, settled, refused_at, queued, requested, request_row, mailed, stepped, standing_vote, sent_elsewhere, offered_by, offer_row, watched_by, watch_row, awaits_vote, awaits_watch, outcome_sent, noted_outcome, vote_met, vote_row, watch_met, watched_row, next_asked, asked_next, elsewhere_row, is_bound, outcome_row, leads, promise_row, nack_row}
 use Rattle.sc_law_walks.specs.Definitions.{GoesOn}
 use Rattle.sc_live_steps.specs.following.Definitions.{Mark, Votes, Promises, Progress, Sets, voters_of, IsLeadOf, LeadsInto, IsAside, RowsLead, marks_for}
 use Rattle.sc_live_steps.proofs.FollowingProofs.ExecutedEntries.{none_leads, pump_leads}
@@ -44,7 +44,7 @@ module _ (at : Sets) (now : Progress) (from : ℕ) (ballot : Ballot) (reports : 
   counts_with : (promisers : List ℕ) (reports : List (Report Command)) → ((who : ℕ) → is_member r.leader.promisers who ≡ true → is_member promisers who ≡ true) → (ballot ≡ now.course.ballot → is_member promisers from ≡ true)
       → ((who : ℕ) → is_member promisers who ≡ true → (is_member r.leader.promisers who ≡ true) ⊎ (promise ≡ Some (Promises who now.course.ballot)))
       → Counts at now promise r (record r { leader = record r.leader { promisers = promisers; reports = reports } })
-  counts_with promisers reports known own new = counts_beside at now promise r was (tt, tt) no_vote r.top promisers reports r.acts r.calls known (λ who e. own_is who e) new
+  counts_with promisers reports known own new = counts_beside at now promise r was (tt, tt) no_vote r.top promisers reports r.acts r.backlog known (λ who e. own_is who e) new
     where
       own_is : (who : ℕ) → promise ≡ Some (Promises who now.course.ballot) → is_member promisers who ≡ true
       own_is who e =
@@ -105,38 +105,38 @@ module _ (at : Sets) (now : Progress) (from : ℕ) (ballot : Ballot) (reports : 
 -- ---- what is no part of the agreement
 
 -- what is kept by all that leaves a replica as it is, but for the greatest ballot seen and for queues, with no more marks of its group, and by a pump after that
-module _ (P : Place → Type 0) (r : ReplicaState) (running : r.running ≡ true) (quiet : (top : Ballot) (acts calls : List Command) (more : List Mail) → ((who : ℕ) → marks_for (name_of r) who more ≡ []) → P (record r { top = top; acts = acts; calls = calls }, more))
-    (offers : (acts calls : List Command) → P (pumped (record r { acts = acts; calls = calls }, []))) where
+module _ (P : Place → Type 0) (r : ReplicaState) (running : r.running ≡ true) (quiet : (top : Ballot) (acts backlog : List Command) (more : List Mail) → ((who : ℕ) → marks_for (name_of r) who more ≡ []) → P (record r { top = top; acts = acts; backlog = backlog }, more))
+    (offers : (acts backlog : List Command) → P (pumped (record r { acts = acts; backlog = backlog }, []))) where
   -- it stays so, with one mail of no mark
   said : (to : ℕ) (body : MailBody) → ((who : ℕ) → marks_for (name_of r) who (sent r.me to body []) ≡ []) → P (r, sent r.me to body [])
-  said to body none = quiet r.top r.acts r.calls (sent r.me to body []) none
+  said to body none = quiet r.top r.acts r.backlog (sent r.me to body []) none
 
   silent : P (r, [])
-  silent = quiet r.top r.acts r.calls [] (λ who. refl)
+  silent = quiet r.top r.acts r.backlog [] (λ who. refl)
 
   act_by : (act : Command) → P (act_queued act (r, []))
   unfolding act_queued
   act_by act = by (has_act act r)
     where
       by : (b : Bool) → P (pumped (cond b r (record r { acts = r.acts ++ act ∷ [] }), []))
-      by true = offers r.acts r.calls
-      by false = offers (r.acts ++ act ∷ []) r.calls
+      by true = offers r.acts r.backlog
+      by false = offers (r.acts ++ act ∷ []) r.backlog
 
   -- ---- requests
 
   queued_by : (o : Option ℕ) (client seq : ℕ) (op : Op) → P (queued o client seq op (r, []))
   unfolding queued
-  queued_by None client seq op = offers r.acts (r.calls ++ Call client seq op ∷ [])
+  queued_by None client seq op = offers r.acts (r.backlog ++ Call client seq op ∷ [])
   queued_by (Some other) client seq op = by (nat_le seq other)
     where
-      by : (b : Bool) → P (cond b (r, []) (pumped (record r { calls = without_call r.calls client ++ Call client seq op ∷ [] }, [])))
+      by : (b : Bool) → P (cond b (r, []) (pumped (record r { backlog = without_request r.backlog client ++ Call client seq op ∷ [] }, [])))
       by true = silent
-      by false = offers r.acts (without_call r.calls client ++ Call client seq op ∷ [])
+      by false = offers r.acts (without_request r.backlog client ++ Call client seq op ∷ [])
 
   requested_by : (o : Option AnswerBody) (client seq : ℕ) (op : Op) → P (requested o client seq op (r, []))
   unfolding requested
   requested_by (Some answer) client seq op = said (client_actor client) (Answer (name_of r) seq answer) (λ who. one_same (name_of r) who r.me (client_actor client) (Answer (name_of r) seq answer) [] refl)
-  requested_by None client seq op = queued_by (call_of r.calls client) client seq op
+  requested_by None client seq op = queued_by (queued_number r.backlog client) client seq op
 
   request_by : (client seq : ℕ) (op : Op) → P (request_row client seq op (r, []))
   unfolding request_row
@@ -160,7 +160,7 @@ module _ (P : Place → Type 0) (r : ReplicaState) (running : r.running ≡ true
   if_waits true act = act_by act
   if_waits false act = silent
 
-  outcome_said : (from : ℕ) (tx part : Draw) (outcome : Outcome) → P (r, told_outcome r.me from tx part outcome [])
+  outcome_said : (from : ℕ) (tx part : Draw) (outcome : Outcome) → P (r, outcome_sent r.me from tx part outcome [])
   outcome_said from tx part outcome = said from _ (λ who. one_same (name_of r) who r.me from _ [] refl)
 
   vote_by : (vote : Vote) (o : Option Outcome) (from : ℕ) (tx part : Draw) → P (vote_met vote o from tx part (r, []))
@@ -225,7 +225,7 @@ module _ (P : Place → Type 0) (r : ReplicaState) (running : r.running ≡ true
       stays seen = ap (λ b. cond {A = Place} b (stopped (Some promised.node) (seen, [])) (seen, [])) goes
 
       by : (b : Bool) → P (cond {A = Place} (r.running && below r.leader.ballot promised) (stopped (Some promised.node) (cond b (record r { top = promised }) r, [])) (cond b (record r { top = promised }) r, []))
-      by true = subst P (sym (stays (record r { top = promised }))) (quiet promised r.acts r.calls [] (λ who. refl))
+      by true = subst P (sym (stays (record r { top = promised }))) (quiet promised r.acts r.backlog [] (λ who. refl))
       by false = subst P (sym (stays r)) silent
 
   pub aside_is : (from : ℕ) (body : MailBody) → IsAside r body → P (mailed from body (r, [])).0
@@ -247,9 +247,9 @@ module _ (P : Place → Type 0) (r : ReplicaState) (running : r.running ≡ true
   unfolding stepped ordered_row
   order_is on drawer line = by (untaken drawer line r)
     where
-      by : (o : Option OrderRefusal) → P (taken_or_told o line.number (ordered_command (next_name drawer) line.number line.order) (r, []))
+      by : (o : Option OrderRefusal) → P (queued_or_refused o line.number (ordered_command (next_name drawer) line.number line.order) (r, []))
       by (Some why) = said 0 (Told line.number (Refused why)) (λ who. one_same (name_of r) who r.me 0 (Told line.number (Refused why)) [] refl)
-      by None = offers r.acts (r.calls ++ ordered_command (next_name drawer) line.number line.order ∷ [])
+      by None = offers r.acts (r.backlog ++ ordered_command (next_name drawer) line.number line.order ∷ [])
 
 -- ---- the whole
 
@@ -260,14 +260,14 @@ module _ (at : Sets) (now : Progress) (r : ReplicaState) (was : IsLeadOf at now 
   nobody : (who : ℕ) → None ≡ Some (Promises who now.course.ballot) → is_member r.leader.promisers who ≡ true
   nobody who t = cc
 
-  counts_aside : (top : Ballot) (acts calls : List Command) → Counts at now None r (record r { top = top; acts = acts; calls = calls })
-  counts_aside top acts calls = counts_beside at now None r was tt nothing top r.leader.promisers r.leader.reports acts calls (λ who m. m) nobody (λ who m. inl m)
+  counts_aside : (top : Ballot) (acts backlog : List Command) → Counts at now None r (record r { top = top; acts = acts; backlog = backlog })
+  counts_aside top acts backlog = counts_beside at now None r was tt nothing top r.leader.promisers r.leader.reports acts backlog (λ who m. m) nobody (λ who m. inl m)
 
-  quiet_leads : (top : Ballot) (acts calls : List Command) (more : List Mail) → ((who : ℕ) → marks_for (name_of r) who more ≡ []) → LeadsInto at now None r (record r { top = top; acts = acts; calls = calls }, more)
-  quiet_leads top acts calls more none = still_leads at now None r (record r { top = top; acts = acts; calls = calls }) more was (counts_aside top acts calls) none
+  quiet_leads : (top : Ballot) (acts backlog : List Command) (more : List Mail) → ((who : ℕ) → marks_for (name_of r) who more ≡ []) → LeadsInto at now None r (record r { top = top; acts = acts; backlog = backlog }, more)
+  quiet_leads top acts backlog more none = still_leads at now None r (record r { top = top; acts = acts; backlog = backlog }) more was (counts_aside top acts backlog) none
 
-  pump_after : (acts calls : List Command) → LeadsInto at now None r (pumped (record r { acts = acts; calls = calls }, []))
-  pump_after acts calls = offers_lead at now None r (record r { acts = acts; calls = calls }) [] was (counts_aside r.top acts calls) (λ who. refl)
+  pump_after : (acts backlog : List Command) → LeadsInto at now None r (pumped (record r { acts = acts; backlog = backlog }, []))
+  pump_after acts backlog = offers_lead at now None r (record r { acts = acts; backlog = backlog }) [] was (counts_aside r.top acts backlog) (λ who. refl)
 
   pub aside_leads : (from : ℕ) (body : MailBody) → IsAside r body → LeadsInto at now None r (mailed from body (r, [])).0
   aside_leads from body i = aside_is (LeadsInto at now None r) r was.led.running quiet_leads pump_after from body i

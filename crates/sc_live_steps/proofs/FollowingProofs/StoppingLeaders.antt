@@ -67,7 +67,7 @@ module _ (at : Sets) (course : Course) (command : Command) (place : Place) (led 
   past = entries_lead at course command place led is_next
 
   on_led : IsOn command place.0 mid.0 → IsLed at course mid.0
-  on_led on = subst (IsLed at course) (sym on.is) (stays_led at course command place.0 led ready is_next on.acts on.calls on.stands on.stays)
+  on_led on = subst (IsLed at course) (sym on.is) (stays_led at course command place.0 led ready is_next on.acts on.backlog on.stands on.stays)
 
   on_alone : IsOn command place.0 mid.0 → ReadyAlone course mid.0
   on_alone on slot other least e act =

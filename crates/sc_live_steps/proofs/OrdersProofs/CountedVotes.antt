@@ -20,7 +20,7 @@ module _ (from slot : ℕ) (ballot : Ballot) (flight : Flight Command) (r : Repl
   Goal step = Works (works r) [] r step.0 ⊎ Decides flight r step.0
 
   stays : (leader : LeaderState Command) → works_flying leader.flights ≡ works_flying r.leader.flights → Goal (childless (record r { leader = leader }, []))
-  stays leader e = inl (record { group = refl; me = refl; running = refl; work = ap (λ l. works_in r.acts ++ (works_in r.calls ++ (l ++ works_ready r.ready))) e; sends = (tt, λ name none. refl) })
+  stays leader e = inl (record { group = refl; me = refl; running = refl; work = ap (λ l. works_in r.acts ++ (works_in r.backlog ++ (l ++ works_ready r.ready))) e; sends = (tt, λ name none. refl) })
 
   -- the command in flight was chosen
   abbrev chosen_at : ReplicaState
@@ -35,13 +35,13 @@ module _ (from slot : ℕ) (ballot : Ballot) (flight : Flight Command) (r : Repl
 
     chosen_work : works chosen_at ≡ works r
     chosen_work =
-        ap (λ l. works_in r.acts ++ (works_in r.calls ++ (works_flying l ++ works_ready (with_slot r.ready slot flight.value)))) none_flies
-        ∙ (ap (λ l. works_in r.acts ++ (works_in r.calls ++ works_ready l)) one_ready
-        ∙ (ap (λ l. works_in r.acts ++ (works_in r.calls ++ l)) (sym (append-nil (listed (work_by flight.value) ++ [])))
-        ∙ (ap (λ l. works_in r.acts ++ (works_in r.calls ++ (works_flying (flight ∷ []) ++ works_ready l))) (sym lone.ready) ∙ ap (λ l. works_in r.acts ++ (works_in r.calls ++ (works_flying l ++ works_ready r.ready))) (sym lone.flights))))
+        ap (λ l. works_in r.acts ++ (works_in r.backlog ++ (works_flying l ++ works_ready (with_slot r.ready slot flight.value)))) none_flies
+        ∙ (ap (λ l. works_in r.acts ++ (works_in r.backlog ++ works_ready l)) one_ready
+        ∙ (ap (λ l. works_in r.acts ++ (works_in r.backlog ++ l)) (sym (append-nil (listed (work_by flight.value) ++ [])))
+        ∙ (ap (λ l. works_in r.acts ++ (works_in r.backlog ++ (works_flying (flight ∷ []) ++ works_ready l))) (sym lone.ready) ∙ ap (λ l. works_in r.acts ++ (works_in r.backlog ++ (works_flying l ++ works_ready r.ready))) (sym lone.flights))))
 
     chosen_lone : IsLone flight.value chosen_at
-    chosen_lone = record { running = lone.running; unbound = lone.unbound; ready = one_ready ∙ ap (λ x. (x, flight.value) ∷ []) (sym there ∙ lone.here); flights = none_flies; acts = lone.acts; calls = lone.calls }
+    chosen_lone = record { running = lone.running; unbound = lone.unbound; ready = one_ready ∙ ap (λ x. (x, flight.value) ∷ []) (sym there ∙ lone.here); flights = none_flies; acts = lone.acts; backlog = lone.backlog }
 
     chosen_goes : Goal (readied slot flight.value (record r { leader = without_flight_at slot r.leader }, []))
     unfolding readied

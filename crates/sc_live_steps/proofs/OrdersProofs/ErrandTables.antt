@@ -161,13 +161,13 @@ works_more (first ∷ commands) command = ap (λ l. listed (work_by first) ++ l)
 
 module _ (act : Command) (work : Work) (r : ReplicaState) (is : work_by act ≡ Some work) (may : MayFile r) where
   acts_none : works_in r.acts ≡ []
-  acts_none = left_none (works_in r.acts) (works_in r.calls ++ (works_flying r.leader.flights ++ works_ready r.ready)) may.idle
+  acts_none = left_none (works_in r.acts) (works_in r.backlog ++ (works_flying r.leader.flights ++ works_ready r.ready)) may.idle
 
-  rest_none : works_in r.calls ++ (works_flying r.leader.flights ++ works_ready r.ready) ≡ []
-  rest_none = right_none (works_in r.acts) (works_in r.calls ++ (works_flying r.leader.flights ++ works_ready r.ready)) may.idle
+  rest_none : works_in r.backlog ++ (works_flying r.leader.flights ++ works_ready r.ready) ≡ []
+  rest_none = right_none (works_in r.acts) (works_in r.backlog ++ (works_flying r.leader.flights ++ works_ready r.ready)) may.idle
 
   under_none : works_flying r.leader.flights ++ works_ready r.ready ≡ []
-  under_none = right_none (works_in r.calls) (works_flying r.leader.flights ++ works_ready r.ready) rest_none
+  under_none = right_none (works_in r.backlog) (works_flying r.leader.flights ++ works_ready r.ready) rest_none
 
   none_of_kind : has_act act r ≡ false
   none_of_kind =
@@ -179,7 +179,7 @@ module _ (act : Command) (work : Work) (r : ReplicaState) (is : work_by act ≡ 
 
   filed_work : works filed ≡ work ∷ []
   filed_work =
-      ap (λ l. l ++ (works_in r.calls ++ (works_flying r.leader.flights ++ works_ready r.ready))) (works_more r.acts act ∙ (ap (λ l. l ++ listed (work_by act)) acts_none ∙ ap listed is))
+      ap (λ l. l ++ (works_in r.backlog ++ (works_flying r.leader.flights ++ works_ready r.ready))) (works_more r.acts act ∙ (ap (λ l. l ++ listed (work_by act)) acts_none ∙ ap listed is))
       ∙ ap (λ l. work ∷ l) rest_none
 
   pub queued-files : Works (work ∷ []) [] r (act_queued act (r, []))

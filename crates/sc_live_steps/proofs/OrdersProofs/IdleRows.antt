@@ -3,10 +3,10 @@ use Rattle.std.proofs.Common.{◌≡◌, ℕ, ◌+◌, ◌-◌, ◌^◌, ◌&&�
 use Rattle.std.specs.Option.{option_map}
 use Rattle.std.specs.Prelude.{nat_lt, nat_le}
 use Rattle.sc_base.specs.Definitions.{same_ballot, is_member, least_of}
-use Rattle.sc_node_table.specs.Values.{Ballot, Draw, Command, Noop, Base, Effect, Route, ToldResult, AnswerBody, Mail, Accept, Ask, Install, Learn, Nack, Prepare, Promise, AcceptAnswer, PrepareAnswer, Flight, Report}
+use Rattle.sc_node_table.specs.Values.{Ballot, Draw, Command, Noop, Base, Effect, Route, OrderResult, AnswerBody, Mail, Accept, Ask, Install, Learn, Nack, Prepare, Promise, AcceptAnswer, PrepareAnswer, Flight, Report}
 use Rattle.sc_mail.specs.declared.bodies.AnswerBody.TheVariants as Says
 use Rattle.sc_machine_table.specs.Definitions.{applied}
-use Rattle.sc_node_table.specs.Definitions.{saw, ended, stopped, elected, open_nodes, entered, announced, order_result, told_effect, learnt_to, welcomed, slot_lost, landed, left_gone, left, is_among, looked_for, looked, executed_one, executed_ready, executed, install_to, jumped, sent, sent_all, answered_all, order_number, pumped, ReplicaState, Place, Executed, childless, name_of, next, members, flying, under_way, forgotten, last_slot, listed, mailed, learn_row, looked_up, took_over, install_row, without_slot, before_of, spoken, spoken_mails, leads, promise_row, hinted, promise_to, promised, prepare_row, accepted_to, took, accept_row, nack_row}
+use Rattle.sc_node_table.specs.Definitions.{saw, ended, stopped, elected, open_nodes, entered, announced, order_result, effect_reported, learnt_to, welcomed, slot_lost, landed, left_gone, left, is_among, looked_for, looked, executed_one, executed_ready, executed, install_to, jumped, sent, sent_all, answered_all, order_number, pumped, ReplicaState, Place, Executed, childless, name_of, next, members, flying, under_way, forgotten, last_slot, listed, mailed, learn_row, looked_up, took_over, install_row, without_slot, before_of, spoken, spoken_mails, leads, promise_row, hinted, promise_to, promised, prepare_row, accepted_to, took, accept_row, nack_row}
 use Rattle.sc_paxos_words.specs.declared.answers.AcceptAnswer.TheVariants as Asked
 use Rattle.sc_paxos_words.specs.declared.answers.Must.TheVariants.{Free as Open}
 use Rattle.sc_paxos_words.specs.declared.answers.PrepareAnswer.TheVariants as Prepared
@@ -27,7 +27,7 @@ module _ (r : ReplicaState) where
     pub me : q.me ≡ r.me
     pub running : q.running ≡ r.running
     pub acts : q.acts ≡ r.acts
-    pub calls : q.calls ≡ r.calls
+    pub backlog : q.backlog ≡ r.backlog
     pub leader : q.leader ≡ r.leader
     pub ready : q.ready ≡ r.ready
     pub sends : (name : Draw) → errands_for name mails ≡ []
@@ -40,14 +40,14 @@ module _ (r : ReplicaState) where
     group = s.group;
     me = s.me;
     running = s.running;
-    work = ap (λ l. works_in l ++ (works_in place.0.calls ++ (works_flying place.0.leader.flights ++ works_ready place.0.ready))) s.acts
-        ∙ (ap (λ l. works_in r.acts ++ (works_in l ++ (works_flying place.0.leader.flights ++ works_ready place.0.ready))) s.calls
-        ∙ (ap (λ (l : LeaderState Command). works_in r.acts ++ (works_in r.calls ++ (works_flying l.flights ++ works_ready place.0.ready))) s.leader ∙ ap (λ l. works_in r.acts ++ (works_in r.calls ++ (works_flying r.leader.flights ++ works_ready l))) s.ready));
+    work = ap (λ l. works_in l ++ (works_in place.0.backlog ++ (works_flying place.0.leader.flights ++ works_ready place.0.ready))) s.acts
+        ∙ (ap (λ l. works_in r.acts ++ (works_in l ++ (works_flying place.0.leader.flights ++ works_ready place.0.ready))) s.backlog
+        ∙ (ap (λ (l : LeaderState Command). works_in r.acts ++ (works_in r.backlog ++ (works_flying l.flights ++ works_ready place.0.ready))) s.leader ∙ ap (λ l. works_in r.acts ++ (works_in r.backlog ++ (works_flying r.leader.flights ++ works_ready l))) s.ready));
     sends = (tt, λ name none. s.sends name);
   }
 
   itself : Same (r, [])
-  itself = record { group = refl; me = refl; running = refl; acts = refl; calls = refl; leader = refl; ready = refl; sends = λ name. refl }
+  itself = record { group = refl; me = refl; running = refl; acts = refl; backlog = refl; leader = refl; ready = refl; sends = λ name. refl }
 
   saw_same : (ballot : Ballot) → GoesOn ballot r → Same (saw ballot (r, []))
   unfolding saw
@@ -58,27 +58,27 @@ module _ (r : ReplicaState) where
       here seen false e s = s
 
       by : (b : Bool) → Same (cond (r.running && below r.leader.ballot ballot) (stopped (Some ballot.node) (cond b (record r { top = ballot }) r, [])) (cond b (record r { top = ballot }) r, []))
-      by true = here (record r { top = ballot }) (r.running && below r.leader.ballot ballot) goes (record { group = refl; me = refl; running = refl; acts = refl; calls = refl; leader = refl; ready = refl; sends = λ name. refl })
+      by true = here (record r { top = ballot }) (r.running && below r.leader.ballot ballot) goes (record { group = refl; me = refl; running = refl; acts = refl; backlog = refl; leader = refl; ready = refl; sends = λ name. refl })
       by false = here r (r.running && below r.leader.ballot ballot) goes itself
 
   install_same : (node : ℕ) (q : ReplicaState) (mails : List Mail) → IsSame q mails → Same (install_to node (q, mails))
   unfolding install_to
-  install_same node q mails s = record { group = s.group; me = s.me; running = s.running; acts = s.acts; calls = s.calls; leader = s.leader; ready = s.ready; sends = λ name. errands-none name q.me node _ mails refl ∙ s.sends name }
+  install_same node q mails s = record { group = s.group; me = s.me; running = s.running; acts = s.acts; backlog = s.backlog; leader = s.leader; ready = s.ready; sends = λ name. errands-none name q.me node _ mails refl ∙ s.sends name }
 
   hinted_same : (ballot : Ballot) (acceptor : AcceptorState Command) (q : ReplicaState) (mails after : List Mail) → IsSame q mails → ((name : Draw) → errands_for name after ≡ errands_for name mails) → IsSame (hinted ballot (record q { acceptor = acceptor })) after
   hinted_same ballot acceptor q mails after s e = by q.running
     where
       by : (b : Bool) → IsSame (cond b (record q { acceptor = acceptor }) (record q { acceptor = acceptor; hint = Some ballot.node })) after
-      by true = record { group = s.group; me = s.me; running = s.running; acts = s.acts; calls = s.calls; leader = s.leader; ready = s.ready; sends = λ name. e name ∙ s.sends name }
-      by false = record { group = s.group; me = s.me; running = s.running; acts = s.acts; calls = s.calls; leader = s.leader; ready = s.ready; sends = λ name. e name ∙ s.sends name }
+      by true = record { group = s.group; me = s.me; running = s.running; acts = s.acts; backlog = s.backlog; leader = s.leader; ready = s.ready; sends = λ name. e name ∙ s.sends name }
+      by false = record { group = s.group; me = s.me; running = s.running; acts = s.acts; backlog = s.backlog; leader = s.leader; ready = s.ready; sends = λ name. e name ∙ s.sends name }
 
   accepted_same : (from : ℕ) (ballot : Ballot) (slot : ℕ) (answer : AcceptAnswer) (acceptor : AcceptorState Command) (q : ReplicaState) (mails : List Mail) → IsSame q mails → Same (accepted_to from ballot slot (answer, acceptor) (q, mails))
   accepted_same from ballot slot Asked.Accepted acceptor q mails s = hinted_same ballot acceptor q mails _ s (λ name. errands-none name q.me from _ mails refl)
-  accepted_same from ballot slot (Asked.Ignored promised) acceptor q mails s = record { group = s.group; me = s.me; running = s.running; acts = s.acts; calls = s.calls; leader = s.leader; ready = s.ready; sends = λ name. errands-none name q.me from (Nack (name_of q) promised) mails refl ∙ s.sends name }
+  accepted_same from ballot slot (Asked.Ignored promised) acceptor q mails s = record { group = s.group; me = s.me; running = s.running; acts = s.acts; backlog = s.backlog; leader = s.leader; ready = s.ready; sends = λ name. errands-none name q.me from (Nack (name_of q) promised) mails refl ∙ s.sends name }
 
   promise_same : (from : ℕ) (ballot : Ballot) (answer : PrepareAnswer Command) (acceptor : AcceptorState Command) (q : ReplicaState) (mails : List Mail) → IsSame q mails → Same (promise_to from ballot (answer, acceptor) (q, mails))
   promise_same from ballot (Prepared.Promise reports) acceptor q mails s = hinted_same ballot acceptor q mails _ s (λ name. errands-none name q.me from _ mails refl)
-  promise_same from ballot (Prepared.Ignored promised) acceptor q mails s = record { group = s.group; me = s.me; running = s.running; acts = s.acts; calls = s.calls; leader = s.leader; ready = s.ready; sends = λ name. errands-none name q.me from (Nack (name_of q) promised) mails refl ∙ s.sends name }
+  promise_same from ballot (Prepared.Ignored promised) acceptor q mails s = record { group = s.group; me = s.me; running = s.running; acts = s.acts; backlog = s.backlog; leader = s.leader; ready = s.ready; sends = λ name. errands-none name q.me from (Nack (name_of q) promised) mails refl ∙ s.sends name }
 
   took_same : (from : ℕ) (report : Report Command) (q : ReplicaState) (mails : List Mail) → IsSame q mails → Same (took from report (q, mails))
   unfolding took
@@ -119,7 +119,7 @@ module _ (command : Command) (r : ReplicaState) (idle : IsIdle r) where
   -- no work, nothing in flight or ready, nothing that binds one that runs, and no errand
   record IsStill (q : ReplicaState) (mails : List Mail) : Type 0 where
     pub acts : works_in q.acts ≡ []
-    pub calls : works_in q.calls ≡ []
+    pub backlog : works_in q.backlog ≡ []
     pub flights : q.leader.flights ≡ []
     pub ready : q.ready ≡ []
     pub musts : q.running ≡ true → (slot : ℕ) → must slot q.leader ≡ Open
@@ -129,16 +129,16 @@ module _ (command : Command) (r : ReplicaState) (idle : IsIdle r) where
   Still place = IsStill place.0 place.1
 
   start_still : Still (r, [])
-  start_still = record { acts = idle.acts; calls = idle.calls; flights = idle.flights; ready = idle.ready; musts = λ e. (let f : false ≡ true = sym idle.stopped ∙ e in absurd cc); sends = λ name. refl }
+  start_still = record { acts = idle.acts; backlog = idle.backlog; flights = idle.flights; ready = idle.ready; musts = λ e. (let f : false ≡ true = sym idle.stopped ∙ e in absurd cc); sends = λ name. refl }
 
   entered_still : Still (entered command r, [])
   unfolding entered forgotten
-  entered_still = record { acts = idle.acts; calls = idle.calls; flights = idle.flights; ready = idle.ready; musts = λ e. (let f : false ≡ true = sym idle.stopped ∙ e in absurd cc); sends = λ name. refl }
+  entered_still = record { acts = idle.acts; backlog = idle.backlog; flights = idle.flights; ready = idle.ready; musts = λ e. (let f : false ≡ true = sym idle.stopped ∙ e in absurd cc); sends = λ name. refl }
 
-  told_still : (o : Option ToldResult) (q : ReplicaState) (mails : List Mail) → IsStill q mails → Still (told_effect o command (q, mails))
-  unfolding told_effect
+  told_still : (o : Option OrderResult) (q : ReplicaState) (mails : List Mail) → IsStill q mails → Still (effect_reported o command (q, mails))
+  unfolding effect_reported
   told_still None q mails s = s
-  told_still (Some result) q mails s = record { acts = s.acts; calls = s.calls; flights = s.flights; ready = s.ready; musts = s.musts; sends = λ name. order_none name q.me (order_number command) result mails ∙ s.sends name }
+  told_still (Some result) q mails s = record { acts = s.acts; backlog = s.backlog; flights = s.flights; ready = s.ready; musts = s.musts; sends = λ name. order_none name q.me (order_number command) result mails ∙ s.sends name }
 
   announced_still : (effect : Effect) (q : ReplicaState) (mails : List Mail) → IsStill q mails → Still (announced false effect command (q, mails))
   unfolding announced
@@ -146,7 +146,7 @@ module _ (command : Command) (r : ReplicaState) (idle : IsIdle r) where
 
   spoken_still : (effect : Effect) (q : ReplicaState) (mails : List Mail) → IsStill q mails → Still (spoken false (before_of r.group.core) effect command (q, mails))
   unfolding spoken spoken_mails
-  spoken_still effect q mails s = record { acts = s.acts; calls = s.calls; flights = s.flights; ready = s.ready; musts = s.musts; sends = λ name. begun_none name q.me (before_of r.group.core) effect command mails ∙ s.sends name }
+  spoken_still effect q mails s = record { acts = s.acts; backlog = s.backlog; flights = s.flights; ready = s.ready; musts = s.musts; sends = λ name. begun_none name q.me (before_of r.group.core) effect command mails ∙ s.sends name }
 
   learnt_still : (q : ReplicaState) (mails : List Mail) → IsStill q mails → Still (learnt_to false (members r) (next r) command (q, mails))
   unfolding learnt_to
@@ -160,7 +160,7 @@ module _ (command : Command) (r : ReplicaState) (idle : IsIdle r) where
   unfolding landed
   landed_still q mails s =
       subst (λ o. IsStill (slot_lost false command o (record q { leader = without_flight_at (next r) q.leader; ready = without_slot q.ready (next r) })) mails) (sym none)
-      (record { acts = s.acts; calls = s.calls; flights = ap (without_flight (next r)) s.flights; ready = ap (λ l. without_slot l (next r)) s.ready; musts = s.musts; sends = s.sends })
+      (record { acts = s.acts; backlog = s.backlog; flights = ap (without_flight (next r)) s.flights; ready = ap (λ l. without_slot l (next r)) s.ready; musts = s.musts; sends = s.sends })
     where
       none : flying q (next r) ≡ None
       none = ap (λ fs. option_map (λ (f : Flight Command). f.value) (flight_at (next r) fs)) s.flights
@@ -169,11 +169,11 @@ module _ (command : Command) (r : ReplicaState) (idle : IsIdle r) where
   unfolding ended
   ended_still hint answer q mails s = record {
     acts = refl;
-    calls = refl;
+    backlog = refl;
     flights = refl;
     ready = refl;
     musts = λ e slot. refl;
-    sends = λ name. all_dismissed_none name q.me (name_of q) hint answer q.calls (answered_all q.me (name_of q) answer (under_way q) mails)
+    sends = λ name. all_dismissed_none name q.me (name_of q) hint answer q.backlog (answered_all q.me (name_of q) answer (under_way q) mails)
         ∙ (all_answered_none name q.me (name_of q) answer (under_way q) mails ∙ s.sends name);
   }
 
@@ -194,7 +194,7 @@ module _ (command : Command) (r : ReplicaState) (idle : IsIdle r) where
       by false = s
 
   hinted_still : (hint : Option ℕ) (q : ReplicaState) (mails : List Mail) → IsStill q mails → IsStill (record q { hint = hint }) mails
-  hinted_still hint q mails s = record { acts = s.acts; calls = s.calls; flights = s.flights; ready = s.ready; musts = s.musts; sends = s.sends }
+  hinted_still hint q mails s = record { acts = s.acts; backlog = s.backlog; flights = s.flights; ready = s.ready; musts = s.musts; sends = s.sends }
 
   elected_still : (q : ReplicaState) (mails : List Mail) → IsStill q mails → Still (elected (q, mails))
   unfolding elected
@@ -207,7 +207,7 @@ module _ (command : Command) (r : ReplicaState) (idle : IsIdle r) where
       by true = s
       by false = record {
         acts = s.acts;
-        calls = s.calls;
+        backlog = s.backlog;
         flights = refl;
         ready = refl;
         musts = λ e slot. refl;
@@ -248,8 +248,8 @@ module _ (command : Command) (r : ReplicaState) (idle : IsIdle r) where
   ready_still place (entry ∷ ready) e = cc
 
   still_work : (q : ReplicaState) (mails : List Mail) → IsStill q mails → works q ≡ []
-  still_work q mails s = ap (λ l. l ++ (works_in q.calls ++ (works_flying q.leader.flights ++ works_ready q.ready))) s.acts
-      ∙ (ap (λ l. l ++ (works_flying q.leader.flights ++ works_ready q.ready)) s.calls ∙ (ap (λ l. works_flying l ++ works_ready q.ready) s.flights ∙ ap works_ready s.ready))
+  still_work q mails s = ap (λ l. l ++ (works_in q.backlog ++ (works_flying q.leader.flights ++ works_ready q.ready))) s.acts
+      ∙ (ap (λ l. l ++ (works_flying q.leader.flights ++ works_ready q.ready)) s.backlog ∙ (ap (λ l. works_flying l ++ works_ready q.ready) s.flights ∙ ap works_ready s.ready))
 
   pumped_still : (q : ReplicaState) (mails : List Mail) → IsStill q mails → Rested (pumped (q, mails))
   pumped_still q mails s = by q.running refl
@@ -281,7 +281,7 @@ module _ (command : Command) (r : ReplicaState) (idle : IsIdle r) where
 
   jumped_still : (slot : ℕ) (base : Base) (sets : List (List ℕ)) (q : ReplicaState) (mails : List Mail) → IsStill q mails → IsStill (jumped slot base sets q) mails
   unfolding jumped forgotten
-  jumped_still slot base sets q mails s = record { acts = s.acts; calls = s.calls; flights = s.flights; ready = s.ready; musts = s.musts; sends = s.sends }
+  jumped_still slot base sets q mails s = record { acts = s.acts; backlog = s.backlog; flights = s.flights; ready = s.ready; musts = s.musts; sends = s.sends }
 
   looked_up_still : (from : ℕ) (q : ReplicaState) (mails : List Mail) → IsStill q mails → Still (looked_up from (q, mails))
   unfolding looked_up
@@ -321,7 +321,7 @@ module _ (from : ℕ) (ballot : Ballot) (o : Option Work) (r : ReplicaState) (un
   counted_keep : (leader : LeaderState Command) → leader.flights ≡ r.leader.flights → leader.reports ≡ r.leader.reports → Works (listed o) [] r (pumped (record r { leader = leader }, []))
   counted_keep leader flights reports =
       (let w = pumps-keep o (record r { leader = leader }) (λ slot le. ap (λ l. must_without (names_above slot l) (chosen_value slot l)) reports ∙ unbound slot le)
-      (ap (λ l. works_in r.acts ++ (works_in r.calls ++ (works_flying l ++ works_ready r.ready))) flights ∙ one) in
+      (ap (λ l. works_in r.acts ++ (works_in r.backlog ++ (works_flying l ++ works_ready r.ready))) flights ∙ one) in
       record { group = w.group; me = w.me; running = w.running; work = w.work; sends = w.sends })
 
   promise_keeps : (group : Draw) → Works (listed o) [] r (mailed from (Promise group ballot []) (r, [])).0

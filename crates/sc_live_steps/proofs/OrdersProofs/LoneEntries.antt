@@ -2,14 +2,14 @@
 use Rattle.std.proofs.Common.{◌≡◌, ℕ, ◌+◌, ◌≤◌, ◌-◌, ◌^◌, not, eqb, Bool, true, false, cond, List, [], ◌∷◌, ◌++◌, filter, Option, Some, None, refl, sym, ◌∙◌, ap, subst, arith}
 use Rattle.std.proofs.lemmas.Bool.{eq-eqb}
 use Rattle.sc_base.specs.Definitions.{client_actor, is_member, least_of}
-use Rattle.sc_node_table.specs.Values.{Draw, Command, Noop, Call, Join, Leave, Split, Begin, Prepared, RecordVote, GiveUp, Finish, Watched, RecordWatch, Effect, Route, ToldResult, AnswerBody, Mail, MailBody, Answer, Prepare, Learn, Told}
+use Rattle.sc_node_table.specs.Values.{Draw, Command, Noop, Call, Join, Leave, Split, Begin, Prepared, RecordVote, GiveUp, Finish, Watched, RecordWatch, Effect, Route, OrderResult, AnswerBody, Mail, MailBody, Answer, Prepare, Learn, Told}
 use Rattle.sc_mail.specs.declared.bodies.AnswerBody.TheVariants as Says
 use Rattle.sc_machine_table.specs.Definitions.{Group, applied}
-use Rattle.sc_node_table.specs.Definitions.{elected, ended, stopped, open_nodes, entered, answer_of, told_call, order_result, told_effect, announced, learnt_to, welcomed, slot_lost, landed, left_gone, left, is_among, looked_for, looked, executed_one, executed_ready, executed, install_to, asked_to_promise, welcomed_all, sent, sent_all, sent_others, answered, answered_all, dismissed, dismissed_all, told_order, told_desk, order_number, pumped, ReplicaState, Place, Executed, childless, name_of, next, members, flying, under_way, forgotten, without_slot, before_of, begun_result, told_result, told_begun, went_on, spoken_mails, spoken}
+use Rattle.sc_node_table.specs.Definitions.{elected, ended, stopped, open_nodes, entered, answer_of, answered_or_put_back, order_result, effect_reported, announced, learnt_to, welcomed, slot_lost, landed, left_gone, left, is_among, looked_for, looked, executed_one, executed_ready, executed, install_to, asked_to_promise, welcomed_all, sent, sent_all, sent_others, answered, answered_all, dismissed, dismissed_all, order_reported, result_sent, order_number, pumped, ReplicaState, Place, Executed, childless, name_of, next, members, flying, under_way, forgotten, without_slot, before_of, begun_result, result_reported, begun_reported, went_on, spoken_mails, spoken}
 use Rattle.sc_node_table.specs.declared.Before.{Before}
 use Rattle.sc_paxos_words.specs.declared.answers.Must.TheVariants.{Free as Open}
 use Rattle.sc_paxos_words.specs.Definitions.{must, new_leader, without_flight, without_flight_at}
-use Rattle.sc_policy.specs.Definitions.{is_told}
+use Rattle.sc_policy.specs.Definitions.{is_reported}
 use Rattle.sc_law_walks.proofs.Lemmas.{entered_next}
 use Rattle.sc_live_steps.specs.orders.Definitions.{Work, work_by, works_in, works_flying, works_ready, errand_by, errands_for, IsLone, RunsAlone, EntriesRunAlone}
 use Rattle.sc_live_steps.proofs.OrdersProofs.SentErrands.{went-adds}
@@ -28,20 +28,20 @@ module _ (name : Draw) where
       by true = refl
       by false = errands-none name me node body mails (e node)
 
-  pub order_none : (me number : ℕ) (result : ToldResult) (mails : List Mail) → errands_for name (told_order me number result mails) ≡ errands_for name mails
-  unfolding told_order
-  order_none me number result mails = by (is_told number)
+  pub order_none : (me number : ℕ) (result : OrderResult) (mails : List Mail) → errands_for name (order_reported me number result mails) ≡ errands_for name mails
+  unfolding order_reported
+  order_none me number result mails = by (is_reported number)
     where
-      by : (b : Bool) → errands_for name (cond b (told_desk me number result mails) mails) ≡ errands_for name mails
+      by : (b : Bool) → errands_for name (cond b (result_sent me number result mails) mails) ≡ errands_for name mails
       by true = errands-none name me 0 (Told number result) mails refl
       by false = refl
 
-  told_none : (me number : ℕ) (result : Option ToldResult) (mails : List Mail) → errands_for name (told_result me result number mails) ≡ errands_for name mails
+  told_none : (me number : ℕ) (result : Option OrderResult) (mails : List Mail) → errands_for name (result_reported me result number mails) ≡ errands_for name mails
   told_none me number None mails = refl
   told_none me number (Some result) mails = order_none me number result mails
 
-  pub begun_none : (me : ℕ) (before : Before) (effect : Effect) (command : Command) (mails : List Mail) → errands_for name (told_begun me before effect command mails) ≡ errands_for name mails
-  unfolding told_begun
+  pub begun_none : (me : ℕ) (before : Before) (effect : Effect) (command : Command) (mails : List Mail) → errands_for name (begun_reported me before effect command mails) ≡ errands_for name mails
+  unfolding begun_reported
   begun_none me before effect command mails = told_none me _ (begun_result before.alone effect command) mails
 
   answered_none : (me : ℕ) (group : Draw) (answer : AnswerBody) (command : Command) (mails : List Mail) → errands_for name (answered me group answer command mails) ≡ errands_for name mails
@@ -65,8 +65,8 @@ module _ (name : Draw) where
   all_dismissed_none me group hint answer (command ∷ commands) mails = all_dismissed_none me group hint answer commands (dismissed me group hint answer command mails) ∙ dismissed_none me group hint answer command mails
 
 -- a command that is a work is no call: no client gets an answer for it
-not_call : (o : Option AnswerBody) (command : Command) (work : Work) (place : Place) → work_by command ≡ Some work → told_call o command place ≡ place
-unfolding told_call
+not_call : (o : Option AnswerBody) (command : Command) (work : Work) (place : Place) → work_by command ≡ Some work → answered_or_put_back o command place ≡ place
+unfolding answered_or_put_back
 not_call o Noop work place e = cc
 not_call o (Call client seq op) work place e = cc
 not_call (Some answer) (Join node order) work place e = refl
@@ -94,8 +94,8 @@ module _ (command : Command) (work : Work) (r : ReplicaState) (lone : IsLone com
   goes_on = went_on r.me made (before_of r.group.core) effect command []
 
   -- 1. what is reported, and how the transaction goes on
-  effect_told : (o : Option ToldResult) (q : ReplicaState) (mails : List Mail) → ((told_effect o command (q, mails)).0 ≡ q) × ((name : Draw) → errands_for name (told_effect o command (q, mails)).1 ≡ errands_for name mails)
-  unfolding told_effect
+  effect_told : (o : Option OrderResult) (q : ReplicaState) (mails : List Mail) → ((effect_reported o command (q, mails)).0 ≡ q) × ((name : Draw) → errands_for name (effect_reported o command (q, mails)).1 ≡ errands_for name mails)
+  unfolding effect_reported
   effect_told None q mails = (refl, λ name. refl)
   effect_told (Some result) q mails = (refl, λ name. order_none name q.me (order_number command) result mails)
 
@@ -104,7 +104,7 @@ module _ (command : Command) (work : Work) (r : ReplicaState) (lone : IsLone com
 
   announced_is : (place1.0 ≡ entered command r) × ((name : Draw) → errands_for name place1.1 ≡ [])
   unfolding announced
-  announced_is = subst (λ (p : Place). ((told_effect (order_result command effect) command p).0 ≡ entered command r) × ((name : Draw) → errands_for name (told_effect (order_result command effect) command p).1 ≡ []))
+  announced_is = subst (λ (p : Place). ((effect_reported (order_result command effect) command p).0 ≡ entered command r) × ((name : Draw) → errands_for name (effect_reported (order_result command effect) command p).1 ≡ []))
       (sym (not_call (answer_of effect) command work (entered command r, []) is)) (effect_told (order_result command effect) (entered command r) [])
 
   entered_group : (entered command r).group ≡ made
@@ -119,7 +119,7 @@ module _ (command : Command) (work : Work) (r : ReplicaState) (lone : IsLone com
   spoken_sends : (q : ReplicaState) (mails : List Mail) → q.group ≡ made → q.me ≡ r.me → ((name : Draw) → errands_for name mails ≡ []) → (name : Draw) → errands_for name (spoken true (before_of r.group.core) effect command (q, mails)).1 ≡ errands_for name goes_on
   unfolding spoken spoken_mails
   spoken_sends q mails g m none name =
-      went-adds name q.me q.group (before_of r.group.core) effect command (told_begun q.me (before_of r.group.core) effect command mails)
+      went-adds name q.me q.group (before_of r.group.core) effect command (begun_reported q.me (before_of r.group.core) effect command mails)
       ∙ (ap (λ l. l ++ errands_for name (went_on q.me q.group (before_of r.group.core) effect command [])) (begun_none name q.me (before_of r.group.core) effect command mails ∙ none name)
       ∙ (ap (λ x. errands_for name (went_on x q.group (before_of r.group.core) effect command [])) m ∙ ap (λ x. errands_for name (went_on r.me x (before_of r.group.core) effect command [])) g))
 
@@ -175,7 +175,7 @@ module _ (command : Command) (work : Work) (r : ReplicaState) (lone : IsLone com
     pub me : q.me ≡ r.me
     pub next_is : next q ≡ next r + 1
     pub acts : works_in q.acts ≡ []
-    pub calls : works_in q.calls ≡ []
+    pub backlog : works_in q.backlog ≡ []
     pub flights : q.leader.flights ≡ []
     pub ready : q.ready ≡ []
     pub musts : (slot : ℕ) → next r ≤ slot → must slot q.leader ≡ Open
@@ -208,7 +208,7 @@ module _ (command : Command) (work : Work) (r : ReplicaState) (lone : IsLone com
       me = refl;
       next_is = entered_next command r;
       acts = lone.acts;
-      calls = lone.calls;
+      backlog = lone.backlog;
       flights = over_flights;
       ready = over_ready;
       musts = lone.unbound;
@@ -230,11 +230,11 @@ module _ (command : Command) (work : Work) (r : ReplicaState) (lone : IsLone com
     me = d.me;
     next_is = d.next_is;
     acts = refl;
-    calls = refl;
+    backlog = refl;
     flights = refl;
     ready = refl;
     musts = λ slot le. refl;
-    sends = λ name. all_dismissed_none name q.me (name_of q) hint answer q.calls (answered_all q.me (name_of q) answer (under_way q) mails)
+    sends = λ name. all_dismissed_none name q.me (name_of q) hint answer q.backlog (answered_all q.me (name_of q) answer (under_way q) mails)
         ∙ (all_answered_none name q.me (name_of q) answer (under_way q) mails ∙ d.sends name);
   }
 
@@ -259,7 +259,7 @@ module _ (command : Command) (work : Work) (r : ReplicaState) (lone : IsLone com
 
   -- 6. one that does not run looks for a leader
   hinted_done : (hint : Option ℕ) (q : ReplicaState) (mails : List Mail) → IsDoneAt (q, mails) → IsDoneAt (record q { hint = hint }, mails)
-  hinted_done hint q mails d = (record { group = d.0.group; me = d.0.me; next_is = d.0.next_is; acts = d.0.acts; calls = d.0.calls; flights = d.0.flights; ready = d.0.ready; musts = d.0.musts; sends = d.0.sends }, d.1)
+  hinted_done hint q mails d = (record { group = d.0.group; me = d.0.me; next_is = d.0.next_is; acts = d.0.acts; backlog = d.0.backlog; flights = d.0.flights; ready = d.0.ready; musts = d.0.musts; sends = d.0.sends }, d.1)
 
   elected_done : (q : ReplicaState) (mails : List Mail) → IsDoneAt (q, mails) → IsDoneAt (elected (q, mails))
   unfolding elected
@@ -276,7 +276,7 @@ module _ (command : Command) (work : Work) (r : ReplicaState) (lone : IsLone com
           me = d.0.me;
           next_is = d.0.next_is;
           acts = d.0.acts;
-          calls = d.0.calls;
+          backlog = d.0.backlog;
           flights = refl;
           ready = refl;
           musts = λ slot le. refl;
@@ -319,8 +319,8 @@ module _ (command : Command) (work : Work) (r : ReplicaState) (lone : IsLone com
   runs-alone =
       (let after : Place = executed_one true command (r, []) in let d = one_done in
       let p = pump-stays after.0 after.1 None (λ slot le. d.0.musts slot (let n = d.0.next_is in omega (arith, le, n)))
-      (ap (λ l. l ++ (works_in after.0.calls ++ (works_flying after.0.leader.flights ++ works_ready after.0.ready))) d.0.acts
-      ∙ (ap (λ l. l ++ (works_flying after.0.leader.flights ++ works_ready after.0.ready)) d.0.calls ∙ (ap (λ l. works_flying l ++ works_ready after.0.ready) d.0.flights ∙ ap works_ready d.0.ready))) in
+      (ap (λ l. l ++ (works_in after.0.backlog ++ (works_flying after.0.leader.flights ++ works_ready after.0.ready))) d.0.acts
+      ∙ (ap (λ l. l ++ (works_flying after.0.leader.flights ++ works_ready after.0.ready)) d.0.backlog ∙ (ap (λ l. works_flying l ++ works_ready after.0.ready) d.0.flights ∙ ap works_ready d.0.ready))) in
       subst (λ (x : Executed). RunsAlone command r (pumped x.0)) (sym (ready_none after after.0.ready d.0.ready)) (record {
         group = p.0.group ∙ d.0.group;
         me = p.0.me ∙ d.0.me;

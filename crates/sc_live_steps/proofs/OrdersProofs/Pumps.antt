@@ -7,7 +7,7 @@ use Rattle.sc_base.specs.Definitions.{client_actor}
 use Rattle.sc_node_table.specs.Values.{Draw, Command, Noop, Call, Core, AnswerBody, Mail, Accept, Answer, Must, Flight}
 use Rattle.sc_paxos_words.specs.declared.answers.Must.TheVariants.{Free as Open}
 use Rattle.sc_paxos_words.specs.Definitions.{must}
-use Rattle.sc_node_table.specs.Definitions.{answered, Found, is_act, waits, turned_down, next_call, from_calls, from_acts, from_queues, found_by, found_for, offered, pumped_from, pumped, ReplicaState, Place, name_of, next, settled, may_offer, taken_at, under_way, is_idle, last_slot, listed}
+use Rattle.sc_node_table.specs.Definitions.{answered, Found, is_act, waits, turned_down, next_queued, from_backlog, from_acts, from_queues, found_by, found_for, offered, pumped_from, pumped, ReplicaState, Place, name_of, next, settled, may_offer, taken_at, under_way, is_idle, last_slot, listed}
 use Rattle.sc_live_steps.specs.orders.Definitions.{Work, work_by, works_in, works_flying, works_ready, works, errands_for, IsUnbound, PumpsKeepWork}
 use Rattle.sc_live_steps.proofs.OrdersProofs.NamedValues.{single}
 use Rattle.sc_live_steps.proofs.OrdersProofs.Errands.{errands-none, errands-all}
@@ -53,22 +53,22 @@ turned_errands name me group _ answer mails = refl
 abbrev Walk : Type 0
 Walk = Option Command × List Command × List Mail
 
-record Walks (calls : List Command) (mails : List Mail) (after : Walk) : Type 0 where
-  pub work : work_found after.0 ++ works_in after.1 ≡ works_in calls
+record Walks (backlog : List Command) (mails : List Mail) (after : Walk) : Type 0 where
+  pub work : work_found after.0 ++ works_in after.1 ≡ works_in backlog
   pub errands : (name : Draw) → errands_for name after.2 ≡ errands_for name mails
 
-next_walks : (me : ℕ) (idle : Bool) (core : Core) (calls : List Command) (mails : List Mail) → Walks calls mails (next_call me idle core calls mails)
-unfolding next_call
+next_walks : (me : ℕ) (idle : Bool) (core : Core) (backlog : List Command) (mails : List Mail) → Walks backlog mails (next_queued me idle core backlog mails)
+unfolding next_queued
 next_walks me idle core [] mails = record { work = refl; errands = λ name. refl }
-next_walks me idle core (command ∷ calls) mails =
-    by (waits idle core.lock command) (turned_down core command) refl (λ answer. next_walks me idle core calls (answered me core.id answer command mails))
+next_walks me idle core (command ∷ backlog) mails =
+    by (waits idle core.lock command) (turned_down core command) refl (λ answer. next_walks me idle core backlog (answered me core.id answer command mails))
   where
-    by : (b : Bool) (o : Option AnswerBody) → turned_down core command ≡ o → ((answer : AnswerBody) → Walks calls (answered me core.id answer command mails) (next_call me idle core calls (answered me core.id answer command mails)))
-        → Walks (command ∷ calls) mails (cond b (None, command ∷ calls, mails) (elim o [ None ↦ (Some command, calls, mails) | Some answer ↦ next_call me idle core calls (answered me core.id answer command mails) ]))
+    by : (b : Bool) (o : Option AnswerBody) → turned_down core command ≡ o → ((answer : AnswerBody) → Walks backlog (answered me core.id answer command mails) (next_queued me idle core backlog (answered me core.id answer command mails)))
+        → Walks (command ∷ backlog) mails (cond b (None, command ∷ backlog, mails) (elim o [ None ↦ (Some command, backlog, mails) | Some answer ↦ next_queued me idle core backlog (answered me core.id answer command mails) ]))
     by true o e more = record { work = refl; errands = λ name. refl }
     by false None e more = record { work = refl; errands = λ name. refl }
     by false (Some answer) e more = (let w = more answer in record {
-      work = w.work ∙ ap (λ x. listed x ++ works_in calls) (sym (turned_work core command answer e));
+      work = w.work ∙ ap (λ x. listed x ++ works_in backlog) (sym (turned_work core command answer e));
       errands = λ name. w.errands name ∙ turned_errands name me core.id command answer mails;
     })
 
@@ -89,15 +89,15 @@ module _ (r0 : ReplicaState) (mails0 : List Mail) (o : Option Work) where
   abbrev IsFound : Found → Type 0
   IsFound found = Stays found.1.0 found.1.1 × (work_found found.0 ++ works found.1.0 ≡ listed o)
 
-  calls_found : (r : ReplicaState) (mails : List Mail) → IsPumped (r, mails) → IsFound (from_calls (r, mails))
-  unfolding from_calls
-  calls_found r mails p = (let w = next_walks r.me (is_idle r) r.group.core r.calls mails in let found = next_call r.me (is_idle r) r.group.core r.calls mails in
+  calls_found : (r : ReplicaState) (mails : List Mail) → IsPumped (r, mails) → IsFound (from_backlog (r, mails))
+  unfolding from_backlog
+  calls_found r mails p = (let w = next_walks r.me (is_idle r) r.group.core r.backlog mails in let found = next_queued r.me (is_idle r) r.group.core r.backlog mails in
       (record { group = p.0.group; me = p.0.me; running = p.0.running; musts = p.0.musts; errands = λ name. w.errands name ∙ p.0.errands name }, by found.0 found.1 w.work))
     where
-      by : (f : Option Command) (calls : List Command) → work_found f ++ works_in calls ≡ works_in r.calls → work_found f ++ (works_in r.acts ++ (works_in calls ++ (works_flying r.leader.flights ++ works_ready r.ready))) ≡ listed o
-      by None calls e = ap (λ l. works_in r.acts ++ (l ++ (works_flying r.leader.flights ++ works_ready r.ready))) e ∙ p.1
-      by (Some command) calls e = to-head (work_by command) (works_in r.acts) (works_in calls ++ (works_flying r.leader.flights ++ works_ready r.ready)) o
-          (ap (λ l. works_in r.acts ++ l) (sym (append_assoc (listed (work_by command)) (works_in calls) (works_flying r.leader.flights ++ works_ready r.ready)))
+      by : (f : Option Command) (backlog : List Command) → work_found f ++ works_in backlog ≡ works_in r.backlog → work_found f ++ (works_in r.acts ++ (works_in backlog ++ (works_flying r.leader.flights ++ works_ready r.ready))) ≡ listed o
+      by None backlog e = ap (λ l. works_in r.acts ++ (l ++ (works_flying r.leader.flights ++ works_ready r.ready))) e ∙ p.1
+      by (Some command) backlog e = to-head (work_by command) (works_in r.acts) (works_in backlog ++ (works_flying r.leader.flights ++ works_ready r.ready)) o
+          (ap (λ l. works_in r.acts ++ l) (sym (append_assoc (listed (work_by command)) (works_in backlog) (works_flying r.leader.flights ++ works_ready r.ready)))
           ∙ (ap (λ l. works_in r.acts ++ (l ++ (works_flying r.leader.flights ++ works_ready r.ready))) e ∙ p.1))
 
   acts_found : (acts : List Command) (r : ReplicaState) (mails : List Mail) → r.acts ≡ acts → IsPumped (r, mails) → IsFound (from_acts acts (r, mails))
@@ -107,8 +107,8 @@ module _ (r0 : ReplicaState) (mails0 : List Mail) (o : Option Work) where
       by : (b : Bool) → IsFound (cond b (Some act, (record r { acts = acts }, mails)) (None, (r, mails)))
       by true = (
         record { group = p.0.group; me = p.0.me; running = p.0.running; musts = p.0.musts; errands = p.0.errands },
-        sym (append_assoc (listed (work_by act)) (works_in acts) (works_in r.calls ++ (works_flying r.leader.flights ++ works_ready r.ready)))
-            ∙ (ap (λ l. works_in l ++ (works_in r.calls ++ (works_flying r.leader.flights ++ works_ready r.ready))) (sym e) ∙ p.1),
+        sym (append_assoc (listed (work_by act)) (works_in acts) (works_in r.backlog ++ (works_flying r.leader.flights ++ works_ready r.ready)))
+            ∙ (ap (λ l. works_in l ++ (works_in r.backlog ++ (works_flying r.leader.flights ++ works_ready r.ready))) (sym e) ∙ p.1),
       )
       by false = p
 
@@ -134,14 +134,14 @@ module _ (r0 : ReplicaState) (mails0 : List Mail) (o : Option Work) where
       musts = f.0.musts;
       errands = λ name. errands-all name r.me set (Accept (name_of r) r.leader.ballot slot command) mails (λ to. refl) ∙ f.0.errands name;
     },
-    ap (λ l. works_in r.acts ++ (works_in r.calls ++ (l ++ works_ready r.ready))) (flying_more r.leader.flights (record { slot = slot; value = command; voters = None }))
-        ∙ (ap (λ l. works_in r.acts ++ (works_in r.calls ++ l)) (append_assoc (works_flying r.leader.flights) (listed (work_by command)) (works_ready r.ready))
-        ∙ (sym (assoc (listed (work_by command) ++ works_ready r.ready)) ∙ from-head (work_by command) (works_in r.acts ++ (works_in r.calls ++ works_flying r.leader.flights)) (works_ready r.ready) o
+    ap (λ l. works_in r.acts ++ (works_in r.backlog ++ (l ++ works_ready r.ready))) (flying_more r.leader.flights (record { slot = slot; value = command; voters = None }))
+        ∙ (ap (λ l. works_in r.acts ++ (works_in r.backlog ++ l)) (append_assoc (works_flying r.leader.flights) (listed (work_by command)) (works_ready r.ready))
+        ∙ (sym (assoc (listed (work_by command) ++ works_ready r.ready)) ∙ from-head (work_by command) (works_in r.acts ++ (works_in r.backlog ++ works_flying r.leader.flights)) (works_ready r.ready) o
         (ap (λ l. listed (work_by command) ++ l) (assoc (works_ready r.ready)) ∙ f.1))),
   )
     where
-      assoc : (l : List Work) → (works_in r.acts ++ (works_in r.calls ++ works_flying r.leader.flights)) ++ l ≡ works_in r.acts ++ (works_in r.calls ++ (works_flying r.leader.flights ++ l))
-      assoc l = append_assoc (works_in r.acts) (works_in r.calls ++ works_flying r.leader.flights) l ∙ ap (λ x. works_in r.acts ++ x) (append_assoc (works_in r.calls) (works_flying r.leader.flights) l)
+      assoc : (l : List Work) → (works_in r.acts ++ (works_in r.backlog ++ works_flying r.leader.flights)) ++ l ≡ works_in r.acts ++ (works_in r.backlog ++ (works_flying r.leader.flights ++ l))
+      assoc l = append_assoc (works_in r.acts) (works_in r.backlog ++ works_flying r.leader.flights) l ∙ ap (λ x. works_in r.acts ++ x) (append_assoc (works_in r.backlog) (works_flying r.leader.flights) l)
 
   slots_pump : (slot : ℕ) (sets : List (List ℕ)) (place : Place) → ((at : ℕ) → slot ≤ at → must at r0.leader ≡ Open) → IsPumped place → IsPumped (pumped_from slot sets place)
   unfolding pumped_from

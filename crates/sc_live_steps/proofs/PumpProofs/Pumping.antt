@@ -7,7 +7,7 @@ use Rattle.std.proofs.lemmas.Bool.{and_parts}
 use Rattle.sc_node_table.specs.Values.{Command, Mail, Must, Gap, Flight}
 use Rattle.sc_paxos_words.specs.declared.answers.Must.TheVariants.{Value, Free as Open}
 use Rattle.sc_paxos_words.specs.Definitions.{LeaderState, flight_at, must}
-use Rattle.sc_node_table.specs.Definitions.{Found, is_act, from_calls, from_acts, from_queues, found_by, found_for, offered, pumped_from, pumped, ReplicaState, Place, either, flying, listed, next, settled, may_offer, first_set, taken_at, taken_from, open_slots, under_way, is_idle, last_slot, at_slot}
+use Rattle.sc_node_table.specs.Definitions.{Found, is_act, from_backlog, from_acts, from_queues, found_by, found_for, offered, pumped_from, pumped, ReplicaState, Place, either, flying, listed, next, settled, may_offer, first_set, taken_at, taken_from, open_slots, under_way, is_idle, last_slot, at_slot}
 use Rattle.sc_law_walks.proofs.Lemmas.{either_way}
 use Rattle.sc_live_steps.specs.pump.Waiting.{HasNoneWaiting, PumpsLeaveNone}
 
@@ -53,8 +53,8 @@ idle_busy r n f e = true≢false (sym (ap (λ (l : List Command). length l == 0)
 abbrev Leaves : ReplicaState → Found → Type 0
 Leaves r found = (found.1.0.leader ≡ r.leader) × (found.1.0.ready ≡ r.ready)
 
-calls_leave : (r : ReplicaState) (mails : List Mail) → Leaves r (from_calls (r, mails)) × ((from_calls (r, mails)).1.0.acts ≡ r.acts)
-unfolding from_calls
+calls_leave : (r : ReplicaState) (mails : List Mail) → Leaves r (from_backlog (r, mails)) × ((from_backlog (r, mails)).1.0.acts ≡ r.acts)
+unfolding from_backlog
 calls_leave r mails = ((refl, refl), refl)
 
 acts_leave : (r : ReplicaState) (acts : List Command) (mails : List Mail) → Leaves r (from_acts acts (r, mails))

@@ -7,7 +7,7 @@ use Rattle.sc_cmd.specs.declared.votes.Past.TheVariants as Cast
 use Rattle.sc_cmd.specs.Definitions.{is_alone, is_changed}
 use Rattle.sc_machine_table.specs.Definitions.{applied}
 use Rattle.sc_paxos_words.specs.Definitions.{without_flight}
-use Rattle.sc_node_table.specs.Definitions.{serves_calls, entered, executed_one, next_ready, ReplicaState, Place, next, members, without_slot, before_of}
+use Rattle.sc_node_table.specs.Definitions.{admits_requests, entered, executed_one, next_ready, ReplicaState, Place, next, members, without_slot, before_of}
 use Rattle.sc_law_walks.specs.Definitions.{IfThere}
 use Rattle.sc_live_steps.specs.calm.Laws.{newcomers, IsCounting, LeadsOn, StopsAfter, MayPump, Lowers, readied_at, ExecutesFreely}
 use Rattle.sc_live_steps.specs.calm.Potential.{Ways}
@@ -19,7 +19,7 @@ AreBounded ways = (group : Draw) (node : ℕ) → ways.far group node ≤ ways.m
 -- A group serves this call: it is not gone, no lock keeps calls waiting, and the key lies in its arc.
 pub record IsServed (op : Op) (core : Core) : Type 0 where
   pub stands : core.gone ≡ None
-  pub serves : serves_calls core.lock ≡ true
+  pub serves : admits_requests core.lock ≡ true
   pub holds : holds_key core.arc (key_of op) ≡ true
 
 -- The command is a call that the group serves.

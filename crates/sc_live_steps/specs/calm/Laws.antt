@@ -57,7 +57,7 @@ pub record StopsAfter (command : Command) (r : ReplicaState) : Type 0 where
   pub leaves : is_member (members (entered command r)) r.me ≡ false
   pub flights : without_flight (next r) r.leader.flights ≡ []
   pub alone : without_slot r.ready (next r) ≡ []
-  pub calls : r.calls ≡ []
+  pub backlog : r.backlog ≡ []
 
 -- An entry that a leader counted, and after which it leads on, raises nothing,
 -- if the command in flight owed at least the mail that it sends, 8 for those that learn it, and 3 for each member that it adds.

@@ -94,7 +94,7 @@ ready_owes most ready = sum_by (λ entry. offered_owes most entry.1) ready
 -- What a replica owes: the commands that wait, are in flight or are ready at it.
 abbrev pub replica_owes : ℕ → ReplicaState → ℕ
 replica_owes most r =
-    sum_by (command_owes most) r.acts + sum_by (command_owes most) r.calls + flights_owe most r.leader.flights + ready_owes most r.ready
+    sum_by (command_owes most) r.acts + sum_by (command_owes most) r.backlog + flights_owe most r.leader.flights + ready_owes most r.ready
 
 -- What an election owes: at most 36 nodes are asked to promise, and each may answer.
 abbrev pub election : ℕ

@@ -24,7 +24,7 @@ pub record IsNewest (at : View) (group : Draw) (r : ReplicaState) : Type 0 where
 pub record IsAtRest (r : ReplicaState) : Type 0 where
   pub free : r.group.core.lock ≡ Free
   pub acts : r.acts ≡ []
-  pub calls : r.calls ≡ []
+  pub backlog : r.backlog ≡ []
   pub waits : r.waits ≡ 0
   pub flights : r.leader.flights ≡ []
   pub ready : r.ready ≡ []

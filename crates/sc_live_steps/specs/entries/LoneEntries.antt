@@ -54,5 +54,5 @@ IsEntry (GiveUp tx) r = ⊥
 -- A leader of a group that stands, where one such entry alone is in flight and no call waits, may count a vote, if at most nine are members before the entry and after it.
 abbrev pub OrderEntriesCount : Type 0
 OrderEntriesCount =
-    (slot : ℕ) (flight : Flight Command) (r : ReplicaState) → FliesLone flight r → r.calls ≡ [] → MayPump r → length (members r) ≤ 9 → length (applied r.group flight.value).0.core.members ≤ 9
+    (slot : ℕ) (flight : Flight Command) (r : ReplicaState) → FliesLone flight r → r.backlog ≡ [] → MayPump r → length (members r) ≤ 9 → length (applied r.group flight.value).0.core.members ≤ 9
     → is_member (members r) r.me ≡ true → r.group.core.gone ≡ None → IsEntry flight.value r → MayCount slot r

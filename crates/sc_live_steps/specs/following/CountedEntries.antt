@@ -29,19 +29,19 @@ pub record IsNext (at : Sets) (command : Command) (r : ReplicaState) : Type 0 wh
 
 -- The replica after it executes the command and leads on: nothing is in flight or ready at that slot any more, and its queues are these.
 abbrev pub led_on : Command → List Command → List Command → ReplicaState → ReplicaState
-led_on command acts calls r = record (entered command r) { leader = without_flight_at (next r) r.leader; ready = without_slot r.ready (next r); acts = acts; calls = calls }
+led_on command acts backlog r = record (entered command r) { leader = without_flight_at (next r) r.leader; ready = without_slot r.ready (next r); acts = acts; backlog = backlog }
 
 -- The replica after it executes the command and stops leading: nothing is in flight, ready or queued, and it takes `hint` for the leader.
 abbrev pub led_off : Command → Option ℕ → ReplicaState → ReplicaState
-led_off command hint r = record (entered command r) { running = false; leader = new_leader r.leader.ballot (next (entered command r)); ready = []; acts = []; calls = []; hint = hint }
+led_off command hint r = record (entered command r) { running = false; leader = new_leader r.leader.ballot (next (entered command r)); ready = []; acts = []; backlog = []; hint = hint }
 
 -- The replica executes the command and leads on: its group stands, and it is still a member.
 pub record IsOn (command : Command) (r after : ReplicaState) : Type 0 where
   pub stands : (entered command r).group.core.gone ≡ None
   pub stays : is_member (members (entered command r)) r.me ≡ true
   pub acts : List Command
-  pub calls : List Command
-  pub is : after ≡ led_on command acts calls r
+  pub backlog : List Command
+  pub is : after ≡ led_on command acts backlog r
 
 -- The replica executes the command and stops leading: its group is gone, or it is no member any more.
 pub record IsOff (command : Command) (r after : ReplicaState) : Type 0 where

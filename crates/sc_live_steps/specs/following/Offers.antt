@@ -38,8 +38,8 @@ pub record OffersBy (at : Sets) (course : Course) (place after : Place) : Type 0
   pub up : course.bound ≤ bound
   pub begun : List (Flight Command)
   pub acts : List Command
-  pub calls : List Command
-  pub is : after.0 ≡ record place.0 { leader = record place.0.leader { flights = place.0.leader.flights ++ begun }; acts = acts; calls = calls }
+  pub backlog : List Command
+  pub is : after.0 ≡ record place.0 { leader = record place.0.leader { flights = place.0.leader.flights ++ begun }; acts = acts; backlog = backlog }
   pub fly : Each (IsBegun course.bound bound) begun
   pub goes_on : MayOffer at (to_bound bound course) after.0
   pub offers : ℕ → List Mark

@@ -17,7 +17,7 @@ pub record IsLone (command : Command) (r : ReplicaState) : Type 0 where
   pub ready : r.ready ≡ (next r, command) ∷ []
   pub flights : r.leader.flights ≡ []
   pub acts : works_in r.acts ≡ []
-  pub calls : works_in r.calls ≡ []
+  pub backlog : works_in r.backlog ≡ []
 
 -- The leader executes the command. It has no work then, sends the errands by which the transaction goes on and no others, and leads on where it stays a member of a group that stands.
 pub record RunsAlone (command : Command) (r : ReplicaState) (after : Place) : Type 0 where
@@ -45,7 +45,7 @@ pub record FliesLone (flight : Flight Command) (r : ReplicaState) : Type 0 where
   pub here : flight.slot ≡ next r
   pub ready : r.ready ≡ []
   pub acts : works_in r.acts ≡ []
-  pub calls : works_in r.calls ≡ []
+  pub backlog : works_in r.backlog ≡ []
 
 -- The leader executes the command in flight, as one that is ready alone.
 pub record Decides (flight : Flight Command) (r : ReplicaState) (after : Place) : Type 0 where
@@ -65,7 +65,7 @@ VotesCountAlone =
 pub record IsIdle (r : ReplicaState) : Type 0 where
   pub stopped : r.running ≡ false
   pub acts : works_in r.acts ≡ []
-  pub calls : works_in r.calls ≡ []
+  pub backlog : works_in r.backlog ≡ []
   pub flights : r.leader.flights ≡ []
   pub ready : r.ready ≡ []
 

@@ -78,7 +78,7 @@ works_ready (entry ∷ ready) = listed (work_by entry.1) ++ works_ready ready
 
 -- The work of all commands that wait, are in flight or are ready at a replica.
 abbrev pub works : ReplicaState → List Work
-works r = works_in r.acts ++ (works_in r.calls ++ (works_flying r.leader.flights ++ works_ready r.ready))
+works r = works_in r.acts ++ (works_in r.backlog ++ (works_flying r.leader.flights ++ works_ready r.ready))
 
 -- ---- the errands of mail
 

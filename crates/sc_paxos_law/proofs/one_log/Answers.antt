@@ -1,10 +1,10 @@
-use Rattle.sc_paxos_law.proofs.Decided.{log_of-longest, front_of_log, log_grows, least_stands}
+use Rattle.sc_paxos_law.proofs.Decided.{log_of-longest, prefix_of_log, log_grows, least_stands}
 use Rattle.sc_paxos_law.proofs.one_log.Goals as goal
 
 pub returns-clause-longest : goal.returns-clause-longest
 returns-clause-longest g c = record {
   is_log = λ rule first h l. (log_of-longest rule first h l).0;
-  longest = λ rule first h l other b. front_of_log rule first h l other b;
+  longest = λ rule first h l other b. prefix_of_log rule first h l other b;
 }
 
 pub returns-clause-grows : goal.returns-clause-grows

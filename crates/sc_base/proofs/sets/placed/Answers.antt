@@ -29,5 +29,5 @@ push-requires-then-node-above c =
     let next = length-filter-next (λ x. ltb node x) members c.loop-above.above-index (get_or members c.loop-above.above-index 0) within (sym (get_or_default members c.loop-above.above-index _ 0 within)) (lt-ltb node _ c.if-node-above.true) in
     let same = ap length c.loop-above.invariant in
     let long = length-append (low ++ node ∷ []) high in
-    let front = length-append low (node ∷ []) in
+    let prefix = length-append low (node ∷ []) in
     omega arith

@@ -5,7 +5,7 @@ use Rattle.sc_machine_table.specs.Group.{group_of}
 use Rattle.sc_sound.specs.Accepts.{accepts}
 use Rattle.sc_chosen.specs.Indexes.{listed_in}
 use Rattle.sc_chosen.specs.declared.accepting.Acceptance.{Acceptance}
-use Rattle.sc_chosen.proofs.Grown.{told_first}
+use Rattle.sc_chosen.proofs.Grown.{matches_first}
 use Rattle.sc_chosen.proofs.Stays.{known_is}
 use Rattle.sc_chosen.proofs.known.known_of.Goals as goal
 
@@ -16,7 +16,7 @@ returns c =
     let no_log : c.new-log.result.items ≡ [] = search rules in
     let no_members : c.new-members.result.items ≡ [] = search rules in
     let told =
-    told_first h c.args.base kept c.in_ok-found.found.items c.new-log.result.items c.new-members.result.items c.in_ok-state.state c.in_ok-behind.behind no_log no_members c.in_ok-found.ensures c.in_ok-index.ensures
+    matches_first h c.args.base kept c.in_ok-found.found.items c.new-log.result.items c.new-members.result.items c.in_ok-state.state c.in_ok-behind.behind no_log no_members c.in_ok-found.ensures c.in_ok-index.ensures
     (c.in_ok-state.ensures ∙ ap group_of c.in_ok-one.ensures) (c.in_ok-behind.ensures ∙ ap group_of c.in_ok-other.ensures) in
     let done = c.in_ok-_childless.ensures h told in
     (known_is c.args.rows.now c.args.base _ done.0 done.1 done.2, done.1)

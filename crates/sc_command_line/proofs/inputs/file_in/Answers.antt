@@ -1,14 +1,14 @@
 use Rattle.std.proofs.Common.{subst}
 use Rattle.sc_journal_file.specs.Laws.{IsFileOfOne}
-use Rattle.sc_journal_file.specs.Stored.{IsFile, IsFileFault}
-use Rattle.sc_command_line.proofs.Readings.{answers_fault, bad_file, reads_file}
+use Rattle.sc_journal_file.specs.Stored.{IsFile, IsFileError}
+use Rattle.sc_command_line.proofs.Readings.{answers_error, bad_file, reads_file}
 use Rattle.sc_command_line.proofs.inputs.file_in.Goals as goal
 
 pub returns-in_err-read_file-clause-read : goal.returns-in_err-read_file-clause-read
 returns-in_err-read_file-clause-read g c =
-    let fault = c.in_err-read_file.field-0.0 in
-    answers_fault c.from_residual-in_err-read_file.result _ _ _ c.from_residual-in_err-read_file.ensures.1
-    (bad_file c.first_file_bytes_decide.ensures.faults _ c.in_ok-file.file.items fault c.in_ok-file.ensures.taken.bytes (subst (λ file. IsFileFault file fault) c.deref.ensures.value c.in_err-read_file.ensures.file))
+    let error = c.in_err-read_file.field-0.0 in
+    answers_error c.from_residual-in_err-read_file.result _ _ _ c.from_residual-in_err-read_file.ensures.1
+    (bad_file c.first_file_bytes_decide.ensures.errors _ c.in_ok-file.file.items error c.in_ok-file.ensures.taken.bytes (subst (λ file. IsFileError file error) c.deref.ensures.value c.in_err-read_file.ensures.file))
 
 pub returns-clause-read : goal.returns-clause-read
 returns-clause-read g c =

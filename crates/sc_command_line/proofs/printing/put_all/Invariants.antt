@@ -8,6 +8,6 @@ use Rattle.sc_command_line.proofs.printing.put_all.Given as goal
 abbrev pub invariant-loop-line : goal.invariant-loop-line
 invariant-loop-line g l =
     Appends (g.K.Sink.held l.initial.sink) (g.K.Sink.held l.sink) (concat (take l.line-index l.lines))
-    × (g.K.Sink.faults l.initial.sink ≤ g.K.Sink.faults l.sink)
+    × (g.K.Sink.errors l.initial.sink ≤ g.K.Sink.errors l.sink)
     × (g.K.Sink.calls l.sink ≤ g.K.Sink.calls l.initial.sink + l.line-index)
     × BringsLines (g.K.Sink.pieces l.initial.sink) (g.K.Sink.pieces l.sink) (take l.line-index l.lines)

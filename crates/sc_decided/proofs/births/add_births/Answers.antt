@@ -15,9 +15,9 @@ loop-child-preserved c = λ bases known.
     let cs = c.args.children.now in
     let i = c.loop-child.child-index in
     let so_far = c.loop-child.invariant bases known in
-    let front : List Base = fold with_birth bases (take i cs) in
-    let one = c.in_ok-there.ensures front so_far.0 in
-    let next = births_push bases cs i c.child-item.result (omega (arith, c.loop-child-test.true)) c.child-item.is ∙ ap (with_birth front) (sym c.in_ok-dup.ensures) in (
+    let prefix : List Base = fold with_birth bases (take i cs) in
+    let one = c.in_ok-there.ensures prefix so_far.0 in
+    let next = births_push bases cs i c.child-item.result (omega (arith, c.loop-child-test.true)) c.child-item.is ∙ ap (with_birth prefix) (sym c.in_ok-dup.ensures) in (
       subst (λ (bs : List Base). AreKnown c.args.rows.now bs c.add_birth.new.knowns.items) (sym next) one.0,
       λ calm. let parts = and_parts c.loop-child.were c.in_ok-there.there (sym c.both-were.ensures ∙ calm) in next ∙ one.1 parts.1 ∙ so_far.1 parts.0,
     )

@@ -21,7 +21,7 @@ loop-line-init g c =
       at = λ births opened.
           drive_begins two_words births c.args.lines.now next after old.score
           (company_born births net next ss after opened.birth still.looked still.len still.still gathered gathered.rows)
-          (nothing_seen births net next ss after opened.birth still.looked still.len still.still gathered gathered.rows) opened.none_skipped opened.settled opened.none_gone;
+          (nothing_seen births net next ss after opened.birth still.looked still.len still.still gathered gathered.rows) opened.none_skipped opened.settled opened.none_started;
     }
 
 pub gather-requires-clause-exchange : goal.gather-requires-clause-exchange

@@ -19,4 +19,4 @@ pub returns-clause-goes : goal.returns-clause-goes
 returns-clause-goes g c =
     let old = c.args.company.now in let new = c.step_line.new.company in let line = c.args.line.now in
     on_ok_weaker c.skip.result (λ count. once_skipped line old new c.skip.new.score (subst (RowEnded (λ s rows. line_row s rows line) old new) c.if-branch.false c.in_ok-step_line.ensures)
-    (record { count = count; cut = c.skip.ensures.kept.0; gone = c.skip.ensures.kept.1 })) c.skip.ensures.skipped
+    (record { count = count; cut = c.skip.ensures.kept.0; started = c.skip.ensures.kept.1 })) c.skip.ensures.skipped

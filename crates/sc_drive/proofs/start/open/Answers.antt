@@ -28,5 +28,5 @@ returns-clause-opened g c =
       birth = at_birth c.args.actors c.args.limit c.args.seats.items c.loop-seat.net c.loop-seat.shells.items (subst (λ l. Begun c.args.actors c.args.limit l c.loop-seat.net c.loop-seat.shells.items) (sym (map-id c.loop-seat.yielded) ∙ end.0) c.loop-seat.invariant) c.requires.far c.requires.numbered;
       none_skipped = refl;
       settled = refl;
-      none_gone = search rules;
+      none_started = search rules;
     }

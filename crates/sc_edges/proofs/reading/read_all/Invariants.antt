@@ -6,7 +6,7 @@ abbrev pub invariant-loop-buf : goal.invariant-loop-buf
 invariant-loop-buf g l =
     Consumes (g.S.Source.left l.initial.source) (g.S.Source.left l.source) l.bytes.items
     × (length l.bytes.items ≤ l.most + 1)
-    × (g.S.Source.faults l.initial.source ≤ g.S.Source.faults l.source)
+    × (g.S.Source.errors l.initial.source ≤ g.S.Source.errors l.source)
     × (length l.buf ≡ 4096)
     × (g.S.Source.calls l.source ≤ g.S.Source.calls l.initial.source + length l.bytes.items)
 

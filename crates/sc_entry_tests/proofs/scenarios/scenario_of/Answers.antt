@@ -3,12 +3,12 @@ use Rattle.std.specs.Prelude.{Result, Ok}
 use Rattle.std.specs.Result.{result_ok}
 use Rattle.sc_scenario.specs.Grammar.{HasVerdict, verdict_of}
 use Rattle.sc_scenario.specs.Valid.{IsValid}
-use Rattle.sc_scenario.specs.declared.reading.ScenarioFault.{ScenarioFault}
+use Rattle.sc_scenario.specs.declared.reading.ScenarioError.{ScenarioError}
 use Rattle.sc_scenario.specs.declared.scenarios.Scenario.{Scenario}
 use Rattle.sc_entry_tests.proofs.scenarios.scenario_of.Goals as goal
 
 -- a scenario that was read is valid
-read_so : (text : List ℕ) (result : Result Scenario ScenarioFault) (scenario : Scenario) → HasVerdict (verdict_of text) result → result ≡ Ok scenario → IsValid scenario
+read_so : (text : List ℕ) (result : Result Scenario ScenarioError) (scenario : Scenario) → HasVerdict (verdict_of text) result → result ≡ Ok scenario → IsValid scenario
 read_so text result scenario has is =
     let read : verdict_of text ≡ Ok scenario = subst (HasVerdict (verdict_of text)) is has in
     inl (record { text = text; read = ap result_ok read })

@@ -12,7 +12,7 @@ returns-in-Ok c =
     MatchResult-weaker c.say_taken.result c.say_taken.ensures
     (λ after says said. (let done = says (made.groups_are (c.in_ok-copy.ensures ∙ c.as_slice.ensures.value ∙ said.groups)) in
     (done.0, made.world, done.1 c.args.world.now c.args.deciding.now.entries said made.lines_are)))
-    (λ fault never is arcs. never is)
+    (λ error never is arcs. never is)
 
 pub returns-in-Err : goal.returns-in-Err
 returns-in-Err c = λ is arcs.

@@ -2,7 +2,7 @@ use Rattle.std.proofs.Common.{List, refl, subst, arith}
 use Rattle.std.proofs.lemmas.List.{take_all}
 use Rattle.sc_log_entries.specs.declared.LogEntry.{LogEntry}
 use Rattle.sc_explain.specs.Said.{HasTaken}
-use Rattle.sc_explain.proofs.Takings.{no_fault, taken_next}
+use Rattle.sc_explain.proofs.Takings.{no_error, taken_next}
 use Rattle.sc_explain.proofs.taking.take_all.Goals as goal
 
 pub loop-entry-init : goal.loop-entry-init
@@ -17,7 +17,7 @@ loop-entry-preserved c =
 pub returns-in-Err : goal.returns-in-Err
 returns-in-Err c = λ is arcs.
     c.in-Err.ensures is
-    (no_fault c.args.row c.args.world.now c.args.entries.now c.loop-entry.entry-index c.entry-item.result c.args.groups.items c.loop-entry.world c.loop-entry.taken.lines.items c.loop-entry.taken.groups.items
+    (no_error c.args.row c.args.world.now c.args.entries.now c.loop-entry.entry-index c.entry-item.result c.args.groups.items c.loop-entry.world c.loop-entry.taken.lines.items c.loop-entry.taken.groups.items
     (omega (arith, c.loop-entry-test.true)) c.entry-item.is c.loop-entry.invariant arcs)
 
 pub returns : goal.returns

@@ -12,4 +12,4 @@ returns-in-Ok c =
       done.0 ∙ ap (λ (effect : Option Effect). c.args.taken.lines.items ++ entry_line c.args.row c.args.entry.now effect ∷ []) c.in-Ok.ensures.1,
       λ same. done.1 c.args.world.now c.in-Ok.ensures.0 c.in-Ok.ensures.1 same,
     ))
-    (λ fault never is arcs. never is)
+    (λ error never is arcs. never is)

@@ -7,8 +7,8 @@ use Rattle.sc_row_text.specs.Mails.{mail_body_json, FitsMailBody}
 use Rattle.sc_row_text.specs.Shapes.{variant}
 use Rattle.sc_from_json.specs.Reading.{Finds, MayBeVariant, content_of}
 use Rattle.sc_row_text.specs.Shapes.{variant_name}
-use Rattle.sc_from_json.specs.declared.faults.RowFault.{RowFault}
-use Rattle.sc_from_json.specs.declared.faults.RowFault.TheVariants.{NoRow, OutOfMemory}
+use Rattle.sc_from_json.specs.declared.errors.RowError.{RowError}
+use Rattle.sc_from_json.specs.declared.errors.RowError.TheVariants.{NoRow, OutOfMemory}
 use Rattle.sc_row_text.proofs.Apart.{apart}
 use Rattle.sc_from_json.proofs.Variants.{arm_exact}
 use Rattle.sc_journal.proofs.mails.mail_body_from_json.Goals as goal
@@ -147,103 +147,103 @@ none_left found (TxWatch tx watch) is n0 n1 n2 n3 n4 n5 n6 n7 n8 n9 n10 n11 n12 
 none_left found (TxWatched tx coord part vote) is n0 n1 n2 n3 n4 n5 n6 n7 n8 n9 n10 n11 n12 n13 n14 n15 n16 = absurd (n15 is)
 none_left found (Told order outcome) is n0 n1 n2 n3 n4 n5 n6 n7 n8 n9 n10 n11 n12 n13 n14 n15 n16 = absurd (n16 is)
 
-at_request : (json content : Data) (found : List ℕ) (value : MailBody) (result : Result MailBody RowFault) → json ≡ mail_body_json value → content ≡ content_of json → found ≡ name value → found ≡ codes "Request" → FitsMailBody value
+at_request : (json content : Data) (found : List ℕ) (value : MailBody) (result : Result MailBody RowError) → json ≡ mail_body_json value → content ≡ content_of json → found ≡ name value → found ≡ codes "Request" → FitsMailBody value
     → ((group : _) (client : _) (seq : _) (op : _) → FitsMailBody (Request group client seq op) → variant (codes "Request") content ≡ mail_body_json (Request group client seq op) → Finds (Request group client seq op) result) → Finds value result
 unfolding name HasContent
 at_request json content found (Request group client seq op) result e inner_is called_so is fits read = read group client seq op fits (rebuilt json content (Request group client seq op) e inner_is tt)
 at_request json content found _ result e inner_is called_so is fits read = absurd (apart _ _ (sym is ∙ called_so) refl)
 
-at_answer : (json content : Data) (found : List ℕ) (value : MailBody) (result : Result MailBody RowFault) → json ≡ mail_body_json value → content ≡ content_of json → found ≡ name value → found ≡ codes "Answer" → FitsMailBody value
+at_answer : (json content : Data) (found : List ℕ) (value : MailBody) (result : Result MailBody RowError) → json ≡ mail_body_json value → content ≡ content_of json → found ≡ name value → found ≡ codes "Answer" → FitsMailBody value
     → ((group : _) (seq : _) (answer : _) → FitsMailBody (Answer group seq answer) → variant (codes "Answer") content ≡ mail_body_json (Answer group seq answer) → Finds (Answer group seq answer) result) → Finds value result
 unfolding name HasContent
 at_answer json content found (Answer group seq answer) result e inner_is called_so is fits read = read group seq answer fits (rebuilt json content (Answer group seq answer) e inner_is tt)
 at_answer json content found _ result e inner_is called_so is fits read = absurd (apart _ _ (sym is ∙ called_so) refl)
 
-at_prepare : (json content : Data) (found : List ℕ) (value : MailBody) (result : Result MailBody RowFault) → json ≡ mail_body_json value → content ≡ content_of json → found ≡ name value → found ≡ codes "Prepare" → FitsMailBody value
+at_prepare : (json content : Data) (found : List ℕ) (value : MailBody) (result : Result MailBody RowError) → json ≡ mail_body_json value → content ≡ content_of json → found ≡ name value → found ≡ codes "Prepare" → FitsMailBody value
     → ((group : _) (ballot : _) (from_slot : _) → FitsMailBody (Prepare group ballot from_slot) → variant (codes "Prepare") content ≡ mail_body_json (Prepare group ballot from_slot) → Finds (Prepare group ballot from_slot) result) → Finds value result
 unfolding name HasContent
 at_prepare json content found (Prepare group ballot from_slot) result e inner_is called_so is fits read = read group ballot from_slot fits (rebuilt json content (Prepare group ballot from_slot) e inner_is tt)
 at_prepare json content found _ result e inner_is called_so is fits read = absurd (apart _ _ (sym is ∙ called_so) refl)
 
-at_promise : (json content : Data) (found : List ℕ) (value : MailBody) (result : Result MailBody RowFault) → json ≡ mail_body_json value → content ≡ content_of json → found ≡ name value → found ≡ codes "Promise" → FitsMailBody value
+at_promise : (json content : Data) (found : List ℕ) (value : MailBody) (result : Result MailBody RowError) → json ≡ mail_body_json value → content ≡ content_of json → found ≡ name value → found ≡ codes "Promise" → FitsMailBody value
     → ((group : _) (ballot : _) (reports : _) → FitsMailBody (Promise group ballot reports) → variant (codes "Promise") content ≡ mail_body_json (Promise group ballot reports) → Finds (Promise group ballot reports) result) → Finds value result
 unfolding name HasContent
 at_promise json content found (Promise group ballot reports) result e inner_is called_so is fits read = read group ballot reports fits (rebuilt json content (Promise group ballot reports) e inner_is tt)
 at_promise json content found _ result e inner_is called_so is fits read = absurd (apart _ _ (sym is ∙ called_so) refl)
 
-at_accept : (json content : Data) (found : List ℕ) (value : MailBody) (result : Result MailBody RowFault) → json ≡ mail_body_json value → content ≡ content_of json → found ≡ name value → found ≡ codes "Accept" → FitsMailBody value
+at_accept : (json content : Data) (found : List ℕ) (value : MailBody) (result : Result MailBody RowError) → json ≡ mail_body_json value → content ≡ content_of json → found ≡ name value → found ≡ codes "Accept" → FitsMailBody value
     → ((group : _) (ballot : _) (slot : _) (command : _) → FitsMailBody (Accept group ballot slot command) → variant (codes "Accept") content ≡ mail_body_json (Accept group ballot slot command) → Finds (Accept group ballot slot command) result) → Finds value result
 unfolding name HasContent
 at_accept json content found (Accept group ballot slot command) result e inner_is called_so is fits read = read group ballot slot command fits (rebuilt json content (Accept group ballot slot command) e inner_is tt)
 at_accept json content found _ result e inner_is called_so is fits read = absurd (apart _ _ (sym is ∙ called_so) refl)
 
-at_accepted : (json content : Data) (found : List ℕ) (value : MailBody) (result : Result MailBody RowFault) → json ≡ mail_body_json value → content ≡ content_of json → found ≡ name value → found ≡ codes "Accepted" → FitsMailBody value
+at_accepted : (json content : Data) (found : List ℕ) (value : MailBody) (result : Result MailBody RowError) → json ≡ mail_body_json value → content ≡ content_of json → found ≡ name value → found ≡ codes "Accepted" → FitsMailBody value
     → ((group : _) (ballot : _) (slot : _) → FitsMailBody (Accepted group ballot slot) → variant (codes "Accepted") content ≡ mail_body_json (Accepted group ballot slot) → Finds (Accepted group ballot slot) result) → Finds value result
 unfolding name HasContent
 at_accepted json content found (Accepted group ballot slot) result e inner_is called_so is fits read = read group ballot slot fits (rebuilt json content (Accepted group ballot slot) e inner_is tt)
 at_accepted json content found _ result e inner_is called_so is fits read = absurd (apart _ _ (sym is ∙ called_so) refl)
 
-at_nack : (json content : Data) (found : List ℕ) (value : MailBody) (result : Result MailBody RowFault) → json ≡ mail_body_json value → content ≡ content_of json → found ≡ name value → found ≡ codes "Nack" → FitsMailBody value
+at_nack : (json content : Data) (found : List ℕ) (value : MailBody) (result : Result MailBody RowError) → json ≡ mail_body_json value → content ≡ content_of json → found ≡ name value → found ≡ codes "Nack" → FitsMailBody value
     → ((group : _) (promised : _) → FitsMailBody (Nack group promised) → variant (codes "Nack") content ≡ mail_body_json (Nack group promised) → Finds (Nack group promised) result) → Finds value result
 unfolding name HasContent
 at_nack json content found (Nack group promised) result e inner_is called_so is fits read = read group promised fits (rebuilt json content (Nack group promised) e inner_is tt)
 at_nack json content found _ result e inner_is called_so is fits read = absurd (apart _ _ (sym is ∙ called_so) refl)
 
-at_learn : (json content : Data) (found : List ℕ) (value : MailBody) (result : Result MailBody RowFault) → json ≡ mail_body_json value → content ≡ content_of json → found ≡ name value → found ≡ codes "Learn" → FitsMailBody value
+at_learn : (json content : Data) (found : List ℕ) (value : MailBody) (result : Result MailBody RowError) → json ≡ mail_body_json value → content ≡ content_of json → found ≡ name value → found ≡ codes "Learn" → FitsMailBody value
     → ((group : _) (slot : _) (command : _) → FitsMailBody (Learn group slot command) → variant (codes "Learn") content ≡ mail_body_json (Learn group slot command) → Finds (Learn group slot command) result) → Finds value result
 unfolding name HasContent
 at_learn json content found (Learn group slot command) result e inner_is called_so is fits read = read group slot command fits (rebuilt json content (Learn group slot command) e inner_is tt)
 at_learn json content found _ result e inner_is called_so is fits read = absurd (apart _ _ (sym is ∙ called_so) refl)
 
-at_ask : (json content : Data) (found : List ℕ) (value : MailBody) (result : Result MailBody RowFault) → json ≡ mail_body_json value → content ≡ content_of json → found ≡ name value → found ≡ codes "Ask" → FitsMailBody value
+at_ask : (json content : Data) (found : List ℕ) (value : MailBody) (result : Result MailBody RowError) → json ≡ mail_body_json value → content ≡ content_of json → found ≡ name value → found ≡ codes "Ask" → FitsMailBody value
     → ((group : _) (from_slot : _) → FitsMailBody (Ask group from_slot) → variant (codes "Ask") content ≡ mail_body_json (Ask group from_slot) → Finds (Ask group from_slot) result) → Finds value result
 unfolding name HasContent
 at_ask json content found (Ask group from_slot) result e inner_is called_so is fits read = read group from_slot fits (rebuilt json content (Ask group from_slot) e inner_is tt)
 at_ask json content found _ result e inner_is called_so is fits read = absurd (apart _ _ (sym is ∙ called_so) refl)
 
-at_install : (json content : Data) (found : List ℕ) (value : MailBody) (result : Result MailBody RowFault) → json ≡ mail_body_json value → content ≡ content_of json → found ≡ name value → found ≡ codes "Install" → FitsMailBody value
+at_install : (json content : Data) (found : List ℕ) (value : MailBody) (result : Result MailBody RowError) → json ≡ mail_body_json value → content ≡ content_of json → found ≡ name value → found ≡ codes "Install" → FitsMailBody value
     → ((group : _) (slot : _) (base : _) (sets : _) → FitsMailBody (Install group slot base sets) → variant (codes "Install") content ≡ mail_body_json (Install group slot base sets) → Finds (Install group slot base sets) result) → Finds value result
 unfolding name HasContent
 at_install json content found (Install group slot base sets) result e inner_is called_so is fits read = read group slot base sets fits (rebuilt json content (Install group slot base sets) e inner_is tt)
 at_install json content found _ result e inner_is called_so is fits read = absurd (apart _ _ (sym is ∙ called_so) refl)
 
-at_tx_prepare : (json content : Data) (found : List ℕ) (value : MailBody) (result : Result MailBody RowFault) → json ≡ mail_body_json value → content ≡ content_of json → found ≡ name value → found ≡ codes "TxPrepare" → FitsMailBody value
+at_tx_prepare : (json content : Data) (found : List ℕ) (value : MailBody) (result : Result MailBody RowError) → json ≡ mail_body_json value → content ≡ content_of json → found ≡ name value → found ≡ codes "TxPrepare" → FitsMailBody value
     → ((tx : _) (offer : _) → FitsMailBody (TxPrepare tx offer) → variant (codes "TxPrepare") content ≡ mail_body_json (TxPrepare tx offer) → Finds (TxPrepare tx offer) result) → Finds value result
 unfolding name HasContent
 at_tx_prepare json content found (TxPrepare tx offer) result e inner_is called_so is fits read = read tx offer fits (rebuilt json content (TxPrepare tx offer) e inner_is tt)
 at_tx_prepare json content found _ result e inner_is called_so is fits read = absurd (apart _ _ (sym is ∙ called_so) refl)
 
-at_tx_vote : (json content : Data) (found : List ℕ) (value : MailBody) (result : Result MailBody RowFault) → json ≡ mail_body_json value → content ≡ content_of json → found ≡ name value → found ≡ codes "TxVote" → FitsMailBody value
+at_tx_vote : (json content : Data) (found : List ℕ) (value : MailBody) (result : Result MailBody RowError) → json ≡ mail_body_json value → content ≡ content_of json → found ≡ name value → found ≡ codes "TxVote" → FitsMailBody value
     → ((tx : _) (coord : _) (part : _) (vote : _) → FitsMailBody (TxVote tx coord part vote) → variant (codes "TxVote") content ≡ mail_body_json (TxVote tx coord part vote) → Finds (TxVote tx coord part vote) result) → Finds value result
 unfolding name HasContent
 at_tx_vote json content found (TxVote tx coord part vote) result e inner_is called_so is fits read = read tx coord part vote fits (rebuilt json content (TxVote tx coord part vote) e inner_is tt)
 at_tx_vote json content found _ result e inner_is called_so is fits read = absurd (apart _ _ (sym is ∙ called_so) refl)
 
-at_tx_outcome : (json content : Data) (found : List ℕ) (value : MailBody) (result : Result MailBody RowFault) → json ≡ mail_body_json value → content ≡ content_of json → found ≡ name value → found ≡ codes "TxOutcome" → FitsMailBody value
+at_tx_outcome : (json content : Data) (found : List ℕ) (value : MailBody) (result : Result MailBody RowError) → json ≡ mail_body_json value → content ≡ content_of json → found ≡ name value → found ≡ codes "TxOutcome" → FitsMailBody value
     → ((tx : _) (part : _) (outcome : _) → FitsMailBody (TxOutcome tx part outcome) → variant (codes "TxOutcome") content ≡ mail_body_json (TxOutcome tx part outcome) → Finds (TxOutcome tx part outcome) result) → Finds value result
 unfolding name HasContent
 at_tx_outcome json content found (TxOutcome tx part outcome) result e inner_is called_so is fits read = read tx part outcome fits (rebuilt json content (TxOutcome tx part outcome) e inner_is tt)
 at_tx_outcome json content found _ result e inner_is called_so is fits read = absurd (apart _ _ (sym is ∙ called_so) refl)
 
-at_tx_elsewhere : (json content : Data) (found : List ℕ) (value : MailBody) (result : Result MailBody RowFault) → json ≡ mail_body_json value → content ≡ content_of json → found ≡ name value → found ≡ codes "TxElsewhere" → FitsMailBody value
+at_tx_elsewhere : (json content : Data) (found : List ℕ) (value : MailBody) (result : Result MailBody RowError) → json ≡ mail_body_json value → content ≡ content_of json → found ≡ name value → found ≡ codes "TxElsewhere" → FitsMailBody value
     → ((tx : _) (coord : _) (hint : _) → FitsMailBody (TxElsewhere tx coord hint) → variant (codes "TxElsewhere") content ≡ mail_body_json (TxElsewhere tx coord hint) → Finds (TxElsewhere tx coord hint) result) → Finds value result
 unfolding name HasContent
 at_tx_elsewhere json content found (TxElsewhere tx coord hint) result e inner_is called_so is fits read = read tx coord hint fits (rebuilt json content (TxElsewhere tx coord hint) e inner_is tt)
 at_tx_elsewhere json content found _ result e inner_is called_so is fits read = absurd (apart _ _ (sym is ∙ called_so) refl)
 
-at_tx_watch : (json content : Data) (found : List ℕ) (value : MailBody) (result : Result MailBody RowFault) → json ≡ mail_body_json value → content ≡ content_of json → found ≡ name value → found ≡ codes "TxWatch" → FitsMailBody value
+at_tx_watch : (json content : Data) (found : List ℕ) (value : MailBody) (result : Result MailBody RowError) → json ≡ mail_body_json value → content ≡ content_of json → found ≡ name value → found ≡ codes "TxWatch" → FitsMailBody value
     → ((tx : _) (watch : _) → FitsMailBody (TxWatch tx watch) → variant (codes "TxWatch") content ≡ mail_body_json (TxWatch tx watch) → Finds (TxWatch tx watch) result) → Finds value result
 unfolding name HasContent
 at_tx_watch json content found (TxWatch tx watch) result e inner_is called_so is fits read = read tx watch fits (rebuilt json content (TxWatch tx watch) e inner_is tt)
 at_tx_watch json content found _ result e inner_is called_so is fits read = absurd (apart _ _ (sym is ∙ called_so) refl)
 
-at_tx_watched : (json content : Data) (found : List ℕ) (value : MailBody) (result : Result MailBody RowFault) → json ≡ mail_body_json value → content ≡ content_of json → found ≡ name value → found ≡ codes "TxWatched" → FitsMailBody value
+at_tx_watched : (json content : Data) (found : List ℕ) (value : MailBody) (result : Result MailBody RowError) → json ≡ mail_body_json value → content ≡ content_of json → found ≡ name value → found ≡ codes "TxWatched" → FitsMailBody value
     → ((tx : _) (coord : _) (part : _) (vote : _) → FitsMailBody (TxWatched tx coord part vote) → variant (codes "TxWatched") content ≡ mail_body_json (TxWatched tx coord part vote) → Finds (TxWatched tx coord part vote) result) → Finds value result
 unfolding name HasContent
 at_tx_watched json content found (TxWatched tx coord part vote) result e inner_is called_so is fits read = read tx coord part vote fits (rebuilt json content (TxWatched tx coord part vote) e inner_is tt)
 at_tx_watched json content found _ result e inner_is called_so is fits read = absurd (apart _ _ (sym is ∙ called_so) refl)
 
-at_told : (json content : Data) (found : List ℕ) (value : MailBody) (result : Result MailBody RowFault) → json ≡ mail_body_json value → content ≡ content_of json → found ≡ name value → found ≡ codes "Told" → FitsMailBody value
+at_told : (json content : Data) (found : List ℕ) (value : MailBody) (result : Result MailBody RowError) → json ≡ mail_body_json value → content ≡ content_of json → found ≡ name value → found ≡ codes "Told" → FitsMailBody value
     → ((order : _) (outcome : _) → FitsMailBody (Told order outcome) → variant (codes "Told") content ≡ mail_body_json (Told order outcome) → Finds (Told order outcome) result) → Finds value result
 unfolding name HasContent
 at_told json content found (Told order outcome) result e inner_is called_so is fits read = read order outcome fits (rebuilt json content (Told order outcome) e inner_is tt)

@@ -1,7 +1,7 @@
 use Rattle.std.proofs.Common.{◌≤◌, length, arith}
 use Rattle.std.proofs.lemmas.Result.{err_from_is_err_and}
 use Rattle.sc_journal_file.specs.Stored.{most_file_bytes}
-use Rattle.sc_journal_file.proofs.OneFile.{one_file, valid_read, rows_few, mails_few, scenario_fault, row_fault, file_of}
+use Rattle.sc_journal_file.proofs.OneFile.{one_file, valid_read, rows_few, mails_few, scenario_error, row_error, file_of}
 use Rattle.sc_journal_file.proofs.reading.read_file.Goals as goal
 
 pub returns-in_err-scenario-clause-file : goal.returns-in_err-scenario-clause-file
@@ -9,7 +9,7 @@ returns-in_err-scenario-clause-file c =
     let p = err_from_is_err_and c.from_residual.result c.from_residual.ensures.1 in
     let parts = c.in-Some.parts in
     let within : length c.args.file.now ≤ most_file_bytes = omega arith in
-    rw (p.1, p.2) (scenario_fault c.args.file.now parts.scenario.now parts.lines parts.rows.now c.in_err-scenario.field-0.0 within c.in-Some.ensures.cut c.in_err-scenario.ensures)
+    rw (p.1, p.2) (scenario_error c.args.file.now parts.scenario.now parts.lines parts.rows.now c.in_err-scenario.field-0.0 within c.in-Some.ensures.cut c.in_err-scenario.ensures)
 
 pub returns-in_err-rows-clause-file : goal.returns-in_err-rows-clause-file
 returns-in_err-rows-clause-file c =
@@ -17,7 +17,7 @@ returns-in_err-rows-clause-file c =
     let parts = c.in-Some.parts in
     let within : length c.args.file.now ≤ most_file_bytes = omega arith in
     rw (p.1, p.2)
-    (row_fault c.args.file.now parts.scenario.now parts.lines parts.rows.now c.in_ok-scenario.scenario c.in_err-rows.field-0.0 within c.in-Some.ensures.cut c.in_ok-scenario.ensures c.in_err-rows.ensures)
+    (row_error c.args.file.now parts.scenario.now parts.lines parts.rows.now c.in_ok-scenario.scenario c.in_err-rows.field-0.0 within c.in-Some.ensures.cut c.in_ok-scenario.ensures c.in_err-rows.ensures)
 
 pub returns-clause-one : goal.returns-clause-one
 returns-clause-one c =

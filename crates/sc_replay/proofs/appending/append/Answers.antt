@@ -16,7 +16,7 @@ returns-clause-kept g c =
     c.in_ok-push.ensures.ok
     refl
     (c.in_ok-add_mails.ensures.mails ∙ ap (λ ms. old.mails.items ++ ms) c.as_slice-2.ensures)
-    c.in_ok-note_go.ensures.gone
+    c.in_ok-note_go.ensures.started
     c.in_ok-note_crash.ensures.crashed
     (c.len.result + 1)
     (omega (arith, c.len.ensures, old.mails.ok.0, many))

@@ -68,7 +68,7 @@ returns-then-not-is_quiet-clause-is g c =
       StageGoes-then r c.args.stage.now c.loop-done.stage _ (many c.args.free c.args.most ∷ []) (many c.args.free 0 ∷ []) []
           (StageGoes-count r c.args.stage.now c.loop-done.stage c.args.free c.args.most (c.args.most - c.loop-done.done) 0 (omega arith) c.loop-done.invariant.0)
           (StageGoes-close r c.loop-done.stage _ c.args.free (record { rows = refl; seats = refl }) refl (loud_off c.loop-done.stage.unsettled _ (sym (c.is_quiet-2.ensures ∙ quiet) ∙ c.if-not-is_quiet.true))),
-      taking_same g.A.Mail.Parcel.receiver c.loop-done.stage _ c.args.rows.now (record { rows = refl; seats = refl; mails = refl; pending = refl; gone = refl; crashed = refl }) c.loop-done.invariant.1,
+      taking_same g.A.Mail.Parcel.receiver c.loop-done.stage _ c.args.rows.now (record { rows = refl; seats = refl; mails = refl; pending = refl; started = refl; crashed = refl }) c.loop-done.invariant.1,
     )
 
 pub returns-else-not-is_quiet-clause-is : goal.returns-else-not-is_quiet-clause-is

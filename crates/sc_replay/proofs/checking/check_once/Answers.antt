@@ -10,7 +10,7 @@ pub returns-in_default-clause-is : goal.returns-in_default-clause-is
 returns-in_default-clause-is g c =
     let r = rules_of g.A.Actor.table g.A.Mail.Parcel.receiver in (
       StageGoes-skip r c.args.stage.now _ c.args.line.now (sym c.in_ok-action.ensures.is ∙ c.in_default.is) (record { rows = refl; seats = refl }) refl refl,
-      taking_same g.A.Mail.Parcel.receiver c.args.stage.now _ c.args.rows.now (record { rows = refl; seats = refl; mails = refl; pending = refl; gone = refl; crashed = refl }) c.requires.taking,
+      taking_same g.A.Mail.Parcel.receiver c.args.stage.now _ c.args.rows.now (record { rows = refl; seats = refl; mails = refl; pending = refl; started = refl; crashed = refl }) c.requires.taking,
     )
 
 pub take_row-requires-clause-mails : goal.take_row-requires-clause-mails

@@ -14,7 +14,7 @@ pub loop-line-init : goal.loop-line-init
 loop-line-init g c =
     let r = rules_of g.A.Actor.table g.A.Mail.Parcel.receiver in (
       IsStageAt-begin r two_words c.args.seats.items c.args.lines.now _ c.requires.apart (ap (λ v. v.items) c.begun-stage.ensures.seats) c.begun-stage.ensures.rows c.begun-stage.ensures.skipped c.begun-stage.ensures.unsettled,
-      taking_begin g.A.Mail.Parcel.receiver _ c.args.rows.now c.begun-stage.ensures.rows c.begun-stage.ensures.mails c.begun-stage.ensures.pending c.begun-stage.ensures.gone c.begun-stage.ensures.crashed c.requires.few_rows c.requires.few_mails,
+      taking_begin g.A.Mail.Parcel.receiver _ c.args.rows.now c.begun-stage.ensures.rows c.begun-stage.ensures.mails c.begun-stage.ensures.pending c.begun-stage.ensures.started c.begun-stage.ensures.crashed c.requires.few_rows c.requires.few_mails,
       omega (arith, c.begun-stage.ensures.skipped),
     )
 

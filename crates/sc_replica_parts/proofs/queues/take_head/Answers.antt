@@ -1,5 +1,5 @@
 use Rattle.std.proofs.Common.{◌∙◌}
-use Rattle.sc_replica_parts.proofs.Calls.{popped_head, popped_rest}
+use Rattle.sc_replica_parts.proofs.Requests.{popped_head, popped_rest}
 use Rattle.sc_replica_parts.proofs.queues.take_head.Goals as goal
 
 pub returns-clause-head : goal.returns-clause-head

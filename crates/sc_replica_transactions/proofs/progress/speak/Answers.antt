@@ -1,9 +1,9 @@
 use Rattle.sc_replica_transactions.proofs.Silence.{spoken-none}
 use Rattle.sc_replica_transactions.proofs.progress.speak.Goals as goal
 
-pub returns-in_err-tell_begun-clause-none : goal.returns-in_err-tell_begun-clause-none
-returns-in_err-tell_begun-clause-none c = λ e.
-    let ok = c.in_err-tell_begun.ensures.none (spoken-none c.args.counted c.args.me c.args.machine.now c.args.before.now c.args.effect.now c.args.command.now e).0 in
+pub returns-in_err-report_begun-clause-none : goal.returns-in_err-report_begun-clause-none
+returns-in_err-report_begun-clause-none c = λ e.
+    let ok = c.in_err-report_begun.ensures.none (spoken-none c.args.counted c.args.me c.args.machine.now c.args.before.now c.args.effect.now c.args.command.now e).0 in
     absurd (cc)
 
 pub returns-clause-none : goal.returns-clause-none

@@ -1,12 +1,12 @@
 use Rattle.std.proofs.Common.{◌≡◌, ◌<◌, ◌∷◌, ◌++◌, false, length}
 use Rattle.sc_base.specs.Among.{Each}
-use Rattle.sc_row_lines.specs.Fronts.{IsOnly}
-use Rattle.sc_row_lines.proofs.ListTexts.{front}
+use Rattle.sc_row_lines.specs.Prefixes.{IsOnly}
+use Rattle.sc_row_lines.proofs.ListTexts.{prefix}
 use Rattle.sc_row_lines.proofs.lists.items_at.Given as goal
 
 abbrev pub invariant-loop-more : goal.invariant-loop-more
 invariant-loop-more g l = record {
-  text : l.bytes ≡ 91 ∷ (front g.T.FromText.json_of g.T.FromText.Fits false l.items ++ l.rest);
+  text : l.bytes ≡ 91 ∷ (prefix g.T.FromText.json_of g.T.FromText.Fits false l.items ++ l.rest);
   some : 0 < length l.items;
   known : Each (IsOnly g.T.FromText.json_of g.T.FromText.Fits) l.items;
 }

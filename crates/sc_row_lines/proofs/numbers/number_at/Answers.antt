@@ -7,7 +7,7 @@ pub returns-clause-text : goal.returns-clause-text
 returns-clause-text c =
     let number = spelled c.split_at.result.0.now c.args.most c.in_ok-number.number c.requires (sym c.in_ok-number.ensures) in
     let whole = take-append-drop c.digit_count.result c.args.bytes.now in
-    let front = c.split_at.ensures.front in
+    let prefix = c.split_at.ensures.prefix in
     let back = c.split_at.ensures.back in
     cc (number.0)
 

@@ -9,7 +9,7 @@ returns-then-are_bare c =
     (sym c.are_bare.ensures ∙ c.if-are_bare.true)
     c.in_ok-inner.ensures
     (let whole = take-append-drop c.quote_at.result c.in_ok-inner.inner.now in
-    let front = c.split_at.ensures.front in
+    let prefix = c.split_at.ensures.prefix in
     let back = c.split_at.ensures.back in
     cc)
     c.in_ok-rest.ensures

@@ -26,9 +26,9 @@ sum_up-requires-clause-few_mails g c =
     let left = c.in_ok-left.left in let scenario = c.args.scenario.now in
     (few scenario c.in-Ended.unsettled c.in-Ended.quiet c.in-Ended.skipped left.journal left.parties (subst (IsPlayed scenario journal_limit left.journal left.parties) c.in-Ended.is c.in_ok-left.ensures)).1
 
-pub returns-in_ok-tells_full-in-Full : goal.returns-in_ok-tells_full-in-Full
-returns-in_ok-tells_full-in-Full g c =
-    let left = c.in_ok-left.left in let scenario = c.args.scenario.now in let text = c.in_ok-tells_full-in-Full.field-0 in
+pub returns-in_ok-full_text-in-Full : goal.returns-in_ok-full_text-in-Full
+returns-in_ok-full_text-in-Full g c =
+    let left = c.in_ok-left.left in let scenario = c.args.scenario.now in let text = c.in_ok-full_text-in-Full.field-0 in
     let filled : HasFilled scenario journal_limit left.journal = subst (IsPlayed scenario journal_limit left.journal left.parties) c.in-Full.is c.in_ok-left.ensures in
     subst (λ begun. IfSome begun (λ said. Comes (ShowsReport scenario) scenario said text)) (sym (sym c.in-Some.is ∙ (c.said_by.ensures ∙ ap said_by c.in-Full.is)))
-    (comes_full (ShowsReport scenario) scenario left.journal text filled c.in_ok-tells_full-in-Full.ensures)
+    (comes_full (ShowsReport scenario) scenario left.journal text filled c.in_ok-full_text-in-Full.ensures)

@@ -15,9 +15,9 @@ returns-in_ok-lines-in-Ended g c =
     (comes_ended (ShowsFile c.args.bytes.now) scenario c.in-Ended.unsettled c.in-Ended.quiet c.in-Ended.skipped left.journal left.parties text
     (subst (IsPlayed scenario journal_limit left.journal left.parties) c.in-Ended.is c.in_ok-left.ensures) (subst (λ rows. ShowsFile c.args.bytes.now rows text.lines) c.as_slice.ensures (c.in_ok-lines-in-Ended.ensures.lines, c.in_ok-lines-in-Ended.ensures.held)) refl refl)
 
-pub returns-in_ok-tells_full-in-Full : goal.returns-in_ok-tells_full-in-Full
-returns-in_ok-tells_full-in-Full g c =
-    let left = c.in_ok-left.left in let scenario = c.args.scenario.now in let text = c.in_ok-tells_full-in-Full.field-0 in
+pub returns-in_ok-full_text-in-Full : goal.returns-in_ok-full_text-in-Full
+returns-in_ok-full_text-in-Full g c =
+    let left = c.in_ok-left.left in let scenario = c.args.scenario.now in let text = c.in_ok-full_text-in-Full.field-0 in
     let filled : HasFilled scenario journal_limit left.journal = subst (IsPlayed scenario journal_limit left.journal left.parties) c.in-Full.is c.in_ok-left.ensures in
     subst (λ begun. IfSome begun (λ said. Comes (ShowsFile c.args.bytes.now) scenario said text)) (sym (sym c.in-Some.is ∙ (c.said_by.ensures ∙ ap said_by c.in-Full.is)))
-    (comes_full (ShowsFile c.args.bytes.now) scenario left.journal text filled c.in_ok-tells_full-in-Full.ensures)
+    (comes_full (ShowsFile c.args.bytes.now) scenario left.journal text filled c.in_ok-full_text-in-Full.ensures)

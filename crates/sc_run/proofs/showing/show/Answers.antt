@@ -32,12 +32,12 @@ returns-in_ok-lines-in-Ended g c =
     subst (λ begun. IfSome begun (λ said. Comes (ShowsScan scenario sight) scenario said text)) (sym (sym c.in-Some.is ∙ (c.said_by.ensures ∙ ap said_by c.in-Ended.is)))
     (comes_ended (ShowsScan scenario sight) scenario c.in-Ended.unsettled c.in-Ended.quiet c.in-Ended.skipped left.journal left.parties text ended shows refl refl)
 
-pub returns-in_ok-tells_full-in-Full : goal.returns-in_ok-tells_full-in-Full
-returns-in_ok-tells_full-in-Full g c =
-    let left = c.in_ok-left.left in let scenario = c.args.scenario.now in let text = c.in_ok-tells_full-in-Full.field-0 in
+pub returns-in_ok-full_text-in-Full : goal.returns-in_ok-full_text-in-Full
+returns-in_ok-full_text-in-Full g c =
+    let left = c.in_ok-left.left in let scenario = c.args.scenario.now in let text = c.in_ok-full_text-in-Full.field-0 in
     let filled : HasFilled scenario journal_limit left.journal = subst (IsPlayed scenario journal_limit left.journal left.parties) c.in-Full.is c.in_ok-left.ensures in
     subst (λ begun. IfSome begun (λ said. Comes (ShowsScan scenario c.args.sight) scenario said text)) (sym (sym c.in-Some.is ∙ (c.said_by.ensures ∙ ap said_by c.in-Full.is)))
-    (comes_full (ShowsScan scenario c.args.sight) scenario left.journal text filled c.in_ok-tells_full-in-Full.ensures)
+    (comes_full (ShowsScan scenario c.args.sight) scenario left.journal text filled c.in_ok-full_text-in-Full.ensures)
 
 pub lines_of-requires-clause-sound : goal.lines_of-requires-clause-sound
 lines_of-requires-clause-sound g c =

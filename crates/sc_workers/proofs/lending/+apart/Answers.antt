@@ -26,12 +26,12 @@ returns-clause-len g t c =
 
 pub returns-clause-took : goal.returns-clause-took
 returns-clause-took g t c =
-    let ss = c.args.shells.now.items in let front = c.apart.new.shells.items in let back = c.fetch-run.result.shells.items in
+    let ss = c.args.shells.now.items in let prefix = c.apart.new.shells.items in let back = c.fetch-run.result.shells.items in
     let sent = sent_later (lent_by c.send-sent.new.lender) (lent_by c.apart.new.lender) (record { shells = c.in-Ok.last }) c.send-sent.result c.apart.ensures.later c.send-sent.ensures.sent in
     let run : RunTook (record { shells = c.in-Ok.last }) c.fetch-run.result = c.fetch-run.ensures.back (record { shells = c.in-Ok.last }) sent in
     subst (AllTook ss) (sym c.join.ensures.items)
-    (took_parts c.last_start-cut.result ss front back (c.apart.ensures.len ∙ ap length c.in-Ok.ensures.items)
-    (subst (λ l. AllTook l front) c.in-Ok.ensures.items c.apart.ensures.took)
+    (took_parts c.last_start-cut.result ss prefix back (c.apart.ensures.len ∙ ap length c.in-Ok.ensures.items)
+    (subst (λ l. AllTook l prefix) c.in-Ok.ensures.items c.apart.ensures.took)
     (subst (λ l. AllTook l back) c.in-Ok.ensures.tail run.took))
 
 pub returns-clause-few : goal.returns-clause-few

@@ -1,5 +1,5 @@
 use Rattle.std.proofs.Common.{arith}
-use Rattle.sc_world.proofs.Fronts.{more_mails}
+use Rattle.sc_world.proofs.Prefixes.{more_mails}
 use Rattle.sc_world.proofs.counting.mail_count.Goals as goal
 
 pub overflow_cast-total : goal.overflow_cast-total

@@ -1,7 +1,7 @@
 use Rattle.std.proofs.Common.{◌≡◌, ◌+◌, ◌∷◌, ◌++◌, [], take, None, suc, sym, ap, ◌∙◌, arith, Option, get_or}
 use Rattle.std.proofs.Math.Seq.{take-suc}
 use Rattle.sc_mail.specs.declared.bodies.Mail.{Mail}
-use Rattle.sc_cmd.specs.declared.orders.ToldResult.{ToldResult}
+use Rattle.sc_cmd.specs.declared.orders.OrderResult.{OrderResult}
 use Rattle.sc_node_table.specs.Replica.{either}
 use Rattle.sc_world.specs.Summary.{reported_in_mail, reported_of}
 use Rattle.sc_law_walks.proofs.Ways.{either_assoc}
@@ -18,7 +18,7 @@ loop-mail-preserved c = record {
       let more : take (i + 1) sent ≡ take i sent ++ c.mail-item.result ∷ [] =
       ap (λ n. take n sent) one ∙ take-suc sent i c.mail-item.result (omega (arith, c.loop-mail-test.true)) ∙ ap (λ (x : Mail). take i sent ++ x ∷ []) (sym c.mail-item.is) in
       c.note.ensures.kept k (omega (arith, within, c.loop-mail.invariant.len))
-      ∙ ap (λ (o : Option ToldResult). either o (reported_in_mail (k + 1) c.mail-item.result.body)) (c.loop-mail.invariant.kept k within)
+      ∙ ap (λ (o : Option OrderResult). either o (reported_in_mail (k + 1) c.mail-item.result.body)) (c.loop-mail.invariant.kept k within)
       ∙ either_assoc (get_or c.args.told.now k None) (reported_of (k + 1) (take i sent)) (reported_in_mail (k + 1) c.mail-item.result.body)
       ∙ ap (either (get_or c.args.told.now k None)) (sym (told-last (k + 1) (take i sent) c.mail-item.result) ∙ sym (ap (reported_of (k + 1)) more));
 }

@@ -3,7 +3,7 @@ use Rattle.std.proofs.Math.Seq.{take-suc}
 use Rattle.std.proofs.lemmas.List.{append-nil}
 use Rattle.std.proofs.lemmas.Grind.{flat_map-append}
 use Rattle.sc_cmd.specs.declared.orders.OrderLine.{OrderLine}
-use Rattle.sc_cmd.specs.declared.orders.ToldResult.{ToldResult}
+use Rattle.sc_cmd.specs.declared.orders.OrderResult.{OrderResult}
 use Rattle.sc_mail.specs.declared.bodies.Mail.{Mail}
 use Rattle.sc_actor.specs.declared.rows.Row.{Row}
 use Rattle.sc_actor.specs.Mail.{mails}
@@ -28,7 +28,7 @@ loop-row-preserved c = record {
       ∙ flat_map-append sent (take i rows) (c.row-item.result ∷ [])
       ∙ ap (λ (ms : List Mail). mails (take i rows) ++ ms) (append-nil c.row-item.result.sent) in
       c.note_all.ensures.kept k (omega (arith, within, c.loop-row.invariant.len))
-      ∙ ap (λ (o : Option ToldResult). either o (reported_of (k + 1) c.as_slice.result.now)) (c.loop-row.invariant.kept k within)
+      ∙ ap (λ (o : Option OrderResult). either o (reported_of (k + 1) c.as_slice.result.now)) (c.loop-row.invariant.kept k within)
       ∙ either_assoc before (reported_of (k + 1) (mails (take i rows))) (reported_of (k + 1) c.as_slice.result.now)
       ∙ ap (either before) (ap (λ (ms : List Mail). either (reported_of (k + 1) (mails (take i rows))) (reported_of (k + 1) ms)) c.as_slice.ensures
       ∙ sym (told-append (k + 1) (mails (take i rows)) c.row-item.result.sent) ∙ sym (ap (reported_of (k + 1)) more));

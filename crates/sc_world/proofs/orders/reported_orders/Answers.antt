@@ -1,7 +1,7 @@
 use Rattle.std.proofs.Common.{◌≡◌, ◌+◌, List, ◌++◌, drop, take, map, replicate, length, get_or, None, Option, sym, ap, ◌∙◌, arith}
 use Rattle.std.proofs.Math.Seq.{take-append_seam}
 use Rattle.std.proofs.lemmas.List.{ext_get_or, get_or-replicate, length-replicate}
-use Rattle.sc_cmd.specs.declared.orders.ToldResult.{ToldResult}
+use Rattle.sc_cmd.specs.declared.orders.OrderResult.{OrderResult}
 use Rattle.sc_actor.specs.Mail.{mails}
 use Rattle.sc_node_table.specs.Slots.{numbers_from}
 use Rattle.sc_node_table.specs.Replica.{either}
@@ -23,7 +23,7 @@ returns c =
     (len ∙ sym (length-numbered (λ number. reported_of number (mails c.args.rows.now)) 1 c.args.count))
     (λ k within.
     c.note_rows.ensures.kept k (omega (arith, within, len, long))
-    ∙ ap (λ (xs : List (Option ToldResult)). either (get_or xs k None) (reported_of (k + 1) (mails c.args.rows.now))) start
-    ∙ ap (λ (o : Option ToldResult). either o (reported_of (k + 1) (mails c.args.rows.now))) (get_or-replicate c.args.count k None None (omega (arith, within, len)))
+    ∙ ap (λ (xs : List (Option OrderResult)). either (get_or xs k None) (reported_of (k + 1) (mails c.args.rows.now))) start
+    ∙ ap (λ (o : Option OrderResult). either o (reported_of (k + 1) (mails c.args.rows.now))) (get_or-replicate c.args.count k None None (omega (arith, within, len)))
     ∙ ap (λ n. reported_of n (mails c.args.rows.now)) (omega arith)
     ∙ sym (get_or-numbered (λ number. reported_of number (mails c.args.rows.now)) 1 c.args.count k None (omega (arith, within, len))))

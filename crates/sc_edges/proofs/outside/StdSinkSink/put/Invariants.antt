@@ -6,7 +6,7 @@ abbrev pub invariant-loop-at : goal.invariant-loop-at
 invariant-loop-at g l =
     Appends (g.W.Write.contents l.initial.self.writer) (g.W.Write.contents l.self.writer) (take l.at l.piece)
     × (l.at ≤ length l.piece)
-    × (l.self.faults ≡ l.initial.self.faults)
+    × (l.self.errors ≡ l.initial.self.errors)
     × (l.self.calls ≡ l.initial.self.calls)
 
 abbrev pub decreases-loop-at : goal.decreases-loop-at

@@ -8,8 +8,8 @@ use Rattle.sc_row_text.specs.Ops.{reply_json}
 use Rattle.sc_row_text.specs.Shapes.{variant}
 use Rattle.sc_from_json.specs.Reading.{Finds, MayBeVariant, content_of}
 use Rattle.sc_row_text.specs.Shapes.{variant_name}
-use Rattle.sc_from_json.specs.declared.faults.RowFault.{RowFault}
-use Rattle.sc_from_json.specs.declared.faults.RowFault.TheVariants.{NoRow, OutOfMemory}
+use Rattle.sc_from_json.specs.declared.errors.RowError.{RowError}
+use Rattle.sc_from_json.specs.declared.errors.RowError.TheVariants.{NoRow, OutOfMemory}
 use Rattle.sc_row_text.proofs.Apart.{apart}
 use Rattle.sc_from_json.proofs.Variants.{arm_exact}
 use Rattle.sc_from_json.proofs.answers.AnswerBodyFromJson.from_json.Goals as goal
@@ -76,31 +76,31 @@ none_left found (NotMine arc succ) is n0 n1 n2 n3 n4 = absurd (n2 is)
 none_left found (Gone into) is n0 n1 n2 n3 n4 = absurd (n3 is)
 none_left found (Stale last) is n0 n1 n2 n3 n4 = absurd (n4 is)
 
-at_value : (json content : Data) (found : List ℕ) (value : AnswerBody) (result : Result AnswerBody RowFault) → json ≡ answer_body_json value → content ≡ content_of json → found ≡ name value → found ≡ codes "Value" → FitsAnswerBody value
+at_value : (json content : Data) (found : List ℕ) (value : AnswerBody) (result : Result AnswerBody RowError) → json ≡ answer_body_json value → content ≡ content_of json → found ≡ name value → found ≡ codes "Value" → FitsAnswerBody value
     → ((inner : _) → FitsAnswerBody (Value inner) → variant (codes "Value") content ≡ answer_body_json (Value inner) → Finds (Value inner) result) → Finds value result
 unfolding name HasContent
 at_value json content found (Value inner) result e inner_is called_so is fits read = read inner fits (rebuilt json content (Value inner) e inner_is tt)
 at_value json content found _ result e inner_is called_so is fits read = absurd (apart _ _ (sym is ∙ called_so) refl)
 
-at_not_leader : (json content : Data) (found : List ℕ) (value : AnswerBody) (result : Result AnswerBody RowFault) → json ≡ answer_body_json value → content ≡ content_of json → found ≡ name value → found ≡ codes "NotLeader" → FitsAnswerBody value
+at_not_leader : (json content : Data) (found : List ℕ) (value : AnswerBody) (result : Result AnswerBody RowError) → json ≡ answer_body_json value → content ≡ content_of json → found ≡ name value → found ≡ codes "NotLeader" → FitsAnswerBody value
     → ((hint : _) → FitsAnswerBody (NotLeader hint) → variant (codes "NotLeader") content ≡ answer_body_json (NotLeader hint) → Finds (NotLeader hint) result) → Finds value result
 unfolding name HasContent
 at_not_leader json content found (NotLeader hint) result e inner_is called_so is fits read = read hint fits (rebuilt json content (NotLeader hint) e inner_is tt)
 at_not_leader json content found _ result e inner_is called_so is fits read = absurd (apart _ _ (sym is ∙ called_so) refl)
 
-at_not_mine : (json content : Data) (found : List ℕ) (value : AnswerBody) (result : Result AnswerBody RowFault) → json ≡ answer_body_json value → content ≡ content_of json → found ≡ name value → found ≡ codes "NotMine" → FitsAnswerBody value
+at_not_mine : (json content : Data) (found : List ℕ) (value : AnswerBody) (result : Result AnswerBody RowError) → json ≡ answer_body_json value → content ≡ content_of json → found ≡ name value → found ≡ codes "NotMine" → FitsAnswerBody value
     → ((arc : _) (succ : _) → FitsAnswerBody (NotMine arc succ) → variant (codes "NotMine") content ≡ answer_body_json (NotMine arc succ) → Finds (NotMine arc succ) result) → Finds value result
 unfolding name HasContent
 at_not_mine json content found (NotMine arc succ) result e inner_is called_so is fits read = read arc succ fits (rebuilt json content (NotMine arc succ) e inner_is tt)
 at_not_mine json content found _ result e inner_is called_so is fits read = absurd (apart _ _ (sym is ∙ called_so) refl)
 
-at_gone : (json content : Data) (found : List ℕ) (value : AnswerBody) (result : Result AnswerBody RowFault) → json ≡ answer_body_json value → content ≡ content_of json → found ≡ name value → found ≡ codes "Gone" → FitsAnswerBody value
+at_gone : (json content : Data) (found : List ℕ) (value : AnswerBody) (result : Result AnswerBody RowError) → json ≡ answer_body_json value → content ≡ content_of json → found ≡ name value → found ≡ codes "Gone" → FitsAnswerBody value
     → ((into : _) → FitsAnswerBody (Gone into) → variant (codes "Gone") content ≡ answer_body_json (Gone into) → Finds (Gone into) result) → Finds value result
 unfolding name HasContent
 at_gone json content found (Gone into) result e inner_is called_so is fits read = read into fits (rebuilt json content (Gone into) e inner_is tt)
 at_gone json content found _ result e inner_is called_so is fits read = absurd (apart _ _ (sym is ∙ called_so) refl)
 
-at_stale : (json content : Data) (found : List ℕ) (value : AnswerBody) (result : Result AnswerBody RowFault) → json ≡ answer_body_json value → content ≡ content_of json → found ≡ name value → found ≡ codes "Stale" → FitsAnswerBody value
+at_stale : (json content : Data) (found : List ℕ) (value : AnswerBody) (result : Result AnswerBody RowError) → json ≡ answer_body_json value → content ≡ content_of json → found ≡ name value → found ≡ codes "Stale" → FitsAnswerBody value
     → ((last : _) → FitsAnswerBody (Stale last) → variant (codes "Stale") content ≡ answer_body_json (Stale last) → Finds (Stale last) result) → Finds value result
 unfolding name HasContent
 at_stale json content found (Stale last) result e inner_is called_so is fits read = read last fits (rebuilt json content (Stale last) e inner_is tt)

@@ -7,8 +7,8 @@ use Rattle.sc_row_text.specs.Bodies.{body_json, FitsBody}
 use Rattle.sc_row_text.specs.Shapes.{variant}
 use Rattle.sc_from_json.specs.Reading.{Finds, MayBeVariant, content_of}
 use Rattle.sc_row_text.specs.Shapes.{variant_name}
-use Rattle.sc_from_json.specs.declared.faults.RowFault.{RowFault}
-use Rattle.sc_from_json.specs.declared.faults.RowFault.TheVariants.{NoRow, OutOfMemory}
+use Rattle.sc_from_json.specs.declared.errors.RowError.{RowError}
+use Rattle.sc_from_json.specs.declared.errors.RowError.TheVariants.{NoRow, OutOfMemory}
 use Rattle.sc_row_text.proofs.Apart.{apart}
 use Rattle.sc_from_json.proofs.Variants.{arm_exact, unit_exact, unit_found}
 use Rattle.sc_from_json.proofs.bodies.BodyFromJson.from_json.Goals as goal
@@ -74,19 +74,19 @@ unfolding name
 at_merge found Merge called_so is = refl
 at_merge found _ called_so is = absurd (apart _ _ (sym is ∙ called_so) refl)
 
-at_repart : (json content : Data) (found : List ℕ) (value : Body) (result : Result Body RowFault) → json ≡ body_json value → content ≡ content_of json → found ≡ name value → found ≡ codes "Repart" → FitsBody value
+at_repart : (json content : Data) (found : List ℕ) (value : Body) (result : Result Body RowError) → json ≡ body_json value → content ≡ content_of json → found ≡ name value → found ≡ codes "Repart" → FitsBody value
     → ((at : _) → FitsBody (Repart at) → variant (codes "Repart") content ≡ body_json (Repart at) → Finds (Repart at) result) → Finds value result
 unfolding name HasContent
 at_repart json content found (Repart at) result e inner_is called_so is fits read = read at fits (rebuilt json content (Repart at) e inner_is tt)
 at_repart json content found _ result e inner_is called_so is fits read = absurd (apart _ _ (sym is ∙ called_so) refl)
 
-at_migrate : (json content : Data) (found : List ℕ) (value : Body) (result : Result Body RowFault) → json ≡ body_json value → content ≡ content_of json → found ≡ name value → found ≡ codes "Migrate" → FitsBody value
+at_migrate : (json content : Data) (found : List ℕ) (value : Body) (result : Result Body RowError) → json ≡ body_json value → content ≡ content_of json → found ≡ name value → found ≡ codes "Migrate" → FitsBody value
     → ((node : _) → FitsBody (Migrate node) → variant (codes "Migrate") content ≡ body_json (Migrate node) → Finds (Migrate node) result) → Finds value result
 unfolding name HasContent
 at_migrate json content found (Migrate node) result e inner_is called_so is fits read = read node fits (rebuilt json content (Migrate node) e inner_is tt)
 at_migrate json content found _ result e inner_is called_so is fits read = absurd (apart _ _ (sym is ∙ called_so) refl)
 
-at_split : (json content : Data) (found : List ℕ) (value : Body) (result : Result Body RowFault) → json ≡ body_json value → content ≡ content_of json → found ≡ name value → found ≡ codes "Split" → FitsBody value
+at_split : (json content : Data) (found : List ℕ) (value : Body) (result : Result Body RowError) → json ≡ body_json value → content ≡ content_of json → found ≡ name value → found ≡ codes "Split" → FitsBody value
     → ((at : _) (child : _) → FitsBody (Split at child) → variant (codes "Split") content ≡ body_json (Split at child) → Finds (Split at child) result) → Finds value result
 unfolding name HasContent
 at_split json content found (Split at child) result e inner_is called_so is fits read = read at child fits (rebuilt json content (Split at child) e inner_is tt)

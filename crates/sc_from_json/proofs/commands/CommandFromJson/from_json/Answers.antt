@@ -7,8 +7,8 @@ use Rattle.sc_row_text.specs.Commands.{command_json, FitsCommand}
 use Rattle.sc_row_text.specs.Shapes.{variant}
 use Rattle.sc_from_json.specs.Reading.{Finds, MayBeVariant, content_of}
 use Rattle.sc_row_text.specs.Shapes.{variant_name}
-use Rattle.sc_from_json.specs.declared.faults.RowFault.{RowFault}
-use Rattle.sc_from_json.specs.declared.faults.RowFault.TheVariants.{NoRow, OutOfMemory}
+use Rattle.sc_from_json.specs.declared.errors.RowError.{RowError}
+use Rattle.sc_from_json.specs.declared.errors.RowError.TheVariants.{NoRow, OutOfMemory}
 use Rattle.sc_row_text.proofs.Apart.{apart}
 use Rattle.sc_from_json.proofs.Variants.{arm_exact, unit_exact, unit_found}
 use Rattle.sc_from_json.proofs.commands.CommandFromJson.from_json.Goals as goal
@@ -122,67 +122,67 @@ unfolding name
 at_noop found Noop called_so is = refl
 at_noop found _ called_so is = absurd (apart _ _ (sym is ∙ called_so) refl)
 
-at_call : (json content : Data) (found : List ℕ) (value : Command) (result : Result Command RowFault) → json ≡ command_json value → content ≡ content_of json → found ≡ name value → found ≡ codes "Call" → FitsCommand value
+at_call : (json content : Data) (found : List ℕ) (value : Command) (result : Result Command RowError) → json ≡ command_json value → content ≡ content_of json → found ≡ name value → found ≡ codes "Call" → FitsCommand value
     → ((client : _) (seq : _) (op : _) → FitsCommand (Call client seq op) → variant (codes "Call") content ≡ command_json (Call client seq op) → Finds (Call client seq op) result) → Finds value result
 unfolding name HasContent
 at_call json content found (Call client seq op) result e inner_is called_so is fits read = read client seq op fits (rebuilt json content (Call client seq op) e inner_is tt)
 at_call json content found _ result e inner_is called_so is fits read = absurd (apart _ _ (sym is ∙ called_so) refl)
 
-at_join : (json content : Data) (found : List ℕ) (value : Command) (result : Result Command RowFault) → json ≡ command_json value → content ≡ content_of json → found ≡ name value → found ≡ codes "Join" → FitsCommand value
+at_join : (json content : Data) (found : List ℕ) (value : Command) (result : Result Command RowError) → json ≡ command_json value → content ≡ content_of json → found ≡ name value → found ≡ codes "Join" → FitsCommand value
     → ((node : _) (order : _) → FitsCommand (Join node order) → variant (codes "Join") content ≡ command_json (Join node order) → Finds (Join node order) result) → Finds value result
 unfolding name HasContent
 at_join json content found (Join node order) result e inner_is called_so is fits read = read node order fits (rebuilt json content (Join node order) e inner_is tt)
 at_join json content found _ result e inner_is called_so is fits read = absurd (apart _ _ (sym is ∙ called_so) refl)
 
-at_leave : (json content : Data) (found : List ℕ) (value : Command) (result : Result Command RowFault) → json ≡ command_json value → content ≡ content_of json → found ≡ name value → found ≡ codes "Leave" → FitsCommand value
+at_leave : (json content : Data) (found : List ℕ) (value : Command) (result : Result Command RowError) → json ≡ command_json value → content ≡ content_of json → found ≡ name value → found ≡ codes "Leave" → FitsCommand value
     → ((node : _) (order : _) → FitsCommand (Leave node order) → variant (codes "Leave") content ≡ command_json (Leave node order) → Finds (Leave node order) result) → Finds value result
 unfolding name HasContent
 at_leave json content found (Leave node order) result e inner_is called_so is fits read = read node order fits (rebuilt json content (Leave node order) e inner_is tt)
 at_leave json content found _ result e inner_is called_so is fits read = absurd (apart _ _ (sym is ∙ called_so) refl)
 
-at_split : (json content : Data) (found : List ℕ) (value : Command) (result : Result Command RowFault) → json ≡ command_json value → content ≡ content_of json → found ≡ name value → found ≡ codes "Split" → FitsCommand value
+at_split : (json content : Data) (found : List ℕ) (value : Command) (result : Result Command RowError) → json ≡ command_json value → content ≡ content_of json → found ≡ name value → found ≡ codes "Split" → FitsCommand value
     → ((at : _) (child : _) (order : _) → FitsCommand (Split at child order) → variant (codes "Split") content ≡ command_json (Split at child order) → Finds (Split at child order) result) → Finds value result
 unfolding name HasContent
 at_split json content found (Split at child order) result e inner_is called_so is fits read = read at child order fits (rebuilt json content (Split at child order) e inner_is tt)
 at_split json content found _ result e inner_is called_so is fits read = absurd (apart _ _ (sym is ∙ called_so) refl)
 
-at_begin : (json content : Data) (found : List ℕ) (value : Command) (result : Result Command RowFault) → json ≡ command_json value → content ≡ content_of json → found ≡ name value → found ≡ codes "Begin" → FitsCommand value
+at_begin : (json content : Data) (found : List ℕ) (value : Command) (result : Result Command RowError) → json ≡ command_json value → content ≡ content_of json → found ≡ name value → found ≡ codes "Begin" → FitsCommand value
     → ((tx : _) (body : _) (order : _) → FitsCommand (Begin tx body order) → variant (codes "Begin") content ≡ command_json (Begin tx body order) → Finds (Begin tx body order) result) → Finds value result
 unfolding name HasContent
 at_begin json content found (Begin tx body order) result e inner_is called_so is fits read = read tx body order fits (rebuilt json content (Begin tx body order) e inner_is tt)
 at_begin json content found _ result e inner_is called_so is fits read = absurd (apart _ _ (sym is ∙ called_so) refl)
 
-at_prepared : (json content : Data) (found : List ℕ) (value : Command) (result : Result Command RowFault) → json ≡ command_json value → content ≡ content_of json → found ≡ name value → found ≡ codes "Prepared" → FitsCommand value
+at_prepared : (json content : Data) (found : List ℕ) (value : Command) (result : Result Command RowError) → json ≡ command_json value → content ≡ content_of json → found ≡ name value → found ≡ codes "Prepared" → FitsCommand value
     → ((tx : _) (offer : _) → FitsCommand (Prepared tx offer) → variant (codes "Prepared") content ≡ command_json (Prepared tx offer) → Finds (Prepared tx offer) result) → Finds value result
 unfolding name HasContent
 at_prepared json content found (Prepared tx offer) result e inner_is called_so is fits read = read tx offer fits (rebuilt json content (Prepared tx offer) e inner_is tt)
 at_prepared json content found _ result e inner_is called_so is fits read = absurd (apart _ _ (sym is ∙ called_so) refl)
 
-at_record_vote : (json content : Data) (found : List ℕ) (value : Command) (result : Result Command RowFault) → json ≡ command_json value → content ≡ content_of json → found ≡ name value → found ≡ codes "RecordVote" → FitsCommand value
+at_record_vote : (json content : Data) (found : List ℕ) (value : Command) (result : Result Command RowError) → json ≡ command_json value → content ≡ content_of json → found ≡ name value → found ≡ codes "RecordVote" → FitsCommand value
     → ((tx : _) (vote : _) (by : _) → FitsCommand (RecordVote tx vote by) → variant (codes "RecordVote") content ≡ command_json (RecordVote tx vote by) → Finds (RecordVote tx vote by) result) → Finds value result
 unfolding name HasContent
 at_record_vote json content found (RecordVote tx vote by) result e inner_is called_so is fits read = read tx vote by fits (rebuilt json content (RecordVote tx vote by) e inner_is tt)
 at_record_vote json content found _ result e inner_is called_so is fits read = absurd (apart _ _ (sym is ∙ called_so) refl)
 
-at_give_up : (json content : Data) (found : List ℕ) (value : Command) (result : Result Command RowFault) → json ≡ command_json value → content ≡ content_of json → found ≡ name value → found ≡ codes "GiveUp" → FitsCommand value
+at_give_up : (json content : Data) (found : List ℕ) (value : Command) (result : Result Command RowError) → json ≡ command_json value → content ≡ content_of json → found ≡ name value → found ≡ codes "GiveUp" → FitsCommand value
     → ((tx : _) → FitsCommand (GiveUp tx) → variant (codes "GiveUp") content ≡ command_json (GiveUp tx) → Finds (GiveUp tx) result) → Finds value result
 unfolding name HasContent
 at_give_up json content found (GiveUp tx) result e inner_is called_so is fits read = read tx fits (rebuilt json content (GiveUp tx) e inner_is tt)
 at_give_up json content found _ result e inner_is called_so is fits read = absurd (apart _ _ (sym is ∙ called_so) refl)
 
-at_finish : (json content : Data) (found : List ℕ) (value : Command) (result : Result Command RowFault) → json ≡ command_json value → content ≡ content_of json → found ≡ name value → found ≡ codes "Finish" → FitsCommand value
+at_finish : (json content : Data) (found : List ℕ) (value : Command) (result : Result Command RowError) → json ≡ command_json value → content ≡ content_of json → found ≡ name value → found ≡ codes "Finish" → FitsCommand value
     → ((tx : _) (outcome : _) → FitsCommand (Finish tx outcome) → variant (codes "Finish") content ≡ command_json (Finish tx outcome) → Finds (Finish tx outcome) result) → Finds value result
 unfolding name HasContent
 at_finish json content found (Finish tx outcome) result e inner_is called_so is fits read = read tx outcome fits (rebuilt json content (Finish tx outcome) e inner_is tt)
 at_finish json content found _ result e inner_is called_so is fits read = absurd (apart _ _ (sym is ∙ called_so) refl)
 
-at_watched : (json content : Data) (found : List ℕ) (value : Command) (result : Result Command RowFault) → json ≡ command_json value → content ≡ content_of json → found ≡ name value → found ≡ codes "Watched" → FitsCommand value
+at_watched : (json content : Data) (found : List ℕ) (value : Command) (result : Result Command RowError) → json ≡ command_json value → content ≡ content_of json → found ≡ name value → found ≡ codes "Watched" → FitsCommand value
     → ((tx : _) (watch : _) → FitsCommand (Watched tx watch) → variant (codes "Watched") content ≡ command_json (Watched tx watch) → Finds (Watched tx watch) result) → Finds value result
 unfolding name HasContent
 at_watched json content found (Watched tx watch) result e inner_is called_so is fits read = read tx watch fits (rebuilt json content (Watched tx watch) e inner_is tt)
 at_watched json content found _ result e inner_is called_so is fits read = absurd (apart _ _ (sym is ∙ called_so) refl)
 
-at_record_watch : (json content : Data) (found : List ℕ) (value : Command) (result : Result Command RowFault) → json ≡ command_json value → content ≡ content_of json → found ≡ name value → found ≡ codes "RecordWatch" → FitsCommand value
+at_record_watch : (json content : Data) (found : List ℕ) (value : Command) (result : Result Command RowError) → json ≡ command_json value → content ≡ content_of json → found ≡ name value → found ≡ codes "RecordWatch" → FitsCommand value
     → ((tx : _) (vote : _) (by : _) → FitsCommand (RecordWatch tx vote by) → variant (codes "RecordWatch") content ≡ command_json (RecordWatch tx vote by) → Finds (RecordWatch tx vote by) result) → Finds value result
 unfolding name HasContent
 at_record_watch json content found (RecordWatch tx vote by) result e inner_is called_so is fits read = read tx vote by fits (rebuilt json content (RecordWatch tx vote by) e inner_is tt)

@@ -7,8 +7,8 @@ use Rattle.sc_row_text.specs.Cores.{lock_json, FitsLock}
 use Rattle.sc_row_text.specs.Shapes.{variant}
 use Rattle.sc_from_json.specs.Reading.{Finds, MayBeVariant, content_of}
 use Rattle.sc_row_text.specs.Shapes.{variant_name}
-use Rattle.sc_from_json.specs.declared.faults.RowFault.{RowFault}
-use Rattle.sc_from_json.specs.declared.faults.RowFault.TheVariants.{NoRow, OutOfMemory}
+use Rattle.sc_from_json.specs.declared.errors.RowError.{RowError}
+use Rattle.sc_from_json.specs.declared.errors.RowError.TheVariants.{NoRow, OutOfMemory}
 use Rattle.sc_row_text.proofs.Apart.{apart}
 use Rattle.sc_from_json.proofs.Variants.{arm_exact, unit_exact, unit_found}
 use Rattle.sc_from_json.proofs.cores.LockFromJson.from_json.Goals as goal
@@ -74,19 +74,19 @@ unfolding name
 at_free found Free called_so is = refl
 at_free found _ called_so is = absurd (apart _ _ (sym is ∙ called_so) refl)
 
-at_coordinating : (json content : Data) (found : List ℕ) (value : Lock) (result : Result Lock RowFault) → json ≡ lock_json value → content ≡ content_of json → found ≡ name value → found ≡ codes "Coordinating" → FitsLock value
+at_coordinating : (json content : Data) (found : List ℕ) (value : Lock) (result : Result Lock RowError) → json ≡ lock_json value → content ≡ content_of json → found ≡ name value → found ≡ codes "Coordinating" → FitsLock value
     → ((tx : _) (body : _) (order : _) (heard : _) → FitsLock (Coordinating tx body order heard) → variant (codes "Coordinating") content ≡ lock_json (Coordinating tx body order heard) → Finds (Coordinating tx body order heard) result) → Finds value result
 unfolding name HasContent
 at_coordinating json content found (Coordinating tx body order heard) result e inner_is called_so is fits read = read tx body order heard fits (rebuilt json content (Coordinating tx body order heard) e inner_is tt)
 at_coordinating json content found _ result e inner_is called_so is fits read = absurd (apart _ _ (sym is ∙ called_so) refl)
 
-at_promised : (json content : Data) (found : List ℕ) (value : Lock) (result : Result Lock RowFault) → json ≡ lock_json value → content ≡ content_of json → found ≡ name value → found ≡ codes "Promised" → FitsLock value
+at_promised : (json content : Data) (found : List ℕ) (value : Lock) (result : Result Lock RowError) → json ≡ lock_json value → content ≡ content_of json → found ≡ name value → found ≡ codes "Promised" → FitsLock value
     → ((tx : _) (offer : _) → FitsLock (Promised tx offer) → variant (codes "Promised") content ≡ lock_json (Promised tx offer) → Finds (Promised tx offer) result) → Finds value result
 unfolding name HasContent
 at_promised json content found (Promised tx offer) result e inner_is called_so is fits read = read tx offer fits (rebuilt json content (Promised tx offer) e inner_is tt)
 at_promised json content found _ result e inner_is called_so is fits read = absurd (apart _ _ (sym is ∙ called_so) refl)
 
-at_watching : (json content : Data) (found : List ℕ) (value : Lock) (result : Result Lock RowFault) → json ≡ lock_json value → content ≡ content_of json → found ≡ name value → found ≡ codes "Watching" → FitsLock value
+at_watching : (json content : Data) (found : List ℕ) (value : Lock) (result : Result Lock RowError) → json ≡ lock_json value → content ≡ content_of json → found ≡ name value → found ≡ codes "Watching" → FitsLock value
     → ((tx : _) (watch : _) → FitsLock (Watching tx watch) → variant (codes "Watching") content ≡ lock_json (Watching tx watch) → Finds (Watching tx watch) result) → Finds value result
 unfolding name HasContent
 at_watching json content found (Watching tx watch) result e inner_is called_so is fits read = read tx watch fits (rebuilt json content (Watching tx watch) e inner_is tt)

@@ -9,8 +9,8 @@ use Rattle.sc_row_text.specs.Orders.{order_line_json}
 use Rattle.sc_row_text.specs.Shapes.{variant}
 use Rattle.sc_from_json.specs.Reading.{Finds, MayBeVariant, content_of}
 use Rattle.sc_row_text.specs.Shapes.{variant_name}
-use Rattle.sc_from_json.specs.declared.faults.RowFault.{RowFault}
-use Rattle.sc_from_json.specs.declared.faults.RowFault.TheVariants.{NoRow, OutOfMemory}
+use Rattle.sc_from_json.specs.declared.errors.RowError.{RowError}
+use Rattle.sc_from_json.specs.declared.errors.RowError.TheVariants.{NoRow, OutOfMemory}
 use Rattle.sc_row_text.proofs.Apart.{apart}
 use Rattle.sc_from_json.proofs.Variants.{arm_exact, unit_exact, unit_found}
 use Rattle.sc_from_json.proofs.events.EventOrderLineFromJson.from_json.Goals as goal
@@ -89,7 +89,7 @@ none_left found Crash is n0 n1 n2 n3 n4 n5 n6 = absurd (n4 is)
 none_left found (Drop inner) is n0 n1 n2 n3 n4 n5 n6 = absurd (n5 is)
 none_left found (Again inner) is n0 n1 n2 n3 n4 n5 n6 = absurd (n6 is)
 
-at_deliver : (json content : Data) (found : List ℕ) (value : Event OrderLine) (result : Result (Event OrderLine) RowFault) → json ≡ event_json value → content ≡ content_of json → found ≡ name value → found ≡ codes "Deliver" → FitsEvent value
+at_deliver : (json content : Data) (found : List ℕ) (value : Event OrderLine) (result : Result (Event OrderLine) RowError) → json ≡ event_json value → content ≡ content_of json → found ≡ name value → found ≡ codes "Deliver" → FitsEvent value
     → ((inner : _) → FitsEvent (Deliver inner) → variant (codes "Deliver") content ≡ event_json (Deliver inner) → Finds (Deliver inner) result) → Finds value result
 unfolding name HasContent
 at_deliver json content found (Deliver inner) result e inner_is called_so is fits read = read inner fits (rebuilt json content (Deliver inner) e inner_is tt)
@@ -105,7 +105,7 @@ unfolding name
 at_go found Go called_so is = refl
 at_go found _ called_so is = absurd (apart _ _ (sym is ∙ called_so) refl)
 
-at_told : (json content : Data) (found : List ℕ) (value : Event OrderLine) (result : Result (Event OrderLine) RowFault) → json ≡ event_json value → content ≡ content_of json → found ≡ name value → found ≡ codes "Told" → FitsEvent value
+at_told : (json content : Data) (found : List ℕ) (value : Event OrderLine) (result : Result (Event OrderLine) RowError) → json ≡ event_json value → content ≡ content_of json → found ≡ name value → found ≡ codes "Told" → FitsEvent value
     → ((inner : _) → FitsEvent (Told inner) → variant (codes "Told") content ≡ event_json (Told inner) → Finds (Told inner) result) → Finds value result
 unfolding name HasContent
 at_told json content found (Told inner) result e inner_is called_so is fits read = read inner fits (rebuilt json content (Told inner) e inner_is tt)
@@ -116,13 +116,13 @@ unfolding name
 at_crash found Crash called_so is = refl
 at_crash found _ called_so is = absurd (apart _ _ (sym is ∙ called_so) refl)
 
-at_drop : (json content : Data) (found : List ℕ) (value : Event OrderLine) (result : Result (Event OrderLine) RowFault) → json ≡ event_json value → content ≡ content_of json → found ≡ name value → found ≡ codes "Drop" → FitsEvent value
+at_drop : (json content : Data) (found : List ℕ) (value : Event OrderLine) (result : Result (Event OrderLine) RowError) → json ≡ event_json value → content ≡ content_of json → found ≡ name value → found ≡ codes "Drop" → FitsEvent value
     → ((inner : _) → FitsEvent (Drop inner) → variant (codes "Drop") content ≡ event_json (Drop inner) → Finds (Drop inner) result) → Finds value result
 unfolding name HasContent
 at_drop json content found (Drop inner) result e inner_is called_so is fits read = read inner fits (rebuilt json content (Drop inner) e inner_is tt)
 at_drop json content found _ result e inner_is called_so is fits read = absurd (apart _ _ (sym is ∙ called_so) refl)
 
-at_again : (json content : Data) (found : List ℕ) (value : Event OrderLine) (result : Result (Event OrderLine) RowFault) → json ≡ event_json value → content ≡ content_of json → found ≡ name value → found ≡ codes "Again" → FitsEvent value
+at_again : (json content : Data) (found : List ℕ) (value : Event OrderLine) (result : Result (Event OrderLine) RowError) → json ≡ event_json value → content ≡ content_of json → found ≡ name value → found ≡ codes "Again" → FitsEvent value
     → ((inner : _) → FitsEvent (Again inner) → variant (codes "Again") content ≡ event_json (Again inner) → Finds (Again inner) result) → Finds value result
 unfolding name HasContent
 at_again json content found (Again inner) result e inner_is called_so is fits read = read inner fits (rebuilt json content (Again inner) e inner_is tt)

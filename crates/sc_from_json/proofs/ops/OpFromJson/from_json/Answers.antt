@@ -7,8 +7,8 @@ use Rattle.sc_row_text.specs.Ops.{op_json, FitsOp}
 use Rattle.sc_row_text.specs.Shapes.{variant}
 use Rattle.sc_from_json.specs.Reading.{Finds, MayBeVariant, content_of}
 use Rattle.sc_row_text.specs.Shapes.{variant_name}
-use Rattle.sc_from_json.specs.declared.faults.RowFault.{RowFault}
-use Rattle.sc_from_json.specs.declared.faults.RowFault.TheVariants.{NoRow, OutOfMemory}
+use Rattle.sc_from_json.specs.declared.errors.RowError.{RowError}
+use Rattle.sc_from_json.specs.declared.errors.RowError.TheVariants.{NoRow, OutOfMemory}
 use Rattle.sc_row_text.proofs.Apart.{apart}
 use Rattle.sc_from_json.proofs.Variants.{arm_exact}
 use Rattle.sc_from_json.proofs.ops.OpFromJson.from_json.Goals as goal
@@ -75,31 +75,31 @@ none_left found (Del key) is n0 n1 n2 n3 n4 = absurd (n2 is)
 none_left found (Add key value) is n0 n1 n2 n3 n4 = absurd (n3 is)
 none_left found (Cas key expect value) is n0 n1 n2 n3 n4 = absurd (n4 is)
 
-at_get : (json content : Data) (found : List ℕ) (value : Op) (result : Result Op RowFault) → json ≡ op_json value → content ≡ content_of json → found ≡ name value → found ≡ codes "Get" → FitsOp value
+at_get : (json content : Data) (found : List ℕ) (value : Op) (result : Result Op RowError) → json ≡ op_json value → content ≡ content_of json → found ≡ name value → found ≡ codes "Get" → FitsOp value
     → ((key : _) → FitsOp (Get key) → variant (codes "Get") content ≡ op_json (Get key) → Finds (Get key) result) → Finds value result
 unfolding name HasContent
 at_get json content found (Get key) result e inner_is called_so is fits read = read key fits (rebuilt json content (Get key) e inner_is tt)
 at_get json content found _ result e inner_is called_so is fits read = absurd (apart _ _ (sym is ∙ called_so) refl)
 
-at_put : (json content : Data) (found : List ℕ) (value : Op) (result : Result Op RowFault) → json ≡ op_json value → content ≡ content_of json → found ≡ name value → found ≡ codes "Put" → FitsOp value
+at_put : (json content : Data) (found : List ℕ) (value : Op) (result : Result Op RowError) → json ≡ op_json value → content ≡ content_of json → found ≡ name value → found ≡ codes "Put" → FitsOp value
     → ((key : _) (value : _) → FitsOp (Put key value) → variant (codes "Put") content ≡ op_json (Put key value) → Finds (Put key value) result) → Finds value result
 unfolding name HasContent
 at_put json content found (Put key value) result e inner_is called_so is fits read = read key value fits (rebuilt json content (Put key value) e inner_is tt)
 at_put json content found _ result e inner_is called_so is fits read = absurd (apart _ _ (sym is ∙ called_so) refl)
 
-at_del : (json content : Data) (found : List ℕ) (value : Op) (result : Result Op RowFault) → json ≡ op_json value → content ≡ content_of json → found ≡ name value → found ≡ codes "Del" → FitsOp value
+at_del : (json content : Data) (found : List ℕ) (value : Op) (result : Result Op RowError) → json ≡ op_json value → content ≡ content_of json → found ≡ name value → found ≡ codes "Del" → FitsOp value
     → ((key : _) → FitsOp (Del key) → variant (codes "Del") content ≡ op_json (Del key) → Finds (Del key) result) → Finds value result
 unfolding name HasContent
 at_del json content found (Del key) result e inner_is called_so is fits read = read key fits (rebuilt json content (Del key) e inner_is tt)
 at_del json content found _ result e inner_is called_so is fits read = absurd (apart _ _ (sym is ∙ called_so) refl)
 
-at_add : (json content : Data) (found : List ℕ) (value : Op) (result : Result Op RowFault) → json ≡ op_json value → content ≡ content_of json → found ≡ name value → found ≡ codes "Add" → FitsOp value
+at_add : (json content : Data) (found : List ℕ) (value : Op) (result : Result Op RowError) → json ≡ op_json value → content ≡ content_of json → found ≡ name value → found ≡ codes "Add" → FitsOp value
     → ((key : _) (value : _) → FitsOp (Add key value) → variant (codes "Add") content ≡ op_json (Add key value) → Finds (Add key value) result) → Finds value result
 unfolding name HasContent
 at_add json content found (Add key value) result e inner_is called_so is fits read = read key value fits (rebuilt json content (Add key value) e inner_is tt)
 at_add json content found _ result e inner_is called_so is fits read = absurd (apart _ _ (sym is ∙ called_so) refl)
 
-at_cas : (json content : Data) (found : List ℕ) (value : Op) (result : Result Op RowFault) → json ≡ op_json value → content ≡ content_of json → found ≡ name value → found ≡ codes "Cas" → FitsOp value
+at_cas : (json content : Data) (found : List ℕ) (value : Op) (result : Result Op RowError) → json ≡ op_json value → content ≡ content_of json → found ≡ name value → found ≡ codes "Cas" → FitsOp value
     → ((key : _) (expect : _) (value : _) → FitsOp (Cas key expect value) → variant (codes "Cas") content ≡ op_json (Cas key expect value) → Finds (Cas key expect value) result) → Finds value result
 unfolding name HasContent
 at_cas json content found (Cas key expect value) result e inner_is called_so is fits read = read key expect value fits (rebuilt json content (Cas key expect value) e inner_is tt)

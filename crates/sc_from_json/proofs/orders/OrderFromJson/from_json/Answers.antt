@@ -7,8 +7,8 @@ use Rattle.sc_row_text.specs.Orders.{order_json, FitsOrder}
 use Rattle.sc_row_text.specs.Shapes.{variant}
 use Rattle.sc_from_json.specs.Reading.{Finds, MayBeVariant, content_of}
 use Rattle.sc_row_text.specs.Shapes.{variant_name}
-use Rattle.sc_from_json.specs.declared.faults.RowFault.{RowFault}
-use Rattle.sc_from_json.specs.declared.faults.RowFault.TheVariants.{NoRow, OutOfMemory}
+use Rattle.sc_from_json.specs.declared.errors.RowError.{RowError}
+use Rattle.sc_from_json.specs.declared.errors.RowError.TheVariants.{NoRow, OutOfMemory}
 use Rattle.sc_row_text.proofs.Apart.{apart}
 use Rattle.sc_from_json.proofs.Variants.{arm_exact}
 use Rattle.sc_from_json.proofs.orders.OrderFromJson.from_json.Goals as goal
@@ -81,37 +81,37 @@ none_left found (Merge group) is n0 n1 n2 n3 n4 n5 = absurd (n3 is)
 none_left found (Repart group at) is n0 n1 n2 n3 n4 n5 = absurd (n4 is)
 none_left found (Migrate group node) is n0 n1 n2 n3 n4 n5 = absurd (n5 is)
 
-at_join : (json content : Data) (found : List ℕ) (value : Order) (result : Result Order RowFault) → json ≡ order_json value → content ≡ content_of json → found ≡ name value → found ≡ codes "Join" → FitsOrder value
+at_join : (json content : Data) (found : List ℕ) (value : Order) (result : Result Order RowError) → json ≡ order_json value → content ≡ content_of json → found ≡ name value → found ≡ codes "Join" → FitsOrder value
     → ((node : _) (group : _) → FitsOrder (Join node group) → variant (codes "Join") content ≡ order_json (Join node group) → Finds (Join node group) result) → Finds value result
 unfolding name HasContent
 at_join json content found (Join node group) result e inner_is called_so is fits read = read node group fits (rebuilt json content (Join node group) e inner_is tt)
 at_join json content found _ result e inner_is called_so is fits read = absurd (apart _ _ (sym is ∙ called_so) refl)
 
-at_leave : (json content : Data) (found : List ℕ) (value : Order) (result : Result Order RowFault) → json ≡ order_json value → content ≡ content_of json → found ≡ name value → found ≡ codes "Leave" → FitsOrder value
+at_leave : (json content : Data) (found : List ℕ) (value : Order) (result : Result Order RowError) → json ≡ order_json value → content ≡ content_of json → found ≡ name value → found ≡ codes "Leave" → FitsOrder value
     → ((node : _) (group : _) → FitsOrder (Leave node group) → variant (codes "Leave") content ≡ order_json (Leave node group) → Finds (Leave node group) result) → Finds value result
 unfolding name HasContent
 at_leave json content found (Leave node group) result e inner_is called_so is fits read = read node group fits (rebuilt json content (Leave node group) e inner_is tt)
 at_leave json content found _ result e inner_is called_so is fits read = absurd (apart _ _ (sym is ∙ called_so) refl)
 
-at_split : (json content : Data) (found : List ℕ) (value : Order) (result : Result Order RowFault) → json ≡ order_json value → content ≡ content_of json → found ≡ name value → found ≡ codes "Split" → FitsOrder value
+at_split : (json content : Data) (found : List ℕ) (value : Order) (result : Result Order RowError) → json ≡ order_json value → content ≡ content_of json → found ≡ name value → found ≡ codes "Split" → FitsOrder value
     → ((group : _) (at : _) → FitsOrder (Split group at) → variant (codes "Split") content ≡ order_json (Split group at) → Finds (Split group at) result) → Finds value result
 unfolding name HasContent
 at_split json content found (Split group at) result e inner_is called_so is fits read = read group at fits (rebuilt json content (Split group at) e inner_is tt)
 at_split json content found _ result e inner_is called_so is fits read = absurd (apart _ _ (sym is ∙ called_so) refl)
 
-at_merge : (json content : Data) (found : List ℕ) (value : Order) (result : Result Order RowFault) → json ≡ order_json value → content ≡ content_of json → found ≡ name value → found ≡ codes "Merge" → FitsOrder value
+at_merge : (json content : Data) (found : List ℕ) (value : Order) (result : Result Order RowError) → json ≡ order_json value → content ≡ content_of json → found ≡ name value → found ≡ codes "Merge" → FitsOrder value
     → ((group : _) → FitsOrder (Merge group) → variant (codes "Merge") content ≡ order_json (Merge group) → Finds (Merge group) result) → Finds value result
 unfolding name HasContent
 at_merge json content found (Merge group) result e inner_is called_so is fits read = read group fits (rebuilt json content (Merge group) e inner_is tt)
 at_merge json content found _ result e inner_is called_so is fits read = absurd (apart _ _ (sym is ∙ called_so) refl)
 
-at_repart : (json content : Data) (found : List ℕ) (value : Order) (result : Result Order RowFault) → json ≡ order_json value → content ≡ content_of json → found ≡ name value → found ≡ codes "Repart" → FitsOrder value
+at_repart : (json content : Data) (found : List ℕ) (value : Order) (result : Result Order RowError) → json ≡ order_json value → content ≡ content_of json → found ≡ name value → found ≡ codes "Repart" → FitsOrder value
     → ((group : _) (at : _) → FitsOrder (Repart group at) → variant (codes "Repart") content ≡ order_json (Repart group at) → Finds (Repart group at) result) → Finds value result
 unfolding name HasContent
 at_repart json content found (Repart group at) result e inner_is called_so is fits read = read group at fits (rebuilt json content (Repart group at) e inner_is tt)
 at_repart json content found _ result e inner_is called_so is fits read = absurd (apart _ _ (sym is ∙ called_so) refl)
 
-at_migrate : (json content : Data) (found : List ℕ) (value : Order) (result : Result Order RowFault) → json ≡ order_json value → content ≡ content_of json → found ≡ name value → found ≡ codes "Migrate" → FitsOrder value
+at_migrate : (json content : Data) (found : List ℕ) (value : Order) (result : Result Order RowError) → json ≡ order_json value → content ≡ content_of json → found ≡ name value → found ≡ codes "Migrate" → FitsOrder value
     → ((group : _) (node : _) → FitsOrder (Migrate group node) → variant (codes "Migrate") content ≡ order_json (Migrate group node) → Finds (Migrate group node) result) → Finds value result
 unfolding name HasContent
 at_migrate json content found (Migrate group node) result e inner_is called_so is fits read = read group node fits (rebuilt json content (Migrate group node) e inner_is tt)

@@ -7,8 +7,8 @@ use Rattle.sc_row_text.specs.Orders.{order_refusal_json, FitsOrderRefusal}
 use Rattle.sc_row_text.specs.Shapes.{variant}
 use Rattle.sc_from_json.specs.Reading.{Finds, MayBeVariant, content_of}
 use Rattle.sc_row_text.specs.Shapes.{variant_name}
-use Rattle.sc_from_json.specs.declared.faults.RowFault.{RowFault}
-use Rattle.sc_from_json.specs.declared.faults.RowFault.TheVariants.{NoRow, OutOfMemory}
+use Rattle.sc_from_json.specs.declared.errors.RowError.{RowError}
+use Rattle.sc_from_json.specs.declared.errors.RowError.TheVariants.{NoRow, OutOfMemory}
 use Rattle.sc_row_text.proofs.Apart.{apart}
 use Rattle.sc_from_json.proofs.Variants.{arm_exact, unit_exact, unit_found}
 use Rattle.sc_from_json.proofs.orders.OrderRefusalFromJson.from_json.Goals as goal
@@ -99,13 +99,13 @@ none_left found LastMember is n0 n1 n2 n3 n4 n5 n6 n7 n8 = absurd (n6 is)
 none_left found TxLimit is n0 n1 n2 n3 n4 n5 n6 n7 n8 = absurd (n7 is)
 none_left found IsMember is n0 n1 n2 n3 n4 n5 n6 n7 n8 = absurd (n8 is)
 
-at_not_leader : (json content : Data) (found : List ℕ) (value : OrderRefusal) (result : Result OrderRefusal RowFault) → json ≡ order_refusal_json value → content ≡ content_of json → found ≡ name value → found ≡ codes "NotLeader" → FitsOrderRefusal value
+at_not_leader : (json content : Data) (found : List ℕ) (value : OrderRefusal) (result : Result OrderRefusal RowError) → json ≡ order_refusal_json value → content ≡ content_of json → found ≡ name value → found ≡ codes "NotLeader" → FitsOrderRefusal value
     → ((hint : _) → FitsOrderRefusal (NotLeader hint) → variant (codes "NotLeader") content ≡ order_refusal_json (NotLeader hint) → Finds (NotLeader hint) result) → Finds value result
 unfolding name HasContent
 at_not_leader json content found (NotLeader hint) result e inner_is called_so is fits read = read hint fits (rebuilt json content (NotLeader hint) e inner_is tt)
 at_not_leader json content found _ result e inner_is called_so is fits read = absurd (apart _ _ (sym is ∙ called_so) refl)
 
-at_in_transaction : (json content : Data) (found : List ℕ) (value : OrderRefusal) (result : Result OrderRefusal RowFault) → json ≡ order_refusal_json value → content ≡ content_of json → found ≡ name value → found ≡ codes "InTransaction" → FitsOrderRefusal value
+at_in_transaction : (json content : Data) (found : List ℕ) (value : OrderRefusal) (result : Result OrderRefusal RowError) → json ≡ order_refusal_json value → content ≡ content_of json → found ≡ name value → found ≡ codes "InTransaction" → FitsOrderRefusal value
     → ((tx : _) → FitsOrderRefusal (InTransaction tx) → variant (codes "InTransaction") content ≡ order_refusal_json (InTransaction tx) → Finds (InTransaction tx) result) → Finds value result
 unfolding name HasContent
 at_in_transaction json content found (InTransaction tx) result e inner_is called_so is fits read = read tx fits (rebuilt json content (InTransaction tx) e inner_is tt)
@@ -121,7 +121,7 @@ unfolding name
 at_bad_boundary found BadBoundary called_so is = refl
 at_bad_boundary found _ called_so is = absurd (apart _ _ (sym is ∙ called_so) refl)
 
-at_too_many_members : (json content : Data) (found : List ℕ) (value : OrderRefusal) (result : Result OrderRefusal RowFault) → json ≡ order_refusal_json value → content ≡ content_of json → found ≡ name value → found ≡ codes "TooManyMembers" → FitsOrderRefusal value
+at_too_many_members : (json content : Data) (found : List ℕ) (value : OrderRefusal) (result : Result OrderRefusal RowError) → json ≡ order_refusal_json value → content ≡ content_of json → found ≡ name value → found ≡ codes "TooManyMembers" → FitsOrderRefusal value
     → ((n : _) → FitsOrderRefusal (TooManyMembers n) → variant (codes "TooManyMembers") content ≡ order_refusal_json (TooManyMembers n) → Finds (TooManyMembers n) result) → Finds value result
 unfolding name HasContent
 at_too_many_members json content found (TooManyMembers n) result e inner_is called_so is fits read = read n fits (rebuilt json content (TooManyMembers n) e inner_is tt)

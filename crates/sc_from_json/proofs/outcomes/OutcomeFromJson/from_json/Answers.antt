@@ -7,8 +7,8 @@ use Rattle.sc_row_text.specs.Outcomes.{outcome_json, FitsOutcome}
 use Rattle.sc_row_text.specs.Shapes.{variant}
 use Rattle.sc_from_json.specs.Reading.{Finds, MayBeVariant, content_of}
 use Rattle.sc_row_text.specs.Shapes.{variant_name}
-use Rattle.sc_from_json.specs.declared.faults.RowFault.{RowFault}
-use Rattle.sc_from_json.specs.declared.faults.RowFault.TheVariants.{NoRow, OutOfMemory}
+use Rattle.sc_from_json.specs.declared.errors.RowError.{RowError}
+use Rattle.sc_from_json.specs.declared.errors.RowError.TheVariants.{NoRow, OutOfMemory}
 use Rattle.sc_row_text.proofs.Apart.{apart}
 use Rattle.sc_from_json.proofs.Variants.{arm_exact, unit_exact, unit_found}
 use Rattle.sc_from_json.proofs.outcomes.OutcomeFromJson.from_json.Goals as goal
@@ -80,19 +80,19 @@ unfolding name
 at_abort found Abort called_so is = refl
 at_abort found _ called_so is = absurd (apart _ _ (sym is ∙ called_so) refl)
 
-at_merged : (json content : Data) (found : List ℕ) (value : Outcome) (result : Result Outcome RowFault) → json ≡ outcome_json value → content ≡ content_of json → found ≡ name value → found ≡ codes "Merged" → FitsOutcome value
+at_merged : (json content : Data) (found : List ℕ) (value : Outcome) (result : Result Outcome RowError) → json ≡ outcome_json value → content ≡ content_of json → found ≡ name value → found ≡ codes "Merged" → FitsOutcome value
     → ((into : _) → FitsOutcome (Merged into) → variant (codes "Merged") content ≡ outcome_json (Merged into) → Finds (Merged into) result) → Finds value result
 unfolding name HasContent
 at_merged json content found (Merged into) result e inner_is called_so is fits read = read into fits (rebuilt json content (Merged into) e inner_is tt)
 at_merged json content found _ result e inner_is called_so is fits read = absurd (apart _ _ (sym is ∙ called_so) refl)
 
-at_moved : (json content : Data) (found : List ℕ) (value : Outcome) (result : Result Outcome RowFault) → json ≡ outcome_json value → content ≡ content_of json → found ≡ name value → found ≡ codes "Moved" → FitsOutcome value
+at_moved : (json content : Data) (found : List ℕ) (value : Outcome) (result : Result Outcome RowError) → json ≡ outcome_json value → content ≡ content_of json → found ≡ name value → found ≡ codes "Moved" → FitsOutcome value
     → ((at : _) (gift : _) → FitsOutcome (Moved at gift) → variant (codes "Moved") content ≡ outcome_json (Moved at gift) → Finds (Moved at gift) result) → Finds value result
 unfolding name HasContent
 at_moved json content found (Moved at gift) result e inner_is called_so is fits read = read at gift fits (rebuilt json content (Moved at gift) e inner_is tt)
 at_moved json content found _ result e inner_is called_so is fits read = absurd (apart _ _ (sym is ∙ called_so) refl)
 
-at_migrated : (json content : Data) (found : List ℕ) (value : Outcome) (result : Result Outcome RowFault) → json ≡ outcome_json value → content ≡ content_of json → found ≡ name value → found ≡ codes "Migrated" → FitsOutcome value
+at_migrated : (json content : Data) (found : List ℕ) (value : Outcome) (result : Result Outcome RowError) → json ≡ outcome_json value → content ≡ content_of json → found ≡ name value → found ≡ codes "Migrated" → FitsOutcome value
     → ((node : _) → FitsOutcome (Migrated node) → variant (codes "Migrated") content ≡ outcome_json (Migrated node) → Finds (Migrated node) result) → Finds value result
 unfolding name HasContent
 at_migrated json content found (Migrated node) result e inner_is called_so is fits read = read node fits (rebuilt json content (Migrated node) e inner_is tt)

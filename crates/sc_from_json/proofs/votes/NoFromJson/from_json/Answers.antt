@@ -7,8 +7,8 @@ use Rattle.sc_row_text.specs.Votes.{no_json, FitsNo}
 use Rattle.sc_row_text.specs.Shapes.{variant}
 use Rattle.sc_from_json.specs.Reading.{Finds, MayBeVariant, content_of}
 use Rattle.sc_row_text.specs.Shapes.{variant_name}
-use Rattle.sc_from_json.specs.declared.faults.RowFault.{RowFault}
-use Rattle.sc_from_json.specs.declared.faults.RowFault.TheVariants.{NoRow, OutOfMemory}
+use Rattle.sc_from_json.specs.declared.errors.RowError.{RowError}
+use Rattle.sc_from_json.specs.declared.errors.RowError.TheVariants.{NoRow, OutOfMemory}
 use Rattle.sc_row_text.proofs.Apart.{apart}
 use Rattle.sc_from_json.proofs.Variants.{arm_exact, unit_exact, unit_found}
 use Rattle.sc_from_json.proofs.votes.NoFromJson.from_json.Goals as goal
@@ -69,7 +69,7 @@ none_left found Gone is n0 n1 n2 n3 = absurd (n1 is)
 none_left found Apart is n0 n1 n2 n3 = absurd (n2 is)
 none_left found (TooMany n) is n0 n1 n2 n3 = absurd (n3 is)
 
-at_busy : (json content : Data) (found : List ℕ) (value : No) (result : Result No RowFault) → json ≡ no_json value → content ≡ content_of json → found ≡ name value → found ≡ codes "Busy" → FitsNo value
+at_busy : (json content : Data) (found : List ℕ) (value : No) (result : Result No RowError) → json ≡ no_json value → content ≡ content_of json → found ≡ name value → found ≡ codes "Busy" → FitsNo value
     → ((tx : _) → FitsNo (Busy tx) → variant (codes "Busy") content ≡ no_json (Busy tx) → Finds (Busy tx) result) → Finds value result
 unfolding name HasContent
 at_busy json content found (Busy tx) result e inner_is called_so is fits read = read tx fits (rebuilt json content (Busy tx) e inner_is tt)
@@ -85,7 +85,7 @@ unfolding name
 at_apart found Apart called_so is = refl
 at_apart found _ called_so is = absurd (apart _ _ (sym is ∙ called_so) refl)
 
-at_too_many : (json content : Data) (found : List ℕ) (value : No) (result : Result No RowFault) → json ≡ no_json value → content ≡ content_of json → found ≡ name value → found ≡ codes "TooMany" → FitsNo value
+at_too_many : (json content : Data) (found : List ℕ) (value : No) (result : Result No RowError) → json ≡ no_json value → content ≡ content_of json → found ≡ name value → found ≡ codes "TooMany" → FitsNo value
     → ((n : _) → FitsNo (TooMany n) → variant (codes "TooMany") content ≡ no_json (TooMany n) → Finds (TooMany n) result) → Finds value result
 unfolding name HasContent
 at_too_many json content found (TooMany n) result e inner_is called_so is fits read = read n fits (rebuilt json content (TooMany n) e inner_is tt)

@@ -7,8 +7,8 @@ use Rattle.sc_row_text.specs.Votes.{past_json, FitsPast}
 use Rattle.sc_row_text.specs.Shapes.{variant}
 use Rattle.sc_from_json.specs.Reading.{Finds, MayBeVariant, content_of}
 use Rattle.sc_row_text.specs.Shapes.{variant_name}
-use Rattle.sc_from_json.specs.declared.faults.RowFault.{RowFault}
-use Rattle.sc_from_json.specs.declared.faults.RowFault.TheVariants.{NoRow, OutOfMemory}
+use Rattle.sc_from_json.specs.declared.errors.RowError.{RowError}
+use Rattle.sc_from_json.specs.declared.errors.RowError.TheVariants.{NoRow, OutOfMemory}
 use Rattle.sc_row_text.proofs.Apart.{apart}
 use Rattle.sc_from_json.proofs.Echoes.{no_in_no}
 use Rattle.sc_from_json.proofs.Variants.{arm_exact, unit_exact, unit_found}
@@ -69,7 +69,7 @@ unfolding name
 at_yes found Yes called_so is = refl
 at_yes found _ called_so is = absurd (apart _ _ (sym is ∙ called_so) refl)
 
-at_no : (json content : Data) (found : List ℕ) (value : Past) (result : Result Past RowFault) → json ≡ past_json value → content ≡ content_of json → found ≡ name value → found ≡ codes "No" → FitsPast value
+at_no : (json content : Data) (found : List ℕ) (value : Past) (result : Result Past RowError) → json ≡ past_json value → content ≡ content_of json → found ≡ name value → found ≡ codes "No" → FitsPast value
     → ((inner : _) → FitsPast (No inner) → variant (codes "No") content ≡ past_json (No inner) → Finds (No inner) result) → Finds value result
 unfolding name HasContent
 at_no json content found (No inner) result e inner_is called_so is fits read = read inner fits (rebuilt json content (No inner) e inner_is tt)

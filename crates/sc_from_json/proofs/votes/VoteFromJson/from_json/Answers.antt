@@ -7,8 +7,8 @@ use Rattle.sc_row_text.specs.Votes.{frozen_json, vote_json, FitsVote}
 use Rattle.sc_row_text.specs.Shapes.{variant}
 use Rattle.sc_from_json.specs.Reading.{Finds, MayBeVariant, content_of}
 use Rattle.sc_row_text.specs.Shapes.{variant_name}
-use Rattle.sc_from_json.specs.declared.faults.RowFault.{RowFault}
-use Rattle.sc_from_json.specs.declared.faults.RowFault.TheVariants.{NoRow, OutOfMemory}
+use Rattle.sc_from_json.specs.declared.errors.RowError.{RowError}
+use Rattle.sc_from_json.specs.declared.errors.RowError.TheVariants.{NoRow, OutOfMemory}
 use Rattle.sc_row_text.proofs.Apart.{apart}
 use Rattle.sc_from_json.proofs.Echoes.{no_in_no}
 use Rattle.sc_from_json.proofs.Variants.{arm_exact}
@@ -58,13 +58,13 @@ unfolding name
 none_left found (Yes inner) is n0 n1 = absurd (n0 is)
 none_left found (No inner) is n0 n1 = absurd (n1 is)
 
-at_yes : (json content : Data) (found : List ℕ) (value : Vote) (result : Result Vote RowFault) → json ≡ vote_json value → content ≡ content_of json → found ≡ name value → found ≡ codes "Yes" → FitsVote value
+at_yes : (json content : Data) (found : List ℕ) (value : Vote) (result : Result Vote RowError) → json ≡ vote_json value → content ≡ content_of json → found ≡ name value → found ≡ codes "Yes" → FitsVote value
     → ((inner : _) → FitsVote (Yes inner) → variant (codes "Yes") content ≡ vote_json (Yes inner) → Finds (Yes inner) result) → Finds value result
 unfolding name HasContent
 at_yes json content found (Yes inner) result e inner_is called_so is fits read = read inner fits (rebuilt json content (Yes inner) e inner_is tt)
 at_yes json content found _ result e inner_is called_so is fits read = absurd (apart _ _ (sym is ∙ called_so) refl)
 
-at_no : (json content : Data) (found : List ℕ) (value : Vote) (result : Result Vote RowFault) → json ≡ vote_json value → content ≡ content_of json → found ≡ name value → found ≡ codes "No" → FitsVote value
+at_no : (json content : Data) (found : List ℕ) (value : Vote) (result : Result Vote RowError) → json ≡ vote_json value → content ≡ content_of json → found ≡ name value → found ≡ codes "No" → FitsVote value
     → ((inner : _) → FitsVote (No inner) → variant (codes "No") content ≡ vote_json (No inner) → Finds (No inner) result) → Finds value result
 unfolding name HasContent
 at_no json content found (No inner) result e inner_is called_so is fits read = read inner fits (rebuilt json content (No inner) e inner_is tt)

@@ -10,5 +10,5 @@ returns-in-None c =
     let node : NodeState = record { me = c.self.inside.me; draws = c.self.inside.draws; policy = c.self.inside.policy; replicas = c.self.inside.replicas.items } in
     let nowhere : replica_of group c.args.self.now.replicas ≡ None =
     subst (λ (g : Draw). replica_of g c.args.self.now.replicas ≡ None) c.group_of_order.ensures c.in-None.ensures in
-    subst (λ (n : NodeState). IfOk c.tell_unknown.result (λ sent. on_order c.args.line.now n ≡ (n, sent))) c.self.view_is
-    (ordered-nowhere c.args.line.now node c.tell_unknown.result (subst (λ (n : NodeState). replica_of group n.replicas ≡ None) (sym c.self.view_is) nowhere) c.tell_unknown.ensures)
+    subst (λ (n : NodeState). IfOk c.report_no_leader.result (λ sent. on_order c.args.line.now n ≡ (n, sent))) c.self.view_is
+    (ordered-nowhere c.args.line.now node c.report_no_leader.result (subst (λ (n : NodeState). replica_of group n.replicas ≡ None) (sym c.self.view_is) nowhere) c.report_no_leader.ensures)

@@ -13,7 +13,7 @@ returns-in_err-answer_under_way-clause-none c = λ e.
 pub returns-in_err-dismiss_all-clause-none : goal.returns-in_err-dismiss_all-clause-none
 returns-in_err-dismiss_all-clause-none c = λ e.
     let ok = c.in_err-dismiss_all.ensures.none
-    (ap (λ (r : ReplicaState). dismissed_all r.me c.name.result c.args.hint c.args.body.now r.calls []) c.self.view_is
-    ∙ ap (λ (name : Draw). dismissed_all c.args.self.now.me name c.args.hint c.args.body.now c.args.self.now.calls []) c.name.ensures
+    (ap (λ (r : ReplicaState). dismissed_all r.me c.name.result c.args.hint c.args.body.now r.backlog []) c.self.view_is
+    ∙ ap (λ (name : Draw). dismissed_all c.args.self.now.me name c.args.hint c.args.body.now c.args.self.now.backlog []) c.name.ensures
     ∙ (ended-none c.args.hint c.args.body.now c.args.self.now e).1) in
     absurd (cc)

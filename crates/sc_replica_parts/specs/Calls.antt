@@ -1,8 +1,0 @@
--- Requests among commands.
-use Rattle.std.specs.Prelude.{Bool, true, false}
-use Rattle.sc_node_table.specs.Values.{Command, Call}
-
--- whether a command is a request
-abbrev pub is_call : Command → Bool
-is_call (Call client seq op) = true
-is_call _ = false
