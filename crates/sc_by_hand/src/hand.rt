@@ -4,16 +4,16 @@ ghost use Rattle.sc_actor.specs.Mail.{mails};
 ghost use Rattle.sc_actor.specs.declared.rows.Event.TheVariants.{Go};
 ghost use Rattle.sc_base.specs.Limits.{client_actor};
 ghost use Rattle.sc_by_hand.specs.Deeds.{after_deed, deeds_of, delivery};
-ghost use Rattle.sc_scenario.specs.Valid.{IsValid};
+ghost use Rattle.sc_scenario.specs.scenario.Valid.{IsValid};
 ghost use Rattle.sc_world.specs.Replays.{IsReplayError};
 ghost use Rattle.sc_world.specs.Worlds.{StandsFor};
 
 use crate::steps::{Log, deliver, start};
 use sc_actor::{Actor, Parcel};
 use sc_base::OutOfMemory;
-use sc_cmd::OrderLine;
 use sc_mail::{Mail, client_number};
 use sc_scenario::Scenario;
+use sc_words::OrderLine;
 use sc_world::{ReplayError, World, replay_rows};
 use std::alloc::Global;
 

@@ -4,7 +4,7 @@ ghost use Rattle.sc_base.specs.declared.names.Draw.{Draw};
 ghost use Rattle.sc_mail.specs.declared.bodies.AnswerBody.{AnswerBody};
 ghost use Rattle.sc_mail.specs.declared.bodies.AnswerBody.TheVariants.{NotLeader};
 ghost use Rattle.sc_mail.specs.declared.bodies.MailBody.TheVariants.{Answer};
-ghost use Rattle.sc_client_table.specs.Table.{answer_taken, got, started, redirected, was_asked, waits_for};
+ghost use Rattle.sc_client_table.specs.table.Table.{answer_taken, got, started, redirected, was_asked, waits_for};
 
 use crate::client::ClientCore;
 use sc_base::{Draw, Dup, OutOfMemory, Reply, Sequence, same_draw};

@@ -2,15 +2,15 @@
 ghost use Rattle.std.specs.Prelude.{◌≡◌, ◌≤◌, ◌⊎◌, [], length, IfOk, IsOk};
 ghost use Rattle.sc_actor.specs.declared.rows.Input.TheVariants.{Go, Told, Tick};
 ghost use Rattle.sc_base.specs.Limits.{most_requests};
-ghost use Rattle.sc_client_table.specs.Client.{born_client};
-ghost use Rattle.sc_client_table.specs.Table.{table};
-ghost use Rattle.sc_cmd.specs.declared.orders.OrderLine.{OrderLine};
+ghost use Rattle.sc_client_table.specs.table.Client.{born_client};
+ghost use Rattle.sc_client_table.specs.table.Table.{table};
+ghost use Rattle.sc_words.specs.declared.commands.orders.OrderLine.{OrderLine};
 
 use sc_actor::{Actor, Input};
 use sc_base::{Draw, Op, OutOfMemory, Reply, Sequence};
-use sc_cmd::{OrderLine, Route};
-use sc_lookup::Routes;
+use sc_client_table::Routes;
 use sc_mail::Mail;
+use sc_words::{OrderLine, Route};
 use std::alloc::Global;
 use std::marker::Model;
 
@@ -27,7 +27,7 @@ pub struct ClientCore {
 }
 
 impl Model for ClientCore {
-    ghost use Rattle.sc_client_table.specs.Client.{Client};
+    ghost use Rattle.sc_client_table.specs.table.Client.{Client};
     ghost use Rattle.sc_client.specs.Numbered.{IsNumbered};
 
     ghost Value = { Client };

@@ -1,8 +1,8 @@
 //! How a client sends its requests.
 ghost use Rattle.std.specs.Prelude.{◌≡◌, ◌∷◌, [], ◌≤◌, IfOk, IsOk};
 ghost use Rattle.std.specs.Option.{option_map};
-ghost use Rattle.sc_client_table.specs.Client.{waiting_request};
-ghost use Rattle.sc_client_table.specs.Table.{request_of, sent_to, request_sent, started, turned_on, client_ticked};
+ghost use Rattle.sc_client_table.specs.table.Client.{waiting_request};
+ghost use Rattle.sc_client_table.specs.table.Table.{request_of, sent_to, request_sent, started, turned_on, client_ticked};
 
 use crate::client::ClientCore;
 use sc_base::{Draw, Dup, Op, OutOfMemory, Sequence};

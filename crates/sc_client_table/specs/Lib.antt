@@ -1,4 +1,2 @@
-pub mod Client
-pub mod Table
-pub mod Turns
-pub mod Definitions
+pub mod lookup
+pub mod table

@@ -1,12 +1,8 @@
-//! The transition table of a client: the client after each input, and the mail that it sends.
-//! Definitions and a law, no logic.
+//! The groups that a client knows (`lookup`), and the table of a client (`table`).
 #![tactic(auto)]
 
-ghost use Rattle.sc_client_table.specs.Turns.{SendsInTurn};
+pub mod lookup;
+pub mod table;
 
-/// States that a client has at most one unanswered request: whatever the input, it sends only the
-/// request that waits, its numbers rise by one, and it takes a reply only for the number that
-/// waits.
-pub fn clients_send_in_turn()
-    ensures { SendsInTurn }
-{}
+pub use lookup::{Routes, Way, choices_are_nearest};
+pub use table::clients_send_in_turn;

@@ -1,8 +1,2 @@
-mod Calls
-mod Changed
-mod Counted
-mod Following
-mod RingGroups
-mod RowLines
-mod Rows
-mod Takings
+pub mod FactsProofs
+pub mod RowsProofs

@@ -1,3 +1,2 @@
-pub mod Counts
-pub mod Explained
-pub mod Said
+pub mod facts
+pub mod rows

@@ -1,12 +1,11 @@
-//! What each row of a journal decided, in lines of JSON.
+//! What each row of a journal decided (`rows`), and each fact as a line of JSON (`facts`).
 #![tactic(auto)]
 
-mod adding;
-mod changes;
-mod counts;
-mod explaining;
-mod groups;
-mod said;
-mod taking;
+pub mod facts;
+pub mod rows;
 
-pub use explaining::explain;
+pub use facts::{
+    GroupRecord, Hold, RingGroup, birth_line, entry_line, history_line, hold_of, record_line,
+    record_of, ring_group_line, ring_line, same_record, same_ring, same_ring_group,
+};
+pub use rows::explain;

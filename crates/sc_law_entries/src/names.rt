@@ -4,9 +4,9 @@
 ghost use Rattle.std.specs.Prelude.{◌≡◌, Some, None};
 ghost use Rattle.sc_actor.specs.System.{no_words};
 ghost use Rattle.sc_base.specs.Among.{Each};
-ghost use Rattle.sc_sound.specs.Players.{Lawful};
-ghost use Rattle.sc_scenario.specs.Groups.{lone_name};
-ghost use Rattle.sc_sound.specs.Example.{four};
+ghost use Rattle.sc_meaning.specs.sound.Players.{Lawful};
+ghost use Rattle.sc_scenario.specs.scenario.Groups.{lone_name};
+ghost use Rattle.sc_meaning.specs.sound.Example.{four};
 ghost use Rattle.sc_law_entries.specs.names.Example.{drawing_rows, drawing_scenario, example_name, second_name, third_name};
 ghost use Rattle.sc_law_entries.specs.names.Owners.{owner_in};
 ghost use Rattle.sc_law_entries.specs.names.Fresh.{BeginsUndrawn, DrawnNamesAreNew, NamesAreDrawn};

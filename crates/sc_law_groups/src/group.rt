@@ -4,11 +4,11 @@
 //! here compute journals to which they apply. Definitions and laws; no code that runs.
 ghost use Rattle.std.specs.Prelude.{◌≡◌, [], ◌∷◌, Some};
 ghost use Rattle.sc_actor.specs.System.{no_words};
-ghost use Rattle.sc_sound.specs.Example.{four, alone};
-ghost use Rattle.sc_sound.specs.Logs.{decided_log, decided_state};
-ghost use Rattle.sc_sound.specs.Histories.{decided_row};
-ghost use Rattle.sc_sound.specs.Requests.{issue_row};
-ghost use Rattle.sc_sound.specs.Players.{Lawful};
+ghost use Rattle.sc_meaning.specs.sound.Example.{four, alone};
+ghost use Rattle.sc_meaning.specs.sound.Logs.{decided_log, decided_state};
+ghost use Rattle.sc_meaning.specs.sound.Histories.{decided_row};
+ghost use Rattle.sc_meaning.specs.sound.Requests.{issue_row};
+ghost use Rattle.sc_meaning.specs.sound.Players.{Lawful};
 ghost use Rattle.sc_law_groups.specs.group.Example.{three_nodes, election_scenario, election_example, example_call};
 ghost use Rattle.sc_law_groups.specs.group.JoinExample.{join_scenario, join_example, join};
 

@@ -6,12 +6,12 @@ mod starting;
 
 ghost use Rattle.std.specs.Prelude.{◌≡◌, [], ◌∷◌, Some};
 ghost use Rattle.sc_actor.specs.System.{no_words};
-ghost use Rattle.sc_sound.specs.Players.{Lawful};
-ghost use Rattle.sc_scenario.specs.Grammar.{scenario_of};
-ghost use Rattle.sc_sound.specs.Example.{four};
-ghost use Rattle.sc_sound.specs.GroupsOf.{groups_at, ring_at};
-ghost use Rattle.sc_sound.specs.Logs.{decided_log};
-ghost use Rattle.sc_sound.specs.Soundness.{IsSound};
+ghost use Rattle.sc_meaning.specs.sound.Players.{Lawful};
+ghost use Rattle.sc_scenario.specs.scenario.Grammar.{scenario_of};
+ghost use Rattle.sc_meaning.specs.sound.Example.{four};
+ghost use Rattle.sc_meaning.specs.sound.GroupsOf.{groups_at, ring_at};
+ghost use Rattle.sc_meaning.specs.sound.Logs.{decided_log};
+ghost use Rattle.sc_meaning.specs.sound.Soundness.{IsSound};
 ghost use Rattle.sc_law_groups.specs.group.Example.{election_example, election_scenario};
 ghost use Rattle.sc_law_groups.specs.group.JoinExample.{join_example, join_scenario};
 ghost use Rattle.sc_law_groups.specs.whole.Laws.{LawfulJournalsAreSound, LawfulJournalsDecideInTurn, LawfulJournalsHoldBeside, MembersStayRosters};

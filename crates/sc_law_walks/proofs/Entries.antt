@@ -4,7 +4,7 @@ use Rattle.std.specs.Prelude.{nat_le}
 use Rattle.std.proofs.lemmas.Bool.{cond-true, eq-eqb}
 use Rattle.std.proofs.lemmas.List.{length_push}
 use Rattle.sc_node_table.specs.Values.{Command, Learnt}
-use Rattle.sc_paxos_words.specs.Definitions.{LogState, next_of, log_cut}
+use Rattle.sc_words.specs.paxos.Definitions.{LogState, next_of, log_cut}
 use Rattle.sc_node_table.specs.Definitions.{with_entry, entered, executed_one, next_child, has_room, ending, executed_ready, pumped, pumped_from, ReplicaState, Place, childless, next, first_set, may_offer, floor_of, forgotten, last_slot, at_slot}
 
 -- an entry is put behind the others

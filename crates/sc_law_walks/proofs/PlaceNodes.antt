@@ -5,8 +5,8 @@ use Rattle.std.proofs.lemmas.Bool.{eqb-true}
 use Rattle.sc_base.specs.Definitions.{Drawer, Each, same_draw}
 use Rattle.sc_node_table.specs.Values.{Draw, Input, Got, Base, OrderLine, Mail, MailBody, NotLeader, Request, Prepare, Accept, Learn, Ask, Install, TxPrepare, TxElsewhere, TxWatch, Told as ToldMail, Refused}
 use Rattle.sc_actor.specs.declared.rows.Input.TheVariants.{Tick, Go, Told}
-use Rattle.sc_cmd.specs.declared.orders.OrderRefusal.TheVariants.{NotLeader as OrderNotLeader}
-use Rattle.sc_paxos_words.proofs.Lemmas.{Each-weaker}
+use Rattle.sc_words.specs.declared.commands.orders.OrderRefusal.TheVariants.{NotLeader as OrderNotLeader}
+use Rattle.sc_words.proofs.PaxosProofs.Lemmas.{Each-weaker}
 use Rattle.sc_node_table.specs.Definitions.{sent, NodeState, replica_of, with_replica, is_before, with_new, group_of_mail, with_made, unknown, may_come, with_born, with_children, taken_by, routed, on_mail, group_of_order, ordered_of, node_table, ordered_row, ReplicaState, Place, Executed, name_of, last_slot, born_replica, made_by, mailed, slots_ahead, ticked, on_tick, tick_row, names_after_tick}
 use Rattle.sc_law_walks.proofs.Ways.{either_way}
 use Rattle.sc_law_walks.proofs.PlaceWalks.{PlaceWalk, PlaceBirths, PlaceTicks, Before, After, Hears}

@@ -7,9 +7,9 @@ use Rattle.std.proofs.lemmas.Bool.{cond_both, and_parts}
 use Rattle.sc_node_table.specs.Definitions.{slots_ahead, at_slot, has_act, with_act, act_queued, elected, ended, stopped, saw, left_gone, left, is_among, looked_for, looked, executed_one, next_child, has_room, next_ready, ending, executed_ready, all_ready, executed, install_to, turned_down, answered, Found, is_act, from_backlog, from_acts, from_queues, found_by, found_for, offered, pumped_from, pumped, ReplicaState, Place, next, members, settled, may_offer, first_set, childless, taken_at, under_way, is_idle, last_slot, next_queued}
 use Rattle.sc_node_table.specs.Values.{Ballot, Command, Route, AnswerBody, Mail, Must, Gap}
 use Rattle.sc_mail.specs.declared.bodies.AnswerBody.TheVariants as Says
-use Rattle.sc_paxos_words.specs.declared.answers.Must.TheVariants.{Value, Free as Open}
-use Rattle.sc_paxos_words.proofs.Lemmas.{at_least_itself}
-use Rattle.sc_paxos_words.specs.Definitions.{IsAtLeast, below, must}
+use Rattle.sc_words.specs.declared.paxos.answers.Must.TheVariants.{Value, Free as Open}
+use Rattle.sc_words.proofs.PaxosProofs.Lemmas.{at_least_itself}
+use Rattle.sc_words.specs.paxos.Definitions.{IsAtLeast, below, must}
 use Rattle.sc_law_walks.proofs.Calls.{next_found}
 use Rattle.sc_law_walks.proofs.Ways.{either_way}
 use Rattle.sc_law_walks.specs.Definitions.{IsFiled, IsFiledOnMail, IsKept, IfThere}

@@ -2,7 +2,7 @@
 use Rattle.std.proofs.Common.{ℕ, ◌||◌, not, nat_le, nat_lt, Bool, true, List, [], ◌∷◌, filter, Option, Some, None}
 use Rattle.sc_node_table.specs.Values.{Ballot, Command}
 use Rattle.sc_base.specs.Definitions.{is_member}
-use Rattle.sc_paxos_words.specs.Definitions.{without_flight_at, entry_at, prepared}
+use Rattle.sc_words.specs.paxos.Definitions.{without_flight_at, entry_at, prepared}
 use Rattle.sc_node_table.specs.Definitions.{welcomed, slot_lost, landed, executed_one, next_child, next_ready, ending, executed_ready, all_ready, executed, install_to, welcomed_all, pumped, put_back, ReplicaState, Place, Executed, childless, members, next, flying, taught, most_taught, ask_answered, ask_row, same_command, without_slot, promise_to, promised}
 use Rattle.sc_law_walks.proofs.Ways.{either_way}
 

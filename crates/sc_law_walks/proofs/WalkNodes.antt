@@ -2,7 +2,7 @@
 use Rattle.std.proofs.Common.{◌≡◌, List, []}
 use Rattle.sc_base.specs.Definitions.{Each}
 use Rattle.sc_node_table.specs.Values.{Input, OrderLine, Mail}
-use Rattle.sc_paxos_words.proofs.Lemmas.{Each-weaker}
+use Rattle.sc_words.proofs.PaxosProofs.Lemmas.{Each-weaker}
 use Rattle.sc_node_table.specs.Definitions.{NodeState, node_table, ReplicaState}
 use Rattle.sc_law_walks.proofs.PlaceWalks.{Before as BeforeAt, After as AfterAt}
 use Rattle.sc_law_walks.proofs.PlaceNodes as places

@@ -1,7 +1,7 @@
 -- What several laws say of a replica's step.
 use Rattle.std.specs.Prelude.{◌≡◌, ◌&&◌, false, Option, Some, None}
 use Rattle.sc_node_table.specs.Values.{Ballot, Command}
-use Rattle.sc_paxos_words.specs.Definitions.{below}
+use Rattle.sc_words.specs.paxos.Definitions.{below}
 use Rattle.sc_node_table.specs.Definitions.{ReplicaState}
 
 -- this ballot stops no leader: the replica does not run as a leader, or its ballot is not below this one

@@ -5,9 +5,9 @@ use Rattle.std.specs.Option.{option_map}
 use Rattle.std.proofs.lemmas.Bool.{cond_both, cond-true, cond-false, lt-leb, le-ltb, eq-eqb}
 use Rattle.sc_node_table.specs.Values.{Ballot, Draw, Op, Command, Call, Core, Mail, Accepted, AcceptAnswer, Flight, Report}
 use Rattle.sc_base.specs.Definitions.{is_member}
-use Rattle.sc_paxos_words.specs.declared.answers.AcceptAnswer.TheVariants as Asked
-use Rattle.sc_paxos_words.specs.Definitions.{AcceptorState, may_accept, after_accept, accepted as accepted_by, below, flight_at}
-use Rattle.sc_machine_table.specs.Definitions.{applied}
+use Rattle.sc_words.specs.declared.paxos.answers.AcceptAnswer.TheVariants as Asked
+use Rattle.sc_words.specs.paxos.Definitions.{AcceptorState, may_accept, after_accept, accepted as accepted_by, below, flight_at}
+use Rattle.sc_group_table.specs.machine.Definitions.{applied}
 use Rattle.sc_node_table.specs.Definitions.{saw, stopped, entered, executed_one, is_among, all_ready, executed, install_to, pumped, ReplicaState, Place, Executed, childless, name_of, next, members, flying, forgotten, last_slot, learn_row, hinted, accepted_to, took, accept_row}
 use Rattle.sc_law_walks.proofs.Lemmas.{idle_ready, idle_pump, cleared}
 use Rattle.sc_live_plain.specs.Definitions.{Frame, IsFrame, Requests, IsPlainCall, IsPlainFollower, IsPlainVoter, IsPlainReplica}

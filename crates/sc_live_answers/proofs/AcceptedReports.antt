@@ -2,10 +2,10 @@
 use Rattle.std.proofs.Common.{◌≡◌, ℕ, ◌&&◌, not, nat_le, nat_lt, Bool, true, false, cond, List, [], ◌∷◌, ◌++◌, length, Option, Some, None, refl, sym, ◌∙◌, ap, subst}
 use Rattle.sc_base.specs.Definitions.{Each, Drawer, same_ballot, is_majority, is_member}
 use Rattle.sc_node_table.specs.Values.{Ballot, Draw, Command, Base, OrderLine, MailBody, Request, Answer, Prepare, Promise, Accept, Accepted, Nack, Learn, Ask, Install, TxPrepare, TxVote, TxOutcome, TxElsewhere, TxWatch, TxWatched, Told, Flight, Report, AcceptAnswer, Counted, PrepareAnswer}
-use Rattle.sc_paxos_words.specs.declared.answers.AcceptAnswer.TheVariants as Asked
-use Rattle.sc_paxos_words.specs.declared.answers.PrepareAnswer.TheVariants as Prepared
-use Rattle.sc_paxos_words.specs.Definitions.{accepted as accepted_by, AcceptorState, reports_from, may_promise, may_accept, after_promise, after_accept, below, LeaderState, flight_at, promise_counted, prepared, counted, vote_at, voters_after, kept_voters}
-use Rattle.sc_paxos_words.proofs.Lemmas.{Each-filter}
+use Rattle.sc_words.specs.declared.paxos.answers.AcceptAnswer.TheVariants as Asked
+use Rattle.sc_words.specs.declared.paxos.answers.PrepareAnswer.TheVariants as Prepared
+use Rattle.sc_words.specs.paxos.Definitions.{accepted as accepted_by, AcceptorState, reports_from, may_promise, may_accept, after_promise, after_accept, below, LeaderState, flight_at, promise_counted, prepared, counted, vote_at, voters_after, kept_voters}
+use Rattle.sc_words.proofs.PaxosProofs.Lemmas.{Each-filter}
 use Rattle.sc_node_table.specs.Definitions.{stopped, saw, named, install_to, ordered_row, ReplicaState, Place, forgotten, floor_of, installed_replica, mailed, made_by, slots_ahead, hinted, promise_to, promised, prepare_row, accepted_to, took, accept_row, nack_row}
 use Rattle.sc_law_walks.specs.Definitions.{GoesOn}
 use Rattle.sc_law_walks.proofs.Lemmas.{promised_place, either_way}

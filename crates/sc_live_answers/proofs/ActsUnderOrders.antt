@@ -4,8 +4,8 @@ use Rattle.std.specs.Option.{option_map}
 use Rattle.std.proofs.lemmas.Bool.{cases_Bool, cond-true, cond-false}
 use Rattle.sc_base.specs.Definitions.{Among}
 use Rattle.sc_node_table.specs.Values.{Command, Noop, Call, Flight}
-use Rattle.sc_paxos_words.specs.Definitions.{flight_at}
-use Rattle.sc_paxos_words.proofs.Lemmas.{find_found}
+use Rattle.sc_words.specs.paxos.Definitions.{flight_at}
+use Rattle.sc_words.proofs.PaxosProofs.Lemmas.{find_found}
 use Rattle.sc_node_table.specs.Definitions.{is_act, ReplicaState, listed, at_slot}
 use Rattle.sc_live_steps.specs.orders.Definitions.{work_by, works_in, works_flying, works_ready, works, Work}
 use Rattle.sc_live_steps.proofs.OrdersProofs.Lemmas.{among-left, among-right}

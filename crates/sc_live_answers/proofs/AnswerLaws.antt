@@ -1,6 +1,6 @@
 -- What the budget of a calm scenario covers, and where its lines of deliveries end quiet: what is known of births, lines and orders, put together.
 use Rattle.sc_live_answers.proofs.GivenOrders.{orders_so}
-use Rattle.sc_scenario.proofs.Lemmas.{valid_scenarios_are_bounded}
+use Rattle.sc_scenario.proofs.ScenarioProofs.Lemmas.{valid_scenarios_are_bounded}
 use Rattle.sc_live_plain.proofs.Lemmas.{calm_lines_are_spaced, plain_lines_end_quiet}
 use Rattle.sc_live_answers.specs.GivenOrders.{OrdersMayBeGiven}
 use Rattle.sc_live_answers.proofs.LineEnds.{calm_end_quiet}

@@ -2,12 +2,12 @@
 use Rattle.std.proofs.Common.{◌≡◌, ◌<◌, ◌^◌, Some, None, inl, ◌∙◌, ap}
 use Rattle.sc_base.specs.Definitions.{IsArc}
 use Rattle.sc_node_table.specs.Values.{Draw, Free}
-use Rattle.sc_machine_table.specs.Definitions.{Group}
-use Rattle.sc_log_entries.specs.Definitions.{StoreWorld, named_group}
+use Rattle.sc_group_table.specs.machine.Definitions.{Group}
+use Rattle.sc_meaning.specs.entries.Definitions.{StoreWorld, named_group}
 use Rattle.sc_law_entries.specs.ring.Definitions.{StoryWorld, first_recorded, recorded_after}
 use Rattle.sc_law_entries.proofs.RingProofs.Lemmas.{decisions, eff, arc_of, store_after, at_start, serving, groups_in, KeptWorld, kept_after}
-use Rattle.sc_scenario.specs.Definitions.{ValidScenariosAreBounded}
-use Rattle.sc_sound.specs.Definitions.{entries_at, decided_state, as_nodes}
+use Rattle.sc_scenario.specs.scenario.Definitions.{ValidScenariosAreBounded}
+use Rattle.sc_meaning.specs.sound.Definitions.{entries_at, decided_state, as_nodes}
 use Rattle.sc_law_entries.proofs.LogsProofs.Lemmas.{state_there}
 use Rattle.sc_law_entries.specs.names.Definitions.{OtherNamesAreFree, TakenOrdersAreAllowed, TakenWishesAreAllowed, WishesAreAtPositions}
 use Rattle.sc_law_groups.specs.whole.Definitions.{ValidScenariosBeginWell}

@@ -6,9 +6,9 @@ use Rattle.std.proofs.lemmas.List.Sums.{sum_by-cons, sum_by-append}
 use Rattle.std.proofs.Math.Nat.{mul_comm, mul_left_comm, mul-add, mul-le-mul_left}
 use Rattle.sc_node_table.specs.Values.{Base, Seat}
 use Rattle.sc_node_table.specs.Definitions.{numbers_from}
-use Rattle.sc_scenario.specs.declared.scenarios.Asks.{Asks}
-use Rattle.sc_scenario.specs.declared.scenarios.Scenario.{Scenario}
-use Rattle.sc_sound.specs.Definitions.{Player, births, node_seat, client_seat, client_seats, route_of, as_nodes}
+use Rattle.sc_scenario.specs.declared.scenario.scenarios.Asks.{Asks}
+use Rattle.sc_scenario.specs.declared.scenario.scenarios.Scenario.{Scenario}
+use Rattle.sc_meaning.specs.sound.Definitions.{Player, births, node_seat, client_seat, client_seats, route_of, as_nodes}
 use Rattle.sc_live_steps.specs.calm.Definitions.{Chart, birth_owes, births_owe}
 use Rattle.sc_live_plain.specs.Definitions.{requests_of, orders_of, calm_budget_of}
 use Rattle.sc_live_plain.proofs.Lemmas.{shares, sum_mapped, none_together}

@@ -4,10 +4,10 @@ use Rattle.std.specs.Prelude.{is_some, nat_le}
 use Rattle.std.specs.List.{list_any}
 use Rattle.sc_base.specs.Definitions.{Among, Each, same_ballot, is_majority, is_member}
 use Rattle.sc_node_table.specs.Values.{Ballot, Op, Command, Call, Core, AnswerBody, Mail, Counted, Chosen, NotYet, Must, Gap, Flight, Report}
-use Rattle.sc_paxos_words.specs.declared.answers.Must.TheVariants.{Value, Free as Open}
-use Rattle.sc_paxos_words.specs.Definitions.{LeaderState, must, flight_at, without_flight_at, kept_voters, voters_after, with_voters, vote_at}
-use Rattle.sc_paxos_words.proofs.Lemmas.{Each-among, find_found, from_filter}
-use Rattle.sc_machine_table.specs.Definitions.{applied}
+use Rattle.sc_words.specs.declared.paxos.answers.Must.TheVariants.{Value, Free as Open}
+use Rattle.sc_words.specs.paxos.Definitions.{LeaderState, must, flight_at, without_flight_at, kept_voters, voters_after, with_voters, vote_at}
+use Rattle.sc_words.proofs.PaxosProofs.Lemmas.{Each-among, find_found, from_filter}
+use Rattle.sc_group_table.specs.machine.Definitions.{applied}
 use Rattle.sc_node_table.specs.Definitions.{entered, executed_one, has_room, next_ready, executed, Found, is_act, from_backlog, from_acts, from_queues, found_by, found_for, offered, pumped_from, pumped, queued_number, without_request, ReplicaState, Place, Executed, childless, next, settled, may_offer, set_at, taken_at, under_way, is_idle, forgotten, last_slot, queued, requested, refused_at, request_row, at_slot, with_slot, without_slot, leads, readied, vote_tallied, voted, accepted_row}
 use Rattle.sc_law_walks.proofs.Lemmas.{cleared, executed_place, either_way}
 use Rattle.sc_live_plain.specs.Definitions.{Frame, IsFrame, Requests, IsPlainCommand, IsPlainCall, IsPlainFlight, IsPlainGroup}

@@ -1,6 +1,6 @@
 -- That rows of a calm journal find what keeps it calm.
 use Rattle.sc_live_answers.proofs.ChartHints.{hints_rise}
-use Rattle.sc_scenario.proofs.Lemmas.{valid_scenarios_are_bounded}
+use Rattle.sc_scenario.proofs.ScenarioProofs.Lemmas.{valid_scenarios_are_bounded}
 use Rattle.sc_live_answers.proofs.RequestLaws.{lawful_replicas_are_named_once}
 use Rattle.sc_live_answers.proofs.PlayerViews.{views_agree}
 use Rattle.sc_live_answers.specs.Definitions.{ChartHintsRise, StagesAsk, OrderRowsFindCalm, GivenOrdersFindCalm, OrderChartsFollow}

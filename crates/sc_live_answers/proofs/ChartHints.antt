@@ -6,10 +6,10 @@ use Rattle.sc_base.proofs.Lemmas.{draw_is, same_name}
 use Rattle.sc_base.specs.Definitions.{Among, same_draw}
 use Rattle.sc_node_table.specs.Values.{Draw, Base, Route, Seat}
 use Rattle.sc_live_orderly.specs.Definitions.{orders}
-use Rattle.sc_scenario.specs.Definitions.{IsValid, ValidScenariosAreBounded}
-use Rattle.sc_scenario.specs.declared.scenarios.Scenario.{Scenario}
+use Rattle.sc_scenario.specs.scenario.Definitions.{IsValid, ValidScenariosAreBounded}
+use Rattle.sc_scenario.specs.declared.scenario.scenarios.Scenario.{Scenario}
 use Rattle.sc_node_table.specs.Definitions.{ReplicaState, name_of}
-use Rattle.sc_sound.specs.Definitions.{Player, births, as_nodes, Lawful}
+use Rattle.sc_meaning.specs.sound.Definitions.{Player, births, as_nodes, Lawful}
 use Rattle.sc_live_steps.specs.calm.Definitions.{players, Ways, StandsQuiet, Rows}
 use Rattle.sc_live_journals.specs.rows.Definitions.{view_at}
 use Rattle.sc_live_journals.specs.charts.Definitions.{all_replicas, latest_in, way_by, far_at, chart_at, quiet_prefix}

@@ -5,9 +5,9 @@ use Rattle.std.proofs.lemmas.Bool.{cases_Bool, and_parts}
 use Rattle.sc_base.proofs.Lemmas.{draw_is, same_name}
 use Rattle.sc_base.specs.Definitions.{Among, same_draw}
 use Rattle.sc_node_table.specs.Values.{Draw, Core, Lock, Free, Coordinating, Promised, Watching, Body, Heard, Seat}
-use Rattle.sc_cmd.specs.declared.bodies.Body.TheVariants as At
+use Rattle.sc_words.specs.declared.commands.bodies.Body.TheVariants as At
 use Rattle.sc_node_table.specs.Definitions.{asked_link, watcher_link, ReplicaState, name_of}
-use Rattle.sc_sound.specs.Definitions.{Player}
+use Rattle.sc_meaning.specs.sound.Definitions.{Player}
 use Rattle.sc_live_steps.specs.calm.Definitions.{Rows}
 use Rattle.sc_live_journals.specs.charts.Definitions.{all_replicas, asked_by, asked_in}
 use Rattle.sc_live_steps.specs.orders.Definitions.{Turn, First, Lone, Next, is_watch, Bond, Unbound, Asking, Bound, Here, Scene, turn_of, bond_in, bond_of, Leg, Mailed, Filed, closing, heard, bound_by, parties_of, Stage, Still, Ordered, Asks, SentOn, Weighs, Replied, Recorded, Closes, ClosesBoth, IsAt}

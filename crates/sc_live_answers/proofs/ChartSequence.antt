@@ -4,9 +4,9 @@ use Rattle.sc_base.specs.Definitions.{Among, Each}
 use Rattle.sc_node_table.specs.Values.{Draw, OrderLine, Mail, Seat, Event}
 use Rattle.sc_actor.specs.Definitions.{mails, copies, is_quiet, value, System, row_of, numbers_of}
 use Rattle.sc_live_orderly.specs.Definitions.{is_born, mail_with, under_way, AreInTime}
-use Rattle.sc_paxos_words.proofs.Lemmas.{Each-from}
-use Rattle.sc_scenario.specs.declared.scenarios.Scenario.{Scenario}
-use Rattle.sc_sound.specs.Definitions.{Player, player_table, births, as_nodes}
+use Rattle.sc_words.proofs.PaxosProofs.Lemmas.{Each-from}
+use Rattle.sc_scenario.specs.declared.scenario.scenarios.Scenario.{Scenario}
+use Rattle.sc_meaning.specs.sound.Definitions.{Player, player_table, births, as_nodes}
 use Rattle.sc_live_steps.specs.calm.Definitions.{players, MayFollow, Rows}
 use Rattle.sc_live_journals.specs.rows.Definitions.{view_at, with_event}
 use Rattle.sc_live_journals.specs.charts.Definitions.{all_replicas, asked_in, chart_at, WaitsForNone, AsksSame, ChartsFollow}

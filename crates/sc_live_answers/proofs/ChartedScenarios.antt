@@ -9,12 +9,12 @@ use Rattle.sc_actor.specs.Definitions.{mails, copies, System, numbers_of, is_del
 use Rattle.sc_live_orderly.specs.Definitions.{deliveries, orders, is_born, mail_with, HasRoom, under_way, AreInTime, AreSpaced, Nothing, IsMeasure, orders_given}
 use Rattle.sc_live_orderly.proofs.GivenOrders.{few_told, spaced_are_calm}
 use Rattle.sc_live_orderly.proofs.Lemmas.{count_push, rows_in_time, deliveries_and_orders, settled_in_time, uncut_before}
-use Rattle.sc_paxos_words.proofs.Lemmas.{Each-among, Each-from}
+use Rattle.sc_words.proofs.PaxosProofs.Lemmas.{Each-among, Each-from}
 use Rattle.sc_actor.proofs.Lemmas.{journal_counts}
 use Rattle.sc_mail.specs.Weight.{body_weight}
-use Rattle.sc_scenario.specs.Definitions.{IsValid, ValidScenariosAreBounded}
-use Rattle.sc_scenario.specs.declared.scenarios.Scenario.{Scenario}
-use Rattle.sc_sound.specs.Definitions.{Player, births, schedule, as_nodes, Lawful, system_of}
+use Rattle.sc_scenario.specs.scenario.Definitions.{IsValid, ValidScenariosAreBounded}
+use Rattle.sc_scenario.specs.declared.scenario.scenarios.Scenario.{Scenario}
+use Rattle.sc_meaning.specs.sound.Definitions.{Player, births, schedule, as_nodes, Lawful, system_of}
 use Rattle.sc_law_groups.proofs.WholeProofs.Lemmas.{all_apart}
 use Rattle.sc_law_groups.specs.whole.Definitions.{ValidJournalsAreSound}
 use Rattle.sc_live_steps.specs.calm.Definitions.{Chart, players, run_owes, KeptCalmIsMeasured, IsDelivered, RestingOwesLittle, births_owe, Rows}

@@ -4,14 +4,14 @@ use Rattle.sc_base.specs.Definitions.{Among, Each, same_draw, is_member}
 use Rattle.sc_node_table.specs.Values.{Draw, Command, Base, Route, Mail, MailBody, Accepted as AcceptedMail, Learn, Node, Client, Seat}
 use Rattle.sc_base.proofs.Lemmas.{same_name, draw_is}
 use Rattle.sc_actor.specs.Definitions.{mails, numbered, value}
-use Rattle.sc_machine_table.specs.Definitions.{group_of, state_after}
-use Rattle.sc_log_entries.proofs.Lemmas.{births_are_children}
-use Rattle.sc_paxos_words.proofs.Lemmas.{Each-among, Each-weaker, find_found}
+use Rattle.sc_group_table.specs.machine.Definitions.{group_of, state_after}
+use Rattle.sc_meaning.proofs.EntriesProofs.Lemmas.{births_are_children}
+use Rattle.sc_words.proofs.PaxosProofs.Lemmas.{Each-among, Each-weaker, find_found}
 use Rattle.sc_paxos_law.specs.Definitions.{IsLawfulHistory}
 use Rattle.sc_paxos_law.proofs.Lemmas.{Among-either, from_map}
-use Rattle.sc_scenario.specs.declared.scenarios.Scenario.{Scenario}
+use Rattle.sc_scenario.specs.declared.scenario.scenarios.Scenario.{Scenario}
 use Rattle.sc_node_table.specs.Definitions.{NodeState, replica_of, group_of_mail, ReplicaState, name_of, mailed, numbers_from}
-use Rattle.sc_sound.specs.Definitions.{groups_at, entries_at, decided_log, Ahead, Player, Lawful, births, node_seat, client_seat, player_table}
+use Rattle.sc_meaning.specs.sound.Definitions.{groups_at, entries_at, decided_log, Ahead, Player, Lawful, births, node_seat, client_seat, player_table}
 use Rattle.sc_law_entries.specs.ring.Definitions.{Sources}
 use Rattle.sc_law_entries.specs.logs.Definitions.{Rows, AreFound, StayRecorded, DecideInTurn}
 use Rattle.sc_law_entries.proofs.LogsProofs.Lemmas.{deciding_rows, groups_are_found, deciding_rows_stay, Told}

@@ -4,15 +4,15 @@ use Rattle.std.specs.Prelude.{is_some}
 use Rattle.std.proofs.lemmas.Bool.{cases_eq, cases_lt, cond-true, cond-false, ne_eqb}
 use Rattle.sc_base.specs.Definitions.{Among, is_member}
 use Rattle.sc_node_table.specs.Values.{Draw, Base, OrderLine, Mail, Seat, Event, Row}
-use Rattle.sc_machine_table.specs.Definitions.{group_of, state_after}
+use Rattle.sc_group_table.specs.machine.Definitions.{group_of, state_after}
 use Rattle.sc_actor.specs.Definitions.{mails, row_of}
 use Rattle.sc_live_orderly.specs.Definitions.{IsCalmEvent, AreInTime}
 use Rattle.sc_live_orderly.proofs.Lemmas.{by_time, last_in_time}
 use Rattle.sc_paxos_law.proofs.Lemmas.{Among-left, Among-right, Among-either}
-use Rattle.sc_scenario.specs.Definitions.{ValidScenariosAreBounded}
-use Rattle.sc_scenario.specs.declared.scenarios.Scenario.{Scenario}
+use Rattle.sc_scenario.specs.scenario.Definitions.{ValidScenariosAreBounded}
+use Rattle.sc_scenario.specs.declared.scenario.scenarios.Scenario.{Scenario}
 use Rattle.sc_node_table.specs.Definitions.{ReplicaState, listed}
-use Rattle.sc_sound.specs.Definitions.{decided_log, Player, player_table, births, as_nodes}
+use Rattle.sc_meaning.specs.sound.Definitions.{decided_log, Player, player_table, births, as_nodes}
 use Rattle.sc_live_steps.specs.calm.Definitions.{players, HasReplica}
 use Rattle.sc_law_entries.specs.logs.Definitions.{Rows}
 use Rattle.sc_live_steps.specs.following.Definitions.{Mark, Tells, Course, Sets, members_at, Tellers, IsRow, reported_of, told_from, marks_for}

@@ -10,9 +10,9 @@ use Rattle.sc_actor.specs.declared.rows.Event.TheVariants.{Told}
 use Rattle.sc_actor.specs.Definitions.{mails, value, row_of}
 use Rattle.sc_live_orderly.specs.Definitions.{IsTidy, IsCalmEvent, AreInTime}
 use Rattle.sc_live_orderly.proofs.Lemmas.{in_time_before, in_time_tidy, takes_first, is_born-from}
-use Rattle.sc_scenario.specs.declared.scenarios.Scenario.{Scenario}
+use Rattle.sc_scenario.specs.declared.scenario.scenarios.Scenario.{Scenario}
 use Rattle.sc_node_table.specs.Definitions.{NodeState, replica_of, with_replica, with_new, with_born, with_children, group_of_mail, may_come, taken_by, routed, on_mail, group_of_order, ordered_row, ReplicaState, Executed, listed, name_of, next, born_replica, mailed, stepped, slots_ahead}
-use Rattle.sc_sound.specs.Definitions.{decided_log, Player, player_table, births, as_nodes}
+use Rattle.sc_meaning.specs.sound.Definitions.{decided_log, Player, player_table, births, as_nodes}
 use Rattle.sc_live_steps.specs.calm.Definitions.{players}
 use Rattle.sc_live_steps.proofs.CalmProofs.Lemmas.{children_found}
 use Rattle.sc_law_entries.specs.logs.Definitions.{Rows}

@@ -3,11 +3,11 @@ use Rattle.std.proofs.Common.{◌≡◌, ◌⊎◌, ℕ, zero, suc, ◌+◌, ◌
 use Rattle.std.proofs.lemmas.List.{take-append-drop}
 use Rattle.sc_base.specs.Definitions.{Among}
 use Rattle.sc_node_table.specs.Values.{Draw, Command, Base, Route}
-use Rattle.sc_machine_table.specs.Definitions.{child_by, Group, group_of, state_after, right_members}
-use Rattle.sc_scenario.specs.Definitions.{ValidScenariosAreBounded}
-use Rattle.sc_scenario.specs.declared.scenarios.Scenario.{Scenario}
+use Rattle.sc_group_table.specs.machine.Definitions.{child_by, Group, group_of, state_after, right_members}
+use Rattle.sc_scenario.specs.scenario.Definitions.{ValidScenariosAreBounded}
+use Rattle.sc_scenario.specs.declared.scenario.scenarios.Scenario.{Scenario}
 use Rattle.sc_node_table.specs.Definitions.{ReplicaState, next}
-use Rattle.sc_sound.specs.Definitions.{groups_at, children_of, decided_log, births, as_nodes, route_of}
+use Rattle.sc_meaning.specs.sound.Definitions.{groups_at, children_of, decided_log, births, as_nodes, route_of}
 use Rattle.sc_law_entries.specs.logs.Definitions.{AreFound}
 use Rattle.sc_law_entries.specs.ring.Definitions.{Sources}
 use Rattle.sc_law_entries.specs.names.Definitions.{OtherNamesAreFree, TakenOrdersAreAllowed, TakenWishesAreAllowed, WishesAreAtPositions, owner_in}
@@ -20,7 +20,7 @@ use Rattle.sc_live_journals.proofs.LogsProofs.Lemmas.{found}
 use Rattle.sc_live_answers.specs.Definitions.{ReplicasRunLogs, IsCalmJournal, IsPrefixOf}
 use Rattle.sc_live_answers.proofs.KnownChildren.{HasCreated, stays_born, kid_members, new_born}
 use Rattle.sc_live_answers.proofs.Lineage.{log_gains, take_more, last_child}
-use Rattle.sc_machine_table.proofs.Lemmas.{state_push}
+use Rattle.sc_group_table.proofs.MachineProofs.Lemmas.{state_push}
 
 -- the laws of journals that are used
 pub record OfJournals : Type 0 where

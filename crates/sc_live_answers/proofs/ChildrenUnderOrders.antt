@@ -6,9 +6,9 @@ use Rattle.sc_base.specs.Definitions.{Each, same_draw}
 use Rattle.sc_node_table.specs.Values.{Draw, Base, MailBody, Prepare, Promise, Accept, Accepted, Learn, Install, Seat}
 use Rattle.sc_base.proofs.Lemmas.{draw_is}
 use Rattle.sc_live_orderly.specs.Definitions.{AreInTime}
-use Rattle.sc_paxos_words.proofs.Lemmas.{Each-among, Each-weaker, find_found}
+use Rattle.sc_words.proofs.PaxosProofs.Lemmas.{Each-among, Each-weaker, find_found}
 use Rattle.sc_node_table.specs.Definitions.{group_of_mail, ReplicaState, mailed}
-use Rattle.sc_sound.specs.Definitions.{Player, births, as_nodes}
+use Rattle.sc_meaning.specs.sound.Definitions.{Player, births, as_nodes}
 use Rattle.sc_live_steps.specs.calm.Definitions.{players, Rows}
 use Rattle.sc_live_steps.specs.following.Definitions.{Mark, named_mark, mark_of}
 use Rattle.sc_live_journals.specs.rows.Definitions.{view_at, replica_in}

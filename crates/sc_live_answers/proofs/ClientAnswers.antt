@@ -4,12 +4,12 @@ use Rattle.std.specs.Prelude.{slice_get}
 use Rattle.std.proofs.lemmas.Option.{slice_get_within}
 use Rattle.sc_base.specs.Definitions.{Among, Arc, client_actor, key_of, pos_of}
 use Rattle.sc_node_table.specs.Values.{Draw, Op, Reply, Link, Route, AnswerBody, Value, NotLeader, NotMine, Gone, Stale, Mail, MailBody, Answer}
-use Rattle.sc_ideal.specs.Definitions.{holds_key}
-use Rattle.sc_lookup.specs.Definitions.{KnownGroups, way_to, chosen, target_in}
-use Rattle.sc_lookup.specs.declared.ways.Way.{Way}
+use Rattle.sc_words.specs.ideal.Definitions.{holds_key}
+use Rattle.sc_client_table.specs.lookup.Definitions.{KnownGroups, way_to, chosen, target_in}
+use Rattle.sc_client_table.specs.declared.lookup.ways.Way.{Way}
 use Rattle.sc_paxos_law.proofs.Lemmas.{from_map, Among-left}
-use Rattle.sc_client_table.specs.Definitions.{Client as ClientState}
-use Rattle.sc_scenario.specs.declared.scenarios.Asks.{Asks}
+use Rattle.sc_client_table.specs.table.Definitions.{Client as ClientState}
+use Rattle.sc_scenario.specs.declared.scenario.scenarios.Asks.{Asks}
 use Rattle.sc_live_steps.specs.calm.Definitions.{Chart, AsksWithin, IsInTurn, LearnsOf, LeavesFor, MayHear, HearsCalmly}
 use Rattle.sc_live_plain.specs.Definitions.{IsLinkedSetting, Knows, IsCalmClient, FollowedBy, AreRoundRing, KnowsFirst, Setting, HasGoneTo, IsSetting, IsAsideBody, IsCalmMail, Frame, IsWaiting, IsBegun, Requests, IsPlainBody}
 use Rattle.sc_live_plain.proofs.Lemmas.{unasked, name_in, id_of, learn_in_turn, some_is}

@@ -4,11 +4,11 @@ use Rattle.std.specs.Prelude.{is_some, option_map}
 use Rattle.std.proofs.lemmas.Bool.{eqb-true, eq-eqb, and_from, cases_lt, cond-true, lt-ltb}
 use Rattle.sc_base.specs.Definitions.{Among, Each, IsRoster}
 use Rattle.sc_node_table.specs.Values.{Base, Command, Flight, Seat}
-use Rattle.sc_paxos_words.specs.Definitions.{flight_at}
-use Rattle.sc_paxos_words.proofs.Lemmas.{find_found, Each-among}
-use Rattle.sc_machine_table.specs.Definitions.{applied}
+use Rattle.sc_words.specs.paxos.Definitions.{flight_at}
+use Rattle.sc_words.proofs.PaxosProofs.Lemmas.{find_found, Each-among}
+use Rattle.sc_group_table.specs.machine.Definitions.{applied}
 use Rattle.sc_node_table.specs.Definitions.{has_room, ReplicaState, next, last_slot, flying, either, listed, at_slot, slots_ahead}
-use Rattle.sc_sound.specs.Definitions.{Player}
+use Rattle.sc_meaning.specs.sound.Definitions.{Player}
 use Rattle.sc_live_steps.specs.calm.Definitions.{IsServedCall, MayCount, MayPump, Rows}
 use Rattle.sc_live_steps.specs.following.Definitions.{Course, Sets, Tellers, IsLeadOf}
 use Rattle.sc_live_journals.specs.rows.Definitions.{view_at, progress_at}

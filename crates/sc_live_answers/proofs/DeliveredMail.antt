@@ -4,10 +4,10 @@ use Rattle.std.proofs.lemmas.Bool.{cases_Bool}
 use Rattle.sc_node_table.specs.Values.{Draw, Command, Base, Mail, MailBody, Request, Answer, Prepare, Promise, Accept, Accepted, Nack, Learn, Ask, Install, TxPrepare, TxVote, TxOutcome, TxElsewhere, TxWatch, TxWatched, Told as ToldMail, Node, Seat, Deliver}
 use Rattle.sc_base.specs.Definitions.{is_member}
 use Rattle.sc_actor.specs.Definitions.{mails, are_apart, row_of}
-use Rattle.sc_paxos_words.specs.Definitions.{below}
+use Rattle.sc_words.specs.paxos.Definitions.{below}
 use Rattle.sc_node_table.specs.Definitions.{entered, NodeState, replica_of, group_of_mail, may_come, ReplicaState, Place, next, mailed}
 use Rattle.sc_law_walks.proofs.Lemmas.{entered_next}
-use Rattle.sc_sound.specs.Definitions.{Player, player_table}
+use Rattle.sc_meaning.specs.sound.Definitions.{Player, player_table}
 use Rattle.sc_live_steps.specs.calm.Definitions.{players, MayCount, MayTake, StaysIn, IsCalmMailAt, Takes as TakesAt, Learns as LearnsAt, Makes as MakesAt, Misses as MissesAt, MayPump, Follows, group_owes, after_mail, MayMiss, Ways, StandsOnce, Rows, led_elsewhere}
 use Rattle.sc_live_steps.proofs.CalmProofs.Lemmas.{unbound_new}
 use Rattle.sc_live_steps.specs.following.Definitions.{Mark, Asks, Votes, Tells, Installs, Prepares, Promises, mark_of, Course, Progress, Sets, members_at, IsHeir, Tellers, AreHeeded, Stays}

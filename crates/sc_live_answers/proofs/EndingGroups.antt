@@ -4,8 +4,8 @@ use Rattle.std.proofs.lemmas.Option.{none-some}
 use Rattle.sc_node_table.specs.Values.{Draw, Offer, Route}
 use Rattle.sc_node_table.specs.Definitions.{ReplicaState}
 use Rattle.sc_law_entries.specs.ring.Definitions.{Story}
-use Rattle.sc_scenario.specs.declared.scenarios.Scenario.{Scenario}
-use Rattle.sc_sound.specs.Definitions.{as_nodes}
+use Rattle.sc_scenario.specs.declared.scenario.scenarios.Scenario.{Scenario}
+use Rattle.sc_meaning.specs.sound.Definitions.{as_nodes}
 use Rattle.sc_law_groups.specs.whole.Definitions.{stories_at}
 use Rattle.sc_live_steps.specs.calm.Definitions.{Rows}
 use Rattle.sc_live_journals.specs.logs.Definitions.{IsGroupOf}

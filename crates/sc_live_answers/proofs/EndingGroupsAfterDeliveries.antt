@@ -4,11 +4,11 @@ use Rattle.std.proofs.lemmas.Option.{none-some, same_Some}
 use Rattle.sc_base.specs.Definitions.{Among, Each}
 use Rattle.sc_node_table.specs.Values.{Draw, Seat, Deliver, Command, Split, Begin, Base, Route, Flight}
 use Rattle.sc_actor.specs.Definitions.{row_of}
-use Rattle.sc_machine_table.specs.Definitions.{Group}
+use Rattle.sc_group_table.specs.machine.Definitions.{Group}
 use Rattle.sc_node_table.specs.Definitions.{Place, ReplicaState, born_replica, listed, next, slots_ahead}
-use Rattle.sc_paxos_words.proofs.Lemmas.{Each-among}
-use Rattle.sc_scenario.specs.declared.scenarios.Scenario.{Scenario}
-use Rattle.sc_sound.specs.Definitions.{groups_at, Player, as_nodes, births, player_table}
+use Rattle.sc_words.proofs.PaxosProofs.Lemmas.{Each-among}
+use Rattle.sc_scenario.specs.declared.scenario.scenarios.Scenario.{Scenario}
+use Rattle.sc_meaning.specs.sound.Definitions.{groups_at, Player, as_nodes, births, player_table}
 use Rattle.sc_live_steps.specs.following.Definitions.{Course}
 use Rattle.sc_live_steps.specs.calm.Definitions.{StandsQuiet, Rows}
 use Rattle.sc_live_journals.specs.groups.Definitions.{RowElects, RowLeads, RowMakes, RowPasses, RowRests, RowTakes}

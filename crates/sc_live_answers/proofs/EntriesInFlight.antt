@@ -5,13 +5,13 @@ use Rattle.std.proofs.lemmas.Bool.{cond_both, or_left, or_right, eq-eqb}
 use Rattle.std.proofs.lemmas.Option.{none-some}
 use Rattle.sc_base.specs.Definitions.{Among, Each, same_draw, IsRoster, is_member, with_member, united, with_any}
 use Rattle.sc_node_table.specs.Values.{Draw, Body, Command, Noop, Call, Split, GiveUp, RecordWatch, Base, Core, Lock, Free, Coordinating, Promised, Watching, Effect, Heard, Past, Flight}
-use Rattle.sc_cmd.specs.declared.bodies.Body.TheVariants as At
-use Rattle.sc_cmd.specs.declared.votes.Past.TheVariants as Cast
-use Rattle.sc_machine_table.specs.Definitions.{Group, group_of, applied, can_split, may_merge, staying, released, watch_recorded, asks_watcher, committed}
-use Rattle.sc_paxos_words.proofs.Lemmas.{Each-among}
-use Rattle.sc_scenario.specs.declared.scenarios.Scenario.{Scenario}
+use Rattle.sc_words.specs.declared.commands.bodies.Body.TheVariants as At
+use Rattle.sc_words.specs.declared.commands.votes.Past.TheVariants as Cast
+use Rattle.sc_group_table.specs.machine.Definitions.{Group, group_of, applied, can_split, may_merge, staying, released, watch_recorded, asks_watcher, committed}
+use Rattle.sc_words.proofs.PaxosProofs.Lemmas.{Each-among}
+use Rattle.sc_scenario.specs.declared.scenario.scenarios.Scenario.{Scenario}
 use Rattle.sc_node_table.specs.Definitions.{ReplicaState, forgotten, members, next, entered, asked_link, before_of}
-use Rattle.sc_sound.specs.Definitions.{decided_log, births, as_nodes}
+use Rattle.sc_meaning.specs.sound.Definitions.{decided_log, births, as_nodes}
 use Rattle.sc_law_groups.specs.whole.Definitions.{MembersStayRosters}
 use Rattle.sc_live_steps.specs.calm.Definitions.{newcomers, Rows}
 use Rattle.sc_live_steps.specs.orders.Definitions.{bond_in, bond_of, is_cast_yes, work_by, Work, Opens, Records, GivesUp, Here, Turn, First, Lone, Next, is_watch, Asking, Stage, IsAt, IsVote}

@@ -1,6 +1,6 @@
 -- Members of a group learn all entries, in a journal whose rows come in time.
 use Rattle.std.proofs.Common.{[], ◌∷◌, ◌++◌, ◌∙◌, sym, ap, append_assoc, append-nil}
-use Rattle.sc_sound.specs.Definitions.{births, as_nodes}
+use Rattle.sc_meaning.specs.sound.Definitions.{births, as_nodes}
 use Rattle.sc_live_journals.specs.logs.Definitions.{logged_sets}
 use Rattle.sc_live_journals.specs.groups.Definitions.{GroupsAreTaughtThrough, ScenariosAreWellBorn}
 use Rattle.sc_live_answers.specs.Definitions.{over_at, LedLogsAreOne, GroupsBeginTaught, GroupsAreTaught, slot_leaders_at, GroupsAreLed}

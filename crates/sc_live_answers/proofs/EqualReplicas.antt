@@ -5,12 +5,12 @@ use Rattle.sc_base.specs.Definitions.{Among, same_draw}
 use Rattle.sc_node_table.specs.Values.{Draw, Base, Node, Client}
 use Rattle.sc_base.proofs.Lemmas.{draw_is}
 use Rattle.sc_actor.specs.Definitions.{value}
-use Rattle.sc_paxos_words.proofs.Lemmas.{find_found}
-use Rattle.sc_machine_table.specs.Definitions.{group_of, state_after}
+use Rattle.sc_words.proofs.PaxosProofs.Lemmas.{find_found}
+use Rattle.sc_group_table.specs.machine.Definitions.{group_of, state_after}
 use Rattle.sc_node_table.specs.Definitions.{replica_of, is_node, ReplicaState, name_of, next}
-use Rattle.sc_scenario.specs.declared.scenarios.Scenario.{Scenario}
-use Rattle.sc_scenario.specs.Definitions.{ValidScenariosAreBounded}
-use Rattle.sc_sound.specs.Definitions.{groups_at, decided_log, Player, player_table, node_seat, route_of, as_nodes, HasRun, AllHaveRun}
+use Rattle.sc_scenario.specs.declared.scenario.scenarios.Scenario.{Scenario}
+use Rattle.sc_scenario.specs.scenario.Definitions.{ValidScenariosAreBounded}
+use Rattle.sc_meaning.specs.sound.Definitions.{groups_at, decided_log, Player, player_table, node_seat, route_of, as_nodes, HasRun, AllHaveRun}
 use Rattle.sc_law_entries.specs.names.Definitions.{OtherNamesAreFree, TakenOrdersAreAllowed, TakenWishesAreAllowed, WishesAreAtPositions, owner_in}
 use Rattle.sc_law_entries.specs.logs.Definitions.{GroupsAreFound}
 use Rattle.sc_law_groups.specs.whole.Definitions.{section_op, ValidScenariosBeginWell, LawfulJournalsDecideInTurn, ValidJournalsAreSound}

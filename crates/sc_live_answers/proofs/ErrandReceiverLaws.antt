@@ -5,7 +5,7 @@ use Rattle.sc_live_answers.specs.Definitions.{RefusalsGoToNodes, OrderErrandsGoT
 use Rattle.sc_live_answers.proofs.OrderErrands.{ordered_home}
 use Rattle.sc_live_answers.proofs.QuietPrefixLaws.{prefixes_are_found, members_are_home}
 use Rattle.sc_live_answers.proofs.RequestErrands.{requests_send_no_errands as requests_send_no_errands_by}
-use Rattle.sc_scenario.proofs.Lemmas.{valid_scenarios_are_bounded}
+use Rattle.sc_scenario.proofs.ScenarioProofs.Lemmas.{valid_scenarios_are_bounded}
 use Rattle.sc_live_answers.proofs.SettingLaws.{quiet_journals_have_frames}
 use Rattle.sc_live_answers.proofs.CalmRowLaws.{chart_hints_rise}
 use Rattle.sc_live_plain.proofs.Lemmas.{quiet_journals_ask, nodes_stay_calm}

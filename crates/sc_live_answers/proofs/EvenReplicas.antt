@@ -4,7 +4,7 @@ use Rattle.std.proofs.lemmas.Bool.{cases_Bool}
 use Rattle.sc_node_table.specs.Values.{Draw, Base, Seat}
 use Rattle.sc_base.specs.Definitions.{is_member, least_of}
 use Rattle.sc_node_table.specs.Definitions.{ReplicaState}
-use Rattle.sc_sound.specs.Definitions.{Player}
+use Rattle.sc_meaning.specs.sound.Definitions.{Player}
 use Rattle.sc_live_steps.specs.calm.Definitions.{players, HasReplica, Rows}
 use Rattle.sc_live_steps.specs.following.Definitions.{Course, Progress, Sets, members_at, IsEven, IsEvenLed, Tellers}
 use Rattle.sc_live_steps.proofs.FollowingProofs.Lemmas.{quiet-even, least_in}

@@ -4,10 +4,10 @@ use Rattle.std.proofs.lemmas.Bool.{cond-true}
 use Rattle.sc_base.specs.Definitions.{Among, is_member, least_of}
 use Rattle.sc_node_table.specs.Values.{Base}
 use Rattle.sc_live_orderly.specs.Definitions.{AreInTime}
-use Rattle.sc_scenario.specs.Definitions.{IsBounded, ValidScenariosAreBounded}
-use Rattle.sc_scenario.specs.declared.scenarios.Scenario.{Scenario}
+use Rattle.sc_scenario.specs.scenario.Definitions.{IsBounded, ValidScenariosAreBounded}
+use Rattle.sc_scenario.specs.declared.scenario.scenarios.Scenario.{Scenario}
 use Rattle.sc_node_table.specs.Definitions.{born_replica, slots_ahead}
-use Rattle.sc_sound.specs.Definitions.{births, as_nodes}
+use Rattle.sc_meaning.specs.sound.Definitions.{births, as_nodes}
 use Rattle.sc_live_steps.specs.calm.Definitions.{players, HasReplica}
 use Rattle.sc_law_entries.specs.logs.Definitions.{Rows}
 use Rattle.sc_live_steps.proofs.FollowingProofs.Lemmas.{least_in}

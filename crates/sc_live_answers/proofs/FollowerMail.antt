@@ -17,14 +17,14 @@ use Rattle.sc_live_steps.specs.orders.Definitions.{works}
 use Rattle.sc_live_journals.proofs.RowsProofs.Lemmas.{asides_still, same_some, rows_replicas, view_was}
 use Rattle.sc_live_journals.specs.rows.Definitions.{mark_in, taken_mark, view_at, IsReplicasRow, with_event}
 use Rattle.sc_live_journals.specs.scenes.Definitions.{IsOrdered, BesideFinds, IsThere, IsBeside, Led, Unled, LeadsAlone, NewestAreBound}
-use Rattle.sc_cmd.specs.declared.orders.OrderRefusal.TheVariants.{NotLeader}
+use Rattle.sc_words.specs.declared.commands.orders.OrderRefusal.TheVariants.{NotLeader}
 use Rattle.sc_live_steps.specs.following.Definitions.{Asks, Installs, Mark, Prepares, Promises, Tells, Votes, mark_of, named_mark}
 use Rattle.sc_law_walks.specs.Definitions.{GoesOn}
-use Rattle.sc_machine_table.specs.Definitions.{refusal_of}
+use Rattle.sc_group_table.specs.machine.Definitions.{refusal_of}
 use Rattle.sc_node_table.specs.Definitions.{NodeState, group_of_order, first_of_both, named_refused, ordered_command, ordered_row, untaken, Place, ReplicaState, first_set, may_offer, settled, mailed}
 use Rattle.sc_live_orderly.specs.Definitions.{AreInTime}
-use Rattle.sc_paxos_words.specs.Definitions.{below}
-use Rattle.sc_sound.specs.Definitions.{Player}
+use Rattle.sc_words.specs.paxos.Definitions.{below}
+use Rattle.sc_meaning.specs.sound.Definitions.{Player}
 
 -- the mark of a mail
 named_is : (name group : Draw) (mark other : Mark) → named_mark name group mark ≡ Some other → mark ≡ other

@@ -4,7 +4,7 @@ use Rattle.sc_base.specs.Definitions.{same_draw, IsRoster}
 use Rattle.sc_node_table.specs.Values.{Draw, Command, Base, OrderLine, Seat, Event}
 use Rattle.sc_actor.specs.Definitions.{mails}
 use Rattle.sc_node_table.specs.Definitions.{entered, ReplicaState, Place, next}
-use Rattle.sc_sound.specs.Definitions.{Player}
+use Rattle.sc_meaning.specs.sound.Definitions.{Player}
 use Rattle.sc_live_steps.specs.calm.Definitions.{AreNines, StaysBehind, Rows}
 use Rattle.sc_live_steps.specs.following.Definitions.{Mark, named_mark, next_by, Course, Sets, Tellers, AreAt, Stays}
 use Rattle.sc_live_steps.proofs.FollowingProofs.Lemmas.{looked_same, over, over_off, place2, looks}

@@ -9,10 +9,10 @@ use Rattle.sc_node_table.specs.Values.{Draw, Base, OrderLine, Mail, Row}
 use Rattle.sc_actor.specs.Definitions.{value}
 use Rattle.sc_node_table.specs.Definitions.{is_node, replica_of, ReplicaState, name_of, numbers_from}
 use Rattle.sc_paxos_law.proofs.Lemmas.{Among-flat_map, from_flat_map, from_map}
-use Rattle.sc_paxos_words.proofs.Lemmas.{Among-filter, Each-among, find_found}
-use Rattle.sc_scenario.specs.declared.scenarios.Scenario.{Scenario}
-use Rattle.sc_scenario.specs.Definitions.{IsValid, ValidScenariosAreBounded}
-use Rattle.sc_sound.specs.Definitions.{Player, player_table, node_seat, as_nodes, Lawful}
+use Rattle.sc_words.proofs.PaxosProofs.Lemmas.{Among-filter, Each-among, find_found}
+use Rattle.sc_scenario.specs.declared.scenario.scenarios.Scenario.{Scenario}
+use Rattle.sc_scenario.specs.scenario.Definitions.{IsValid, ValidScenariosAreBounded}
+use Rattle.sc_meaning.specs.sound.Definitions.{Player, player_table, node_seat, as_nodes, Lawful}
 use Rattle.sc_live_steps.specs.calm.Definitions.{StandsQuiet}
 use Rattle.sc_live_plain.specs.Definitions.{replicas_after, IsQuietJournal, frame_at_rest, replicas_of, Frame}
 use Rattle.sc_live_plain.proofs.Lemmas.{in_numbers, to_numbers, map_among}

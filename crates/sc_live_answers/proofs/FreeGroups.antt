@@ -3,10 +3,10 @@ use Rattle.std.proofs.Common.{◌≡◌, ℕ, true, List, Option, Some, None, re
 use Rattle.sc_base.specs.Definitions.{Among}
 use Rattle.sc_node_table.specs.Values.{Base, Free}
 use Rattle.sc_actor.specs.Definitions.{numbers_of}
-use Rattle.sc_machine_table.specs.Definitions.{Group}
-use Rattle.sc_scenario.specs.declared.scenarios.Scenario.{Scenario}
+use Rattle.sc_group_table.specs.machine.Definitions.{Group}
+use Rattle.sc_scenario.specs.declared.scenario.scenarios.Scenario.{Scenario}
 use Rattle.sc_node_table.specs.Definitions.{ReplicaState}
-use Rattle.sc_sound.specs.Definitions.{groups_at, decided_state, births, as_nodes}
+use Rattle.sc_meaning.specs.sound.Definitions.{groups_at, decided_state, births, as_nodes}
 use Rattle.sc_law_entries.specs.logs.Definitions.{Rows}
 use Rattle.sc_live_steps.specs.orders.Definitions.{bond_of, Bond, Here, Still, IsAt}
 use Rattle.sc_live_journals.specs.rows.Definitions.{view_at}

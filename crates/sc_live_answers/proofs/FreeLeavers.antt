@@ -1,14 +1,14 @@
 -- By each command a group loses no member, or it is locked in no transaction after it.
 use Rattle.std.proofs.Common.{◌≡◌, ℕ, ◌+◌, ◌-◌, Bool, true, false, cond, zero, suc, take, List, [], ◌∷◌, Option, Some, None, ◌⊎◌, inl, inr, refl, sym, ◌∙◌, ap, subst, arith}
-use Rattle.sc_cmd.specs.Definitions.{is_alone}
+use Rattle.sc_words.specs.commands.Definitions.{is_alone}
 use Rattle.sc_node_table.specs.Values.{Lock, Free, Coordinating, Promised, Watching, Route, Command, Noop, Call, Join, Leave, Split, Begin, Prepared, RecordVote, GiveUp, Finish, Watched, RecordWatch, Core, Draw, Body, Frozen, Heard, No, Outcome, Past, Vote, NoEffect, Changed, Decided, Base}
 use Rattle.sc_base.specs.Definitions.{same_draw, is_member}
 use Rattle.sc_live_steps.proofs.FollowingProofs.Lemmas.{with_kept}
-use Rattle.sc_cmd.specs.declared.bodies.Body.TheVariants as Does
-use Rattle.sc_cmd.specs.declared.votes.Past.TheVariants as Cast
-use Rattle.sc_cmd.specs.declared.votes.Vote.TheVariants as Says
-use Rattle.sc_machine_table.specs.Definitions.{Group, participant_after, watcher_after, party_freed, settled_in, finished, applied, ordered_by, split_group, refusal_of, refused_in, refused_free, locked_in, ordered, with_node, without_node, Plan, split_plan, merge_plan, closing_plan, repart_plan, migrate_plan, has_named, left_group, begun_group, aborted, committed, heard_group, granted, participant_answered, asks_watcher, vote_recorded, released, watch_answered, watch_recorded, is_coordinating, has_voted, vote_of, watch_vote_of, voted_on, state_after, group_of}
-use Rattle.sc_sound.specs.Definitions.{decided_log, Ahead}
+use Rattle.sc_words.specs.declared.commands.bodies.Body.TheVariants as Does
+use Rattle.sc_words.specs.declared.commands.votes.Past.TheVariants as Cast
+use Rattle.sc_words.specs.declared.commands.votes.Vote.TheVariants as Says
+use Rattle.sc_group_table.specs.machine.Definitions.{Group, participant_after, watcher_after, party_freed, settled_in, finished, applied, ordered_by, split_group, refusal_of, refused_in, refused_free, locked_in, ordered, with_node, without_node, Plan, split_plan, merge_plan, closing_plan, repart_plan, migrate_plan, has_named, left_group, begun_group, aborted, committed, heard_group, granted, participant_answered, asks_watcher, vote_recorded, released, watch_answered, watch_recorded, is_coordinating, has_voted, vote_of, watch_vote_of, voted_on, state_after, group_of}
+use Rattle.sc_meaning.specs.sound.Definitions.{decided_log, Ahead}
 use Rattle.sc_law_entries.specs.logs.Definitions.{Rows}
 use Rattle.sc_live_steps.specs.following.Definitions.{members_at}
 use Rattle.sc_live_journals.specs.logs.Definitions.{logged_sets}

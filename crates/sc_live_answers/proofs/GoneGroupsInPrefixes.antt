@@ -9,11 +9,11 @@ use Rattle.sc_node_table.specs.Values.{Draw, Route, Node, Client, Seat}
 use Rattle.sc_base.proofs.Lemmas.{draw_is, same_name}
 use Rattle.sc_actor.specs.Definitions.{value}
 use Rattle.sc_paxos_law.proofs.Lemmas.{Among-left, Among-right, Among-either, from_map}
-use Rattle.sc_paxos_words.proofs.Lemmas.{find_found}
-use Rattle.sc_scenario.specs.Definitions.{ValidScenariosAreBounded}
-use Rattle.sc_scenario.specs.declared.scenarios.Scenario.{Scenario}
+use Rattle.sc_words.proofs.PaxosProofs.Lemmas.{find_found}
+use Rattle.sc_scenario.specs.scenario.Definitions.{ValidScenariosAreBounded}
+use Rattle.sc_scenario.specs.declared.scenario.scenarios.Scenario.{Scenario}
 use Rattle.sc_node_table.specs.Definitions.{NodeState, replica_of, ReplicaState, name_of, numbers_from}
-use Rattle.sc_sound.specs.Definitions.{Player, player_table, node_seat, client_seats, births, as_nodes}
+use Rattle.sc_meaning.specs.sound.Definitions.{Player, player_table, node_seat, client_seats, births, as_nodes}
 use Rattle.sc_live_steps.specs.calm.Definitions.{StandsOnce, is_leading, leads, is_led}
 use Rattle.sc_law_entries.specs.logs.Definitions.{Rows}
 use Rattle.sc_live_plain.specs.Definitions.{replicas_after}

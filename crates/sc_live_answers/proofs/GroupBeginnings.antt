@@ -4,13 +4,13 @@ use Rattle.std.specs.Option.{option_map}
 use Rattle.sc_base.specs.Definitions.{Among, IsRoster, is_member}
 use Rattle.sc_node_table.specs.Values.{Draw, Command, Base}
 use Rattle.std.specs.Prelude.{true}
-use Rattle.sc_machine_table.specs.Definitions.{Group, group_of, applied, child_of}
-use Rattle.sc_log_entries.specs.Definitions.{birth_of, division_of}
-use Rattle.sc_log_entries.specs.declared.Division.{Division}
+use Rattle.sc_group_table.specs.machine.Definitions.{Group, group_of, applied, child_of}
+use Rattle.sc_meaning.specs.entries.Definitions.{birth_of, division_of}
+use Rattle.sc_meaning.specs.declared.entries.Division.{Division}
 use Rattle.sc_paxos_law.proofs.Lemmas.{Among-either}
-use Rattle.sc_scenario.specs.Definitions.{IsBounded}
-use Rattle.sc_scenario.specs.declared.scenarios.Scenario.{Scenario}
-use Rattle.sc_sound.specs.Definitions.{children_of, groups_at, decided_log, Ahead}
+use Rattle.sc_scenario.specs.scenario.Definitions.{IsBounded}
+use Rattle.sc_scenario.specs.declared.scenario.scenarios.Scenario.{Scenario}
+use Rattle.sc_meaning.specs.sound.Definitions.{children_of, groups_at, decided_log, Ahead}
 use Rattle.sc_law_entries.specs.logs.Definitions.{Rows, Descends}
 use Rattle.sc_law_entries.proofs.LogsProofs.Lemmas.{group_found}
 use Rattle.sc_law_groups.proofs.WholeProofs.Lemmas.{fresh_children}

@@ -4,13 +4,13 @@ use Rattle.std.proofs.lemmas.Bool.{cases_lt}
 use Rattle.sc_base.specs.Definitions.{Among, IsRoster, is_member}
 use Rattle.sc_node_table.specs.Values.{Ballot, Command, Base, Route, Mail, MailBody, Accepted as AcceptedMail, Learn, Seat}
 use Rattle.sc_base.proofs.Lemmas.{same_name}
-use Rattle.sc_machine_table.specs.Definitions.{Group, group_of, state_after}
+use Rattle.sc_group_table.specs.machine.Definitions.{Group, group_of, state_after}
 use Rattle.sc_actor.specs.Definitions.{mails, numbered}
 use Rattle.sc_paxos_law.specs.Definitions.{IsLog, Accepted, IsLawfulHistory}
-use Rattle.sc_scenario.specs.Definitions.{ValidScenariosAreBounded}
-use Rattle.sc_scenario.specs.declared.scenarios.Scenario.{Scenario}
+use Rattle.sc_scenario.specs.scenario.Definitions.{ValidScenariosAreBounded}
+use Rattle.sc_scenario.specs.declared.scenario.scenarios.Scenario.{Scenario}
 use Rattle.sc_node_table.specs.Definitions.{entered, NodeState, ReplicaState, next, mailed, accepted_row}
-use Rattle.sc_sound.specs.Definitions.{decided_log, Ahead, Player, route_of}
+use Rattle.sc_meaning.specs.sound.Definitions.{decided_log, Ahead, Player, route_of}
 use Rattle.sc_law_entries.specs.logs.Definitions.{Rows}
 use Rattle.sc_law_entries.specs.ring.Definitions.{Sources}
 use Rattle.sc_law_entries.specs.names.Definitions.{OtherNamesAreFree, TakenOrdersAreAllowed, TakenWishesAreAllowed, WishesAreAtPositions, owner_in}

@@ -3,11 +3,11 @@ use Rattle.std.proofs.Common.{◌≡◌, ℕ, ◌-◌, ◌≤◌, zero, suc, Lis
 use Rattle.std.proofs.lemmas.Option.{none-some}
 use Rattle.sc_base.specs.Definitions.{Among}
 use Rattle.sc_node_table.specs.Values.{Draw, Command, Base, Route}
-use Rattle.sc_machine_table.specs.Definitions.{Group, group_of, state_after, applied}
-use Rattle.sc_scenario.specs.Definitions.{base_at, ValidScenariosAreBounded}
-use Rattle.sc_scenario.specs.declared.scenarios.Scenario.{Scenario}
+use Rattle.sc_group_table.specs.machine.Definitions.{Group, group_of, state_after, applied}
+use Rattle.sc_scenario.specs.scenario.Definitions.{base_at, ValidScenariosAreBounded}
+use Rattle.sc_scenario.specs.declared.scenario.scenarios.Scenario.{Scenario}
 use Rattle.sc_node_table.specs.Definitions.{ReplicaState, next}
-use Rattle.sc_sound.specs.Definitions.{groups_at, decided_log, births, as_nodes}
+use Rattle.sc_meaning.specs.sound.Definitions.{groups_at, decided_log, births, as_nodes}
 use Rattle.sc_law_entries.specs.logs.Definitions.{Rows}
 use Rattle.sc_live_plain.specs.Definitions.{replicas_after}
 use Rattle.sc_live_journals.specs.rows.Definitions.{view_at}

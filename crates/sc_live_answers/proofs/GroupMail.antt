@@ -9,11 +9,11 @@ use Rattle.sc_actor.specs.Definitions.{mails, row_of}
 use Rattle.sc_live_orderly.specs.Definitions.{IsCalmEvent, AreInTime}
 use Rattle.sc_live_orderly.proofs.Lemmas.{last_in_time}
 use Rattle.sc_node_table.specs.Definitions.{ReplicaState, listed, born_replica, slots_ahead}
-use Rattle.sc_paxos_words.specs.Definitions.{reports_from, IsAtLeast}
-use Rattle.sc_paxos_words.proofs.Lemmas.{at_least_below, at_least_from_below, Each-append, Each-weaker}
-use Rattle.sc_scenario.specs.Definitions.{ValidScenariosAreBounded}
-use Rattle.sc_scenario.specs.declared.scenarios.Scenario.{Scenario}
-use Rattle.sc_sound.specs.Definitions.{Player, player_table, births, as_nodes}
+use Rattle.sc_words.specs.paxos.Definitions.{reports_from, IsAtLeast}
+use Rattle.sc_words.proofs.PaxosProofs.Lemmas.{at_least_below, at_least_from_below, Each-append, Each-weaker}
+use Rattle.sc_scenario.specs.scenario.Definitions.{ValidScenariosAreBounded}
+use Rattle.sc_scenario.specs.declared.scenario.scenarios.Scenario.{Scenario}
+use Rattle.sc_meaning.specs.sound.Definitions.{Player, player_table, births, as_nodes}
 use Rattle.sc_live_steps.specs.calm.Definitions.{players, Rows}
 use Rattle.sc_live_steps.specs.following.Definitions.{from_slot_of, Prepares, mark_of, Course, Progress, Sets, Tellers}
 use Rattle.sc_live_steps.proofs.FollowingProofs.Lemmas.{same_mark}

@@ -7,18 +7,18 @@ use Rattle.sc_base.specs.Definitions.{Each, most_nodes, same_draw, is_member}
 use Rattle.sc_node_table.specs.Values.{Draw, Ballot, Base, OrderLine, Mail, MailBody, Prepare, Promise, Accept, Accepted, Nack, Learn, Install, Node, Client, Seat, Event, Deliver, Row}
 use Rattle.sc_base.proofs.Lemmas.{draw_is}
 use Rattle.sc_actor.specs.Definitions.{mails, numbered, value, row_of}
-use Rattle.sc_client_table.specs.Definitions.{Client as ClientState}
+use Rattle.sc_client_table.specs.table.Definitions.{Client as ClientState}
 use Rattle.sc_live_orderly.specs.Definitions.{AreInTime}
 use Rattle.sc_live_orderly.proofs.Lemmas.{in_time_before}
-use Rattle.sc_paxos_words.specs.Definitions.{below, IsAtLeast}
-use Rattle.sc_paxos_words.proofs.Lemmas.{Each-among, Each-append, find_found}
-use Rattle.sc_scenario.specs.Definitions.{IsBounded, IsBoundedClient}
-use Rattle.sc_scenario.specs.declared.scenarios.Asks.{Asks as Requests}
-use Rattle.sc_scenario.specs.declared.scenarios.Scenario.{Scenario}
+use Rattle.sc_words.specs.paxos.Definitions.{below, IsAtLeast}
+use Rattle.sc_words.proofs.PaxosProofs.Lemmas.{Each-among, Each-append, find_found}
+use Rattle.sc_scenario.specs.scenario.Definitions.{IsBounded, IsBoundedClient}
+use Rattle.sc_scenario.specs.declared.scenario.scenarios.Asks.{Asks as Requests}
+use Rattle.sc_scenario.specs.declared.scenario.scenarios.Scenario.{Scenario}
 use Rattle.sc_node_table.specs.Definitions.{may_come, is_node, ReplicaState, listed, numbers_from}
 use Rattle.sc_law_groups.proofs.GroupProofs.Lemmas.{number_among}
 use Rattle.sc_law_walks.specs.Definitions.{GoesOn}
-use Rattle.sc_sound.specs.Definitions.{Player, player_table, node_seat, client_seat, client_seats, route_of, births, as_nodes}
+use Rattle.sc_meaning.specs.sound.Definitions.{Player, player_table, node_seat, client_seat, client_seats, route_of, births, as_nodes}
 use Rattle.sc_live_steps.specs.calm.Definitions.{players, Rows}
 use Rattle.sc_live_steps.specs.following.Definitions.{Mark, Asks, Votes, Tells, Installs, Prepares, Promises, mark_of, Course, Progress, Sets, IsFit, AreFit, Tellers, IsRow, marks_for}
 use Rattle.sc_live_journals.specs.rows.Definitions.{view_at, marks_at, mark_in, next_in, progress_at, IsSeat, with_event}

@@ -1,6 +1,6 @@
 -- Of one group through a calm journal, that its mail is sent as its leader's course needs it.
 use Rattle.sc_live_answers.proofs.ReplicasAtBirth.{groups_born}
-use Rattle.sc_scenario.proofs.Lemmas.{valid_scenarios_are_bounded}
+use Rattle.sc_scenario.proofs.ScenarioProofs.Lemmas.{valid_scenarios_are_bounded}
 use Rattle.sc_live_answers.proofs.LedGroupLaws.{groups_are_born_or_not, groups_are_led, led_logs_are_one, groups_begin_led}
 use Rattle.sc_live_answers.specs.Definitions.{GroupsAreBornAsBegun, GroupsBeginSent, NextRowsAreSent}
 use Rattle.sc_live_answers.proofs.GroupMail.{begin_sent, rows_sent}

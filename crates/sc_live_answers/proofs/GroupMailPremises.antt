@@ -3,10 +3,10 @@ use Rattle.std.proofs.Common.{◌≡◌, true, List}
 use Rattle.sc_node_table.specs.Values.{Mail, Seat, Deliver}
 use Rattle.sc_actor.specs.Definitions.{mails, row_of}
 use Rattle.sc_live_orderly.proofs.Lemmas.{in_time_before}
-use Rattle.sc_paxos_words.proofs.Lemmas.{Each-among}
-use Rattle.sc_scenario.specs.Definitions.{ValidScenariosAreBounded}
+use Rattle.sc_words.proofs.PaxosProofs.Lemmas.{Each-among}
+use Rattle.sc_scenario.specs.scenario.Definitions.{ValidScenariosAreBounded}
 use Rattle.sc_node_table.specs.Definitions.{may_come}
-use Rattle.sc_sound.specs.Definitions.{Player, births, as_nodes, player_table}
+use Rattle.sc_meaning.specs.sound.Definitions.{Player, births, as_nodes, player_table}
 use Rattle.sc_live_steps.specs.calm.Definitions.{players}
 use Rattle.sc_live_journals.proofs.MailProofs.Lemmas.{mail_comes}
 use Rattle.sc_live_journals.specs.logs.Definitions.{logged_sets}

@@ -5,12 +5,12 @@ use Rattle.std.proofs.lemmas.Bool.{cases_Bool, cond_both, cond-false}
 use Rattle.sc_base.specs.Definitions.{Among, Each, same_draw, is_member}
 use Rattle.sc_node_table.specs.Values.{Draw, Base, Route, Seat}
 use Rattle.sc_base.proofs.Lemmas.{draw_is, same_name}
-use Rattle.sc_paxos_words.proofs.Lemmas.{Each-append}
-use Rattle.sc_scenario.specs.Definitions.{ValidScenariosAreBounded}
-use Rattle.sc_scenario.specs.declared.scenarios.Asks.{Asks}
-use Rattle.sc_scenario.specs.declared.scenarios.Scenario.{Scenario}
+use Rattle.sc_words.proofs.PaxosProofs.Lemmas.{Each-append}
+use Rattle.sc_scenario.specs.scenario.Definitions.{ValidScenariosAreBounded}
+use Rattle.sc_scenario.specs.declared.scenario.scenarios.Asks.{Asks}
+use Rattle.sc_scenario.specs.declared.scenario.scenarios.Scenario.{Scenario}
 use Rattle.sc_node_table.specs.Definitions.{born_replicas, replica_of, born_replica, slots_ahead, numbers_from}
-use Rattle.sc_sound.specs.Definitions.{Player, node_seat, client_seat, client_seats, route_of, births, as_nodes}
+use Rattle.sc_meaning.specs.sound.Definitions.{Player, node_seat, client_seat, client_seats, route_of, births, as_nodes}
 use Rattle.sc_law_entries.specs.logs.Definitions.{Rows}
 use Rattle.sc_law_entries.specs.ring.Definitions.{Sources}
 use Rattle.sc_law_entries.specs.names.Definitions.{OtherNamesAreFree, TakenOrdersAreAllowed, TakenWishesAreAllowed, WishesAreAtPositions, owner_in}

@@ -8,9 +8,9 @@ use Rattle.sc_node_table.specs.Values.{Draw, Base, OrderLine, Mail, Seat, Event,
 use Rattle.sc_actor.specs.Definitions.{System, row_of}
 use Rattle.sc_live_orderly.specs.Definitions.{is_born, rest, AreInTime}
 use Rattle.sc_live_orderly.proofs.Lemmas.{in_time_before, in_time_tidy, last_in_time, TakesFirst, takes_first, is_born-from}
-use Rattle.sc_scenario.specs.declared.scenarios.Scenario.{Scenario}
+use Rattle.sc_scenario.specs.declared.scenario.scenarios.Scenario.{Scenario}
 use Rattle.sc_node_table.specs.Definitions.{group_of_mail, ReplicaState, listed, next}
-use Rattle.sc_sound.specs.Definitions.{groups_at, Player, player_table, births, as_nodes}
+use Rattle.sc_meaning.specs.sound.Definitions.{groups_at, Player, player_table, births, as_nodes}
 use Rattle.sc_live_steps.specs.following.Definitions.{Mark, marks_of, members_at, reached}
 use Rattle.sc_live_steps.specs.calm.Definitions.{players, Rows}
 use Rattle.sc_live_steps.specs.orders.Definitions.{bond_of, Bond}

@@ -1,15 +1,15 @@
 -- An order stays held by a group from row to row, or its result is reported.
 use Rattle.std.proofs.Common.{◌≡◌, ◌⊎◌, ℕ, Bool, true, false, List, [], ◌∷◌, ◌++◌, Some, inl, inr, refl, sym, ◌∙◌, ap, subst}
 use Rattle.sc_base.specs.Definitions.{Among, Each}
-use Rattle.sc_policy.specs.Definitions.{is_reported}
+use Rattle.sc_group_table.specs.policy.Definitions.{is_reported}
 use Rattle.sc_node_table.specs.Values.{Draw, Command, Seat, Deliver, Flight}
 use Rattle.sc_actor.specs.Definitions.{mails, numbers_of, row_of}
 use Rattle.sc_actor.proofs.Lemmas.{mails-snoc}
-use Rattle.sc_paxos_words.proofs.Lemmas.{Each-among}
+use Rattle.sc_words.proofs.PaxosProofs.Lemmas.{Each-among}
 use Rattle.sc_live_orderly.specs.Definitions.{AreInTime}
-use Rattle.sc_machine_table.specs.Definitions.{Group, has_named}
+use Rattle.sc_group_table.specs.machine.Definitions.{Group, has_named}
 use Rattle.sc_node_table.specs.Definitions.{ReplicaState}
-use Rattle.sc_sound.specs.Definitions.{Player, player_table}
+use Rattle.sc_meaning.specs.sound.Definitions.{Player, player_table}
 use Rattle.sc_live_steps.specs.calm.Definitions.{players, Rows}
 use Rattle.sc_live_steps.specs.orders.Definitions.{OfQuestion, OfVote, OfOutcome, LastTakes, OneTakes, TwoTakes, LastFreed, OneFreed, TwoFreed, IsStepOf, ByRest, ByOrder, ByChange, ByDeal, ByPassing, ByAsking, ByTaking, ByVote, ByNo, ByHearing, ByDeciding, ByEnd, IsTaken, Turn, is_watch, Bond, Unbound, Asking, Bound, Work, Opens, Records, Ends, IsOrder, Here, Scene, free, closing, Leg, Mailed, Filed, Party, Deal, Stage, Still, Ordered, Asks, SentOn, Weighs, Replied, Recorded, Closes, ClosesBoth, IsAt, bond_of, works}
 use Rattle.sc_live_steps.proofs.OrdersProofs.Lemmas.{cases-draw}

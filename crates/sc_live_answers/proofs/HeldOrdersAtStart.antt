@@ -3,21 +3,21 @@ use Rattle.std.proofs.Common.{◌≡◌, ◌⊎◌, ℕ, ◌≤◌, ◌&&◌, na
 use Rattle.std.specs.Prelude.{is_some}
 use Rattle.std.proofs.lemmas.Bool.{and_parts, leb-true, lt-ltb}
 use Rattle.sc_base.specs.Definitions.{Among, Each, next_name}
-use Rattle.sc_policy.specs.Definitions.{is_reported}
+use Rattle.sc_group_table.specs.policy.Definitions.{is_reported}
 use Rattle.sc_node_table.specs.Values.{Draw, Command, OrderLine, OrderRefusal, Refused, Mail, Node, Client, Seat, Go, Input, Row, Report}
-use Rattle.sc_cmd.specs.declared.orders.OrderRefusal.TheVariants.{NotLeader}
+use Rattle.sc_words.specs.declared.commands.orders.OrderRefusal.TheVariants.{NotLeader}
 use Rattle.sc_actor.specs.declared.rows.Event.TheVariants.{Told}
 use Rattle.sc_actor.specs.declared.rows.Input.TheVariants.{Told as ToldInput}
 use Rattle.sc_actor.specs.Definitions.{mails, value, acted, input_of, replay, row_of}
 use Rattle.sc_actor.proofs.Lemmas.{mails-snoc}
 use Rattle.sc_paxos_law.proofs.Lemmas.{Among-either, Among-left, Among-right}
-use Rattle.sc_paxos_words.proofs.Lemmas.{Each-among}
-use Rattle.sc_paxos_words.specs.Definitions.{must_without, names_above, chosen_value}
+use Rattle.sc_words.proofs.PaxosProofs.Lemmas.{Each-among}
+use Rattle.sc_words.specs.paxos.Definitions.{must_without, names_above, chosen_value}
 use Rattle.sc_live_orderly.specs.Definitions.{AreInTime, GivesAllowedOrder}
 use Rattle.sc_law_walks.proofs.Lemmas.{either_way}
-use Rattle.sc_scenario.specs.declared.scenarios.Scenario.{Scenario}
+use Rattle.sc_scenario.specs.declared.scenario.scenarios.Scenario.{Scenario}
 use Rattle.sc_node_table.specs.Definitions.{NodeState, result_sent, replica_of, group_of_order, ordered_of, untaken, queued_or_refused, ordered_command, ordered_row, ReplicaState, Place, next, last_slot, settled, may_offer, first_set}
-use Rattle.sc_sound.specs.Definitions.{Player, player_table, node_seat, births, as_nodes}
+use Rattle.sc_meaning.specs.sound.Definitions.{Player, player_table, node_seat, births, as_nodes}
 use Rattle.sc_live_steps.specs.calm.Definitions.{players, IsAtRest, Rows}
 use Rattle.sc_live_steps.specs.orders.Definitions.{MayFile}
 use Rattle.sc_live_steps.proofs.OrdersProofs.Lemmas.{tables-order}

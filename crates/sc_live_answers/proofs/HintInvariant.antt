@@ -5,10 +5,10 @@ use Rattle.sc_node_table.specs.Values.{Ballot, Draw, Command, Base, OrderLine, M
 use Rattle.sc_base.proofs.Lemmas.{draw_is}
 use Rattle.sc_actor.specs.Definitions.{mails, row_of}
 use Rattle.sc_live_orderly.specs.Definitions.{IsCalmEvent, AreInTime}
-use Rattle.sc_paxos_words.specs.Definitions.{IsAtLeast}
-use Rattle.sc_scenario.specs.declared.scenarios.Scenario.{Scenario}
+use Rattle.sc_words.specs.paxos.Definitions.{IsAtLeast}
+use Rattle.sc_scenario.specs.declared.scenario.scenarios.Scenario.{Scenario}
 use Rattle.sc_node_table.specs.Definitions.{ReplicaState, Place, listed, next, mailed, made_by}
-use Rattle.sc_sound.specs.Definitions.{Player, player_table, births, as_nodes}
+use Rattle.sc_meaning.specs.sound.Definitions.{Player, player_table, births, as_nodes}
 use Rattle.sc_live_steps.specs.calm.Definitions.{players, Rows}
 use Rattle.sc_live_steps.specs.following.Definitions.{Mark, Asks, Votes, Tells, Installs, Prepares, Promises, mark_of, pledged, Course, Progress, Sets, members_at, IsOpen, Tellers, hint_by, AreHeeded, GoesBy, AreLearntLast, IsRow, marks_for, next_ballot}
 use Rattle.sc_live_steps.proofs.FollowingProofs.Lemmas.{tables_elect, least_in, hints_follow}

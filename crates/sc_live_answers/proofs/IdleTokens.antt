@@ -8,9 +8,9 @@ use Rattle.sc_node_table.specs.Values.{Base, Seat}
 use Rattle.sc_actor.specs.Definitions.{value, are_apart}
 use Rattle.sc_node_table.specs.Definitions.{numbers_from}
 use Rattle.sc_paxos_law.proofs.Lemmas.{Among-either, from_map}
-use Rattle.sc_scenario.specs.declared.scenarios.Asks.{Asks}
-use Rattle.sc_scenario.specs.Definitions.{ValidScenariosAreBounded}
-use Rattle.sc_sound.specs.Definitions.{Player, player_table, node_seat, client_seat, route_of, births, as_nodes}
+use Rattle.sc_scenario.specs.declared.scenario.scenarios.Asks.{Asks}
+use Rattle.sc_scenario.specs.scenario.Definitions.{ValidScenariosAreBounded}
+use Rattle.sc_meaning.specs.sound.Definitions.{Player, player_table, node_seat, client_seat, route_of, births, as_nodes}
 use Rattle.sc_live_steps.specs.calm.Definitions.{waiting_one}
 use Rattle.sc_live_plain.specs.Definitions.{IsAsking}
 use Rattle.sc_live_plain.proofs.Lemmas.{stage, in_numbers}

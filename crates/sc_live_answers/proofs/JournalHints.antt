@@ -6,11 +6,11 @@ use Rattle.sc_base.specs.Definitions.{is_member, least_of}
 use Rattle.sc_actor.specs.Definitions.{row_of}
 use Rattle.sc_live_orderly.specs.Definitions.{IsCalmEvent, AreInTime}
 use Rattle.sc_live_orderly.proofs.Lemmas.{last_in_time}
-use Rattle.sc_paxos_words.specs.Definitions.{IsAtLeast}
-use Rattle.sc_paxos_words.proofs.Lemmas.{at_least_itself}
-use Rattle.sc_scenario.specs.declared.scenarios.Scenario.{Scenario}
+use Rattle.sc_words.specs.paxos.Definitions.{IsAtLeast}
+use Rattle.sc_words.proofs.PaxosProofs.Lemmas.{at_least_itself}
+use Rattle.sc_scenario.specs.declared.scenario.scenarios.Scenario.{Scenario}
 use Rattle.sc_node_table.specs.Definitions.{ReplicaState, first_ballot, born_replica, slots_ahead}
-use Rattle.sc_sound.specs.Definitions.{Player, player_table, births, as_nodes}
+use Rattle.sc_meaning.specs.sound.Definitions.{Player, player_table, births, as_nodes}
 use Rattle.sc_live_steps.specs.calm.Definitions.{players, Rows}
 use Rattle.sc_live_steps.specs.following.Definitions.{Course, Progress, Sets, members_at, IsOpen, IsFollowing, Tellers}
 use Rattle.sc_live_steps.proofs.FollowingProofs.Lemmas.{least_in}

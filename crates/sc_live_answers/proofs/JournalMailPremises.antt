@@ -3,7 +3,7 @@ use Rattle.std.proofs.Common.{◌≡◌, ◌∷◌, ◌++◌, ◌∙◌, ap, app
 use Rattle.sc_node_table.specs.Values.{OrderLine, Mail, Deliver, Row}
 use Rattle.sc_actor.specs.Definitions.{row_of}
 use Rattle.sc_live_orderly.specs.Definitions.{AreInTime}
-use Rattle.sc_sound.specs.Definitions.{births, as_nodes, player_table}
+use Rattle.sc_meaning.specs.sound.Definitions.{births, as_nodes, player_table}
 use Rattle.sc_live_steps.specs.calm.Definitions.{players}
 use Rattle.sc_live_journals.specs.rows.Definitions.{with_event}
 use Rattle.sc_live_answers.specs.Definitions.{LedLogsAreOne, slot_leaders_at, GroupsAreLed, LedRowsGoOn, GroupMailFinds, JournalMailFinds, StatesStand}

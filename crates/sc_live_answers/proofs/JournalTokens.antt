@@ -10,9 +10,9 @@ use Rattle.sc_actor.specs.Definitions.{mails, copies, counts_at, numbered, value
 use Rattle.sc_actor.proofs.PendingLemmas as pending
 use Rattle.sc_actor.proofs.Lemmas.{value-snoc}
 use Rattle.sc_node_table.specs.Definitions.{NodeState, replica_of, with_replica, node_table, ReplicaState, name_of, mailed}
-use Rattle.sc_scenario.specs.declared.scenarios.Asks.{Asks}
-use Rattle.sc_scenario.specs.declared.scenarios.Scenario.{Scenario}
-use Rattle.sc_sound.specs.Definitions.{Player, player_table, node_seat, client_seat, route_of, births, system_of, as_nodes}
+use Rattle.sc_scenario.specs.declared.scenario.scenarios.Asks.{Asks}
+use Rattle.sc_scenario.specs.declared.scenario.scenarios.Scenario.{Scenario}
+use Rattle.sc_meaning.specs.sound.Definitions.{Player, player_table, node_seat, client_seat, route_of, births, system_of, as_nodes}
 use Rattle.sc_live_orderly.specs.Definitions.{IsTidy, IsOrderly, IsInOrder, mail_with, is_born, Owing, under_way, owed, owed_by}
 use Rattle.sc_live_orderly.proofs.Lemmas.{delivered, filter_sum, after-row, is_born-from, one_changes}
 use Rattle.sc_live_plain.specs.Definitions.{IsAsking, AreFarFromLast, IsLinkedSetting, Setting, IsSetting, IsCalmNode, ComesInTime, IsBegun, Requests, IsPlainBody}

@@ -4,9 +4,9 @@ use Rattle.sc_base.specs.Definitions.{Among, Each}
 use Rattle.sc_node_table.specs.Values.{Node}
 use Rattle.sc_actor.specs.Definitions.{value}
 use Rattle.sc_node_table.specs.Definitions.{NodeState, replica_of, ReplicaState, name_of, next}
-use Rattle.sc_scenario.specs.declared.scenarios.Scenario.{Scenario}
-use Rattle.sc_scenario.specs.Definitions.{ValidScenariosAreBounded}
-use Rattle.sc_sound.specs.Definitions.{Player, player_table, births, node_seat, as_nodes}
+use Rattle.sc_scenario.specs.declared.scenario.scenarios.Scenario.{Scenario}
+use Rattle.sc_scenario.specs.scenario.Definitions.{ValidScenariosAreBounded}
+use Rattle.sc_meaning.specs.sound.Definitions.{Player, player_table, births, node_seat, as_nodes}
 use Rattle.sc_law_groups.specs.whole.Definitions.{ValidJournalsAreSound, ValidEntriesAreLogs}
 use Rattle.sc_live_steps.specs.calm.Definitions.{MayPump, Rows}
 use Rattle.sc_live_steps.proofs.CalmProofs.Lemmas.{unbound_new}

@@ -8,9 +8,9 @@ use Rattle.sc_actor.specs.Definitions.{System}
 use Rattle.sc_node_table.specs.Definitions.{numbers_from}
 use Rattle.sc_paxos_law.proofs.Lemmas.{Among-right}
 use Rattle.sc_live_orderly.proofs.Lemmas.{started_when_whole, plain_in_time, seat_found}
-use Rattle.sc_scenario.specs.Definitions.{ValidScenariosAreBounded}
-use Rattle.sc_scenario.specs.declared.scenarios.SchedLine.TheVariants.{Go}
-use Rattle.sc_sound.specs.Definitions.{Player, node_seat, client_seat, route_of, births, line_of, schedule, system_of, as_nodes}
+use Rattle.sc_scenario.specs.scenario.Definitions.{ValidScenariosAreBounded}
+use Rattle.sc_scenario.specs.declared.scenario.scenarios.SchedLine.TheVariants.{Go}
+use Rattle.sc_meaning.specs.sound.Definitions.{Player, node_seat, client_seat, route_of, births, line_of, schedule, system_of, as_nodes}
 use Rattle.sc_law_groups.specs.whole.Definitions.{ValidJournalsAreSound}
 use Rattle.sc_live_plain.specs.Definitions.{LastLinesEndQuiet, LastLinesAnswer}
 use Rattle.sc_live_plain.proofs.Lemmas.{stage, map_among, all_plain, lines_plain, plain_lines_calm}

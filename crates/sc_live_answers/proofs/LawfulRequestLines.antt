@@ -2,8 +2,8 @@
 use Rattle.std.proofs.Common.{◌≡◌, ◌∷◌, ◌++◌, sym, ◌∙◌, subst}
 use Rattle.sc_node_table.specs.Values.{Base}
 use Rattle.sc_actor.proofs.Lemmas.{lawful-prefix}
-use Rattle.sc_sound.specs.Definitions.{schedule, system_of, as_nodes}
-use Rattle.sc_scenario.specs.Definitions.{ValidScenariosAreBounded}
+use Rattle.sc_meaning.specs.sound.Definitions.{schedule, system_of, as_nodes}
+use Rattle.sc_scenario.specs.scenario.Definitions.{ValidScenariosAreBounded}
 use Rattle.sc_live_plain.specs.Definitions.{IsAsking, replicas_after, setting_at, IsQuietJournal, Setting}
 use Rattle.sc_live_plain.proofs.Lemmas.{quiet_ask, stage}
 use Rattle.sc_live_answers.specs.Definitions.{LawfulJournalsHaveOneLog, LawfulLinesLeaveQuiet, HaveOneLog, LinesLeaveReplicasQuiet, LinesLeaveQuiet}

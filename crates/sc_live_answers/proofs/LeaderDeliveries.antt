@@ -3,16 +3,16 @@ use Rattle.std.proofs.Common.{◌≡◌, ℕ, Bool, eqb, true, false, true≢fal
 use Rattle.std.proofs.lemmas.Bool.{cases_Bool, eq-eqb, eqb-true, cond-true, cond-false}
 use Rattle.std.specs.Option.{option_map}
 use Rattle.sc_base.specs.Definitions.{Among, is_member}
-use Rattle.sc_policy.specs.Definitions.{is_reported}
+use Rattle.sc_group_table.specs.policy.Definitions.{is_reported}
 use Rattle.sc_node_table.specs.Values.{Ballot, Draw, Command, OrderLine, Mail, MailBody, Request, Answer, Prepare, Promise, Accept, Accepted, Nack, Learn, Ask, Install, TxPrepare, TxVote, TxOutcome, TxElsewhere, TxWatch, TxWatched, Told as ToldMail, Node, Client, Seat, Event, Deliver, Got, Flight}
-use Rattle.sc_machine_table.specs.Definitions.{Group, applied}
-use Rattle.sc_client_table.specs.Definitions.{Client as ClientState}
+use Rattle.sc_group_table.specs.machine.Definitions.{Group, applied}
+use Rattle.sc_client_table.specs.table.Definitions.{Client as ClientState}
 use Rattle.sc_actor.specs.Definitions.{mails, numbered, value, row_of}
 use Rattle.sc_live_orderly.specs.Definitions.{AreInTime}
 use Rattle.sc_live_orderly.proofs.Lemmas.{last_in_time}
 use Rattle.sc_node_table.specs.Definitions.{NodeState, replica_of, group_of_mail, may_come, unknown, taken_by, routed, on_mail, ReplicaState, Place, listed, mailed}
 use Rattle.sc_law_walks.proofs.Lemmas.{either_way}
-use Rattle.sc_sound.specs.Definitions.{Player, player_table}
+use Rattle.sc_meaning.specs.sound.Definitions.{Player, player_table}
 use Rattle.sc_live_steps.specs.calm.Definitions.{players, Rows}
 use Rattle.sc_live_steps.specs.orders.Definitions.{bond_of, errand_by, is_yes, is_cast_yes, work_by, works, works_flying, works_in, works_ready, FliesLone, RunsAlone, Answers, Bound, Elsewhere, Errand, Question, Reply, Result, Here, Records, Ends, Unbound, Work, IsUnderWay, IsUnbound, MayFile, Works}
 use Rattle.sc_live_steps.proofs.OrdersProofs.Lemmas.{votes-count-alone, tables-file, tables-ask-on, cases-draw, tables-rest, promises-keep, entries-run-alone}

@@ -17,8 +17,8 @@ use Rattle.sc_live_steps.proofs.FollowingProofs.Lemmas.{same_mark}
 use Rattle.sc_live_steps.specs.following.Definitions.{Asks, Installs, IsFit, Mark, Prepares, Tells, mark_of, next_by, IsLeadOf}
 use Rattle.sc_law_walks.specs.Definitions.{GoesOn}
 use Rattle.sc_node_table.specs.Definitions.{NodeState, group_of_mail, ReplicaState, listed}
-use Rattle.sc_paxos_words.specs.Definitions.{below}
-use Rattle.sc_sound.specs.Definitions.{Player}
+use Rattle.sc_words.specs.paxos.Definitions.{below}
+use Rattle.sc_meaning.specs.sound.Definitions.{Player}
 use Rattle.std.proofs.lemmas.Option.{same_Some}
 
 -- ---- the work

@@ -16,16 +16,16 @@ use Rattle.sc_live_journals.proofs.RowsProofs.Lemmas.{known, found_name}
 use Rattle.sc_live_journals.specs.rows.Definitions.{progress_at, with_event}
 use Rattle.sc_live_journals.proofs.ScenesProofs.Lemmas.{fly_lone, quiet_over, tell}
 use Rattle.sc_live_journals.specs.scenes.Definitions.{IsEntry, StaysIn, Aborted, Changed, Decided, Ended, FindsFlight, Heard, Late, Opened, Voted, IsThere, IsWork, scene_at, LeadsAlone, NewestAreBound}
-use Rattle.sc_cmd.specs.Definitions.{is_alone, is_changed}
+use Rattle.sc_words.specs.commands.Definitions.{is_alone, is_changed}
 use Rattle.sc_live_steps.proofs.FollowingProofs.Lemmas.{same_mark, order_is_kept}
 use Rattle.sc_live_steps.specs.following.Definitions.{Votes, mark_of, ActsAlone, IsLeadOf}
-use Rattle.sc_machine_table.specs.Definitions.{Group, applied, vote_of}
+use Rattle.sc_group_table.specs.machine.Definitions.{Group, applied, vote_of}
 use Rattle.sc_node_table.specs.Definitions.{NodeState, Place, ReplicaState, next, mailed}
-use Rattle.sc_paxos_words.proofs.Lemmas.{Each-among, find_found}
-use Rattle.sc_paxos_words.specs.Definitions.{flight_at}
-use Rattle.sc_sound.specs.Definitions.{Player}
-use Rattle.sc_cmd.specs.declared.votes.Past.TheVariants as Cast
-use Rattle.sc_cmd.specs.declared.votes.Vote.TheVariants as Says
+use Rattle.sc_words.proofs.PaxosProofs.Lemmas.{Each-among, find_found}
+use Rattle.sc_words.specs.paxos.Definitions.{flight_at}
+use Rattle.sc_meaning.specs.sound.Definitions.{Player}
+use Rattle.sc_words.specs.declared.commands.votes.Past.TheVariants as Cast
+use Rattle.sc_words.specs.declared.commands.votes.Vote.TheVariants as Says
 use Rattle.sc_live_answers.proofs.CountableVotes.{only_work, work_flies}
 use Rattle.sc_live_answers.proofs.RowsWithoutRounds.{work_act}
 use Rattle.sc_live_answers.proofs.TransactionTurns.{first_turn}

@@ -4,8 +4,8 @@ use Rattle.sc_base.specs.Definitions.{Among, Each, is_member}
 use Rattle.sc_node_table.specs.Values.{Draw, Command, Base, Route, Flight}
 use Rattle.sc_node_table.specs.Definitions.{ReplicaState, members}
 use Rattle.sc_live_orderly.specs.Definitions.{AreInTime}
-use Rattle.sc_scenario.specs.declared.scenarios.Scenario.{Scenario}
-use Rattle.sc_sound.specs.Definitions.{as_nodes, births}
+use Rattle.sc_scenario.specs.declared.scenario.scenarios.Scenario.{Scenario}
+use Rattle.sc_meaning.specs.sound.Definitions.{as_nodes, births}
 use Rattle.sc_live_steps.specs.calm.Definitions.{players, Rows}
 use Rattle.sc_live_answers.specs.Definitions.{over_at, Voting, doer, doers_of, LeadsSince, ReplicasAreRecorded}
 use Rattle.sc_live_journals.specs.logs.Definitions.{IsGroupOf, logged_sets}

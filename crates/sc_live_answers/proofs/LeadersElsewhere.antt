@@ -8,7 +8,7 @@ use Rattle.sc_node_table.specs.Values.{Draw, Base, Route, Node, Client, Seat, Go
 use Rattle.sc_actor.specs.Definitions.{value, are_apart}
 use Rattle.sc_live_orderly.proofs.Lemmas.{seat_found}
 use Rattle.sc_node_table.specs.Definitions.{replica_of, ReplicaState, next}
-use Rattle.sc_sound.specs.Definitions.{Player, player_table}
+use Rattle.sc_meaning.specs.sound.Definitions.{Player, player_table}
 use Rattle.sc_live_steps.specs.calm.Definitions.{players, group_owes, idle_owes, Rows, is_leading, leads, led_elsewhere}
 use Rattle.sc_live_steps.specs.following.Definitions.{Course, Progress, Sets, Tellers}
 use Rattle.sc_live_steps.proofs.FollowingProofs.Lemmas.{reached-least}

@@ -1,6 +1,6 @@
 -- That a group's log is one in a lawful journal of a valid scenario, where it has leaders.
 use Rattle.sc_live_answers.proofs.GroupEnds.{groups_begin_standing as groups_begin_standing_by, ends_are_logged as ends_are_logged_by, replicas_run_logs as replicas_run_logs_by, children_are_begun as children_are_begun_by, members_move_one_way}
-use Rattle.sc_scenario.proofs.Lemmas.{valid_scenarios_are_bounded}
+use Rattle.sc_scenario.proofs.ScenarioProofs.Lemmas.{valid_scenarios_are_bounded}
 use Rattle.sc_law_groups.proofs.WholeProofs.Lemmas.{valid_scenarios_begin_well}
 use Rattle.sc_law_entries.proofs.NamesProofs.Lemmas.{orders_are_allowed_allowed, orders_are_allowed_wishes, orders_are_allowed_positions, names_have_one_owner_others}
 use Rattle.sc_live_answers.specs.Definitions.{GroupsBeginStanding, EndsAreLogged, ChildrenAreBegun, LedLogsAreOne, ReplicasRunLogs, GroupsAreBornOrNot, GroupsBeginLed, GroupsAreLed, LedRowsGoOn, GroupsBeginTaught, GroupsAreTaught}

@@ -5,12 +5,12 @@ use Rattle.std.proofs.lemmas.Bool.{cases_lt, both_ways}
 use Rattle.std.proofs.lemmas.Option.{slice_get_past}
 use Rattle.sc_base.specs.Definitions.{Among, Each, end_of, is_member}
 use Rattle.sc_node_table.specs.Values.{Ballot, Draw, Command, Core}
-use Rattle.sc_machine_table.specs.Definitions.{Group}
-use Rattle.sc_paxos_words.specs.Definitions.{below, LeaderState, must}
-use Rattle.sc_paxos_words.proofs.Lemmas.{not_below_parts}
+use Rattle.sc_group_table.specs.machine.Definitions.{Group}
+use Rattle.sc_words.specs.paxos.Definitions.{below, LeaderState, must}
+use Rattle.sc_words.proofs.PaxosProofs.Lemmas.{not_below_parts}
 use Rattle.sc_node_table.specs.Definitions.{ReplicaState, next, members}
-use Rattle.sc_scenario.specs.declared.scenarios.Scenario.{Scenario}
-use Rattle.sc_sound.specs.Definitions.{system_of, as_nodes}
+use Rattle.sc_scenario.specs.declared.scenario.scenarios.Scenario.{Scenario}
+use Rattle.sc_meaning.specs.sound.Definitions.{system_of, as_nodes}
 use Rattle.sc_live_orderly.specs.Definitions.{rest, is_born}
 use Rattle.sc_live_steps.specs.calm.Definitions.{AreNines, MayPump, Ways, HasReplica, IsNewest, IsAtRest, IsLinked, StandsQuiet, IsGoneQuiet, RisesAt}
 use Rattle.sc_live_plain.specs.Definitions.{IsAsking, AreSeated, replicas_after, setting_at, AreFramesOf, IsQuietJournal, IsOfNodes, IsKept, frame_at_rest, replica_at, IsSetting, Frame, IsFrame, IsBegun, IsPlainAt}

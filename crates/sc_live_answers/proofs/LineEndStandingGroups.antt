@@ -4,12 +4,12 @@ use Rattle.std.specs.Prelude.{slice_get, unwrap_or}
 use Rattle.std.proofs.lemmas.Bool.{cases_eq, both_ways, and_from}
 use Rattle.sc_base.specs.Definitions.{Among, is_member}
 use Rattle.sc_node_table.specs.Values.{Ballot, Draw, Command, Core, Report}
-use Rattle.sc_paxos_words.specs.Definitions.{below, LeaderState}
-use Rattle.sc_paxos_words.proofs.Lemmas.{at_least_itself, Each-from}
+use Rattle.sc_words.specs.paxos.Definitions.{below, LeaderState}
+use Rattle.sc_words.proofs.PaxosProofs.Lemmas.{at_least_itself, Each-from}
 use Rattle.sc_node_table.specs.Definitions.{ReplicaState, name_of, next, members, first_set, may_offer, numbers_from, slots_ahead}
 use Rattle.sc_paxos_law.proofs.Lemmas.{place_among}
-use Rattle.sc_scenario.specs.declared.scenarios.Scenario.{Scenario}
-use Rattle.sc_sound.specs.Definitions.{system_of, as_nodes}
+use Rattle.sc_scenario.specs.declared.scenario.scenarios.Scenario.{Scenario}
+use Rattle.sc_meaning.specs.sound.Definitions.{system_of, as_nodes}
 use Rattle.sc_live_orderly.specs.Definitions.{rest, is_born}
 use Rattle.sc_live_steps.specs.calm.Definitions.{Ways, IsNewest, LeadsAtRest, IsBelow, MayVote, IsUpToDate, IsLinked, StandsQuiet}
 use Rattle.sc_live_plain.specs.Definitions.{IsAsking, AreSeated, replicas_after, setting_at, AreFramesOf, IsQuietJournal, IsKept, frame_at_rest, told, replica_at, next_in, IsGroupAt, Setting, IsSetting, Frame, IsFrame, IsBegun, AreTaken, IsPlainReplica, IsLeading, IsPlainAt}

@@ -5,14 +5,14 @@ use Rattle.std.proofs.lemmas.Bool.{cond_both}
 use Rattle.std.proofs.lemmas.Option.{none-some, same_Some}
 use Rattle.sc_base.specs.Definitions.{holds, same_draw, united}
 use Rattle.sc_node_table.specs.Values.{Draw, Body, Offer, Command, Noop, Call, Join, Leave, Split, Begin, Prepared, RecordVote, GiveUp, Finish, Watched, RecordWatch, Core, Lock, Free, Coordinating, Promised, Watching, Effect, Link, Route, OrderRefusal, Frozen, Gift, Heard, No, Outcome, Abort, Merged, Moved, Migrated, Divided, Past, Vote}
-use Rattle.sc_cmd.specs.Definitions.{is_alone}
-use Rattle.sc_cmd.specs.declared.bodies.Body.TheVariants as At
-use Rattle.sc_cmd.specs.declared.effects.Effect.TheVariants as Was
-use Rattle.sc_cmd.specs.declared.votes.Past.TheVariants as Cast
-use Rattle.sc_cmd.specs.declared.votes.Vote.TheVariants as Ballot
-use Rattle.sc_machine_table.specs.Definitions.{Group, applied, split_group, refusal_of, ordered, with_node, without_node, has_named, splits_at_once, left_link, left_members, right_members, right_core, right_succ, left_group, Plan, frozen_of, can_split, split_plan, may_merge, merged_link, merged_succ, merged_route, merged_group, closing_group, merge_plan, closing_plan, can_repart, giving_group, taking_group, part_gift, taken, has_key_of, giving_plan, taking_plan, repart_plan, succ_with, can_migrate, migrated_group, migrate_plan, begun_group, decided_group, aborted, committed, granted, participant_answered, asks_watcher, vote_recorded, released, watch_answered, watch_recorded, is_coordinating, has_voted, past_of, vote_of, watch_vote_of, voted_on}
-use Rattle.sc_log_entries.specs.Definitions.{division_in, division_of}
-use Rattle.sc_log_entries.specs.declared.Division.{Division}
+use Rattle.sc_words.specs.commands.Definitions.{is_alone}
+use Rattle.sc_words.specs.declared.commands.bodies.Body.TheVariants as At
+use Rattle.sc_words.specs.declared.commands.effects.Effect.TheVariants as Was
+use Rattle.sc_words.specs.declared.commands.votes.Past.TheVariants as Cast
+use Rattle.sc_words.specs.declared.commands.votes.Vote.TheVariants as Ballot
+use Rattle.sc_group_table.specs.machine.Definitions.{Group, applied, split_group, refusal_of, ordered, with_node, without_node, has_named, splits_at_once, left_link, left_members, right_members, right_core, right_succ, left_group, Plan, frozen_of, can_split, split_plan, may_merge, merged_link, merged_succ, merged_route, merged_group, closing_group, merge_plan, closing_plan, can_repart, giving_group, taking_group, part_gift, taken, has_key_of, giving_plan, taking_plan, repart_plan, succ_with, can_migrate, migrated_group, migrate_plan, begun_group, decided_group, aborted, committed, granted, participant_answered, asks_watcher, vote_recorded, released, watch_answered, watch_recorded, is_coordinating, has_voted, past_of, vote_of, watch_vote_of, voted_on}
+use Rattle.sc_meaning.specs.entries.Definitions.{division_in, division_of}
+use Rattle.sc_meaning.specs.declared.entries.Division.{Division}
 use Rattle.sc_law_entries.specs.ring.Definitions.{Sources, IsVoteCast, IsAllowed, Groups, IsCoordinating, Facts, Story, Stories, put, retold, unsigned, offer_for, new_story, vote_by, with_vote, with_watch_vote, with_decision, with_asked, stories_after}
 use Rattle.sc_law_entries.proofs.RingProofs.Lemmas.{from_at, own_story, same_lock}
 use Rattle.sc_live_answers.proofs.LinkOutcomes.{Good, IsLinkedSo, GivesAllowedOrder, good_come, more_good, kept_links, finished_ends}

@@ -4,15 +4,15 @@ use Rattle.std.proofs.lemmas.Bool.{cond_both, cases_lt, both_ways, eq-eqb}
 use Rattle.std.proofs.lemmas.Option.{same_Some}
 use Rattle.sc_base.specs.Definitions.{Among, IsRoster, is_member}
 use Rattle.sc_node_table.specs.Values.{Draw, Command, Base, Free, Route}
-use Rattle.sc_machine_table.specs.Definitions.{Group, group_of, state_after}
+use Rattle.sc_group_table.specs.machine.Definitions.{Group, group_of, state_after}
 use Rattle.sc_paxos_law.proofs.Lemmas.{Among-left, Among-right}
-use Rattle.sc_scenario.specs.Definitions.{place_right, base_at, bases_up_to, IsValid, ValidScenariosAreBounded}
-use Rattle.sc_scenario.specs.declared.drafts.GroupLine.{GroupLine}
-use Rattle.sc_scenario.specs.declared.scenarios.Scenario.{Scenario}
-use Rattle.sc_sound.specs.Definitions.{groups_at, entries_at, world_at, decided_log, decided_state, as_nodes, Lawful, route_of}
-use Rattle.sc_log_entries.specs.declared.LogEntry.{LogEntry}
-use Rattle.sc_log_entries.specs.Definitions.{StoreWorld, first_world, named_group, world_of}
-use Rattle.sc_log_entries.proofs.Lemmas.{world_append}
+use Rattle.sc_scenario.specs.scenario.Definitions.{place_right, base_at, bases_up_to, IsValid, ValidScenariosAreBounded}
+use Rattle.sc_scenario.specs.declared.scenario.drafts.GroupLine.{GroupLine}
+use Rattle.sc_scenario.specs.declared.scenario.scenarios.Scenario.{Scenario}
+use Rattle.sc_meaning.specs.sound.Definitions.{groups_at, entries_at, world_at, decided_log, decided_state, as_nodes, Lawful, route_of}
+use Rattle.sc_meaning.specs.declared.entries.LogEntry.{LogEntry}
+use Rattle.sc_meaning.specs.entries.Definitions.{StoreWorld, first_world, named_group, world_of}
+use Rattle.sc_meaning.proofs.EntriesProofs.Lemmas.{world_append}
 use Rattle.sc_law_entries.specs.history.Definitions.{log_in}
 use Rattle.sc_law_entries.proofs.HistoryProofs.Lemmas.{logs_make_states}
 use Rattle.sc_law_entries.specs.ring.Definitions.{Sources, first_recorded}

@@ -6,11 +6,11 @@ use Rattle.std.proofs.lemmas.Option.{same_Some}
 use Rattle.sc_base.specs.Definitions.{same_draw, is_member, with_member, united}
 use Rattle.sc_node_table.specs.Values.{Draw, Offer, Finish, Core, Lock, Free, Coordinating, Promised, Watching, Effect, Link, Route, Frozen, Gift, Outcome, Abort, Merged, Moved, Migrated, Divided}
 use Rattle.sc_base.proofs.Lemmas.{grows}
-use Rattle.sc_cmd.specs.declared.effects.Effect.TheVariants as Was
-use Rattle.sc_cmd.specs.declared.votes.Vote.TheVariants as Ballot
-use Rattle.sc_machine_table.specs.Definitions.{Group, has_key_of, can_gain, gained_group, lost_group, welcomed_group, moved, participant_after, settled_in, watcher_after, party_freed, finished, can_cut}
+use Rattle.sc_words.specs.declared.commands.effects.Effect.TheVariants as Was
+use Rattle.sc_words.specs.declared.commands.votes.Vote.TheVariants as Ballot
+use Rattle.sc_group_table.specs.machine.Definitions.{Group, has_key_of, can_gain, gained_group, lost_group, welcomed_group, moved, participant_after, settled_in, watcher_after, party_freed, finished, can_cut}
 use Rattle.sc_law_entries.specs.ring.Definitions.{Sources, IsAllowed, Story, Stories}
-use Rattle.sc_log_entries.proofs.Lemmas.{one_of as or_true}
+use Rattle.sc_meaning.proofs.EntriesProofs.Lemmas.{one_of as or_true}
 
 -- some nodes, of each of which something holds with a group's name
 abbrev pub Good : (Draw → ℕ → Type 0) → Draw → List ℕ → Type 0

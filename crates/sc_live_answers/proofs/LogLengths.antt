@@ -9,9 +9,9 @@ use Rattle.sc_base.proofs.Lemmas.{draw_is}
 use Rattle.sc_actor.specs.Definitions.{mails, numbered}
 use Rattle.sc_paxos_law.specs.Definitions.{IsLog, Step, Accepted}
 use Rattle.sc_paxos_law.proofs.Lemmas.{Among-left, Among-either, shared_member}
-use Rattle.sc_paxos_words.proofs.Lemmas.{Each-among}
+use Rattle.sc_words.proofs.PaxosProofs.Lemmas.{Each-among}
 use Rattle.sc_law_groups.proofs.GroupProofs.Lemmas.{number_among}
-use Rattle.sc_sound.specs.Definitions.{is_accepted, accepts_of, accepts_got, accepts_at, accepts_from, accepts, rule_of, as_nodes}
+use Rattle.sc_meaning.specs.sound.Definitions.{is_accepted, accepts_of, accepts_got, accepts_at, accepts_from, accepts, rule_of, as_nodes}
 use Rattle.sc_law_entries.specs.logs.Definitions.{Rows}
 use Rattle.sc_live_answers.specs.Definitions.{AsksBelow, AreAskedBelow}
 

@@ -5,8 +5,8 @@ use Rattle.std.proofs.lemmas.Bool.{cond_both, eqb-true, eq-eqb, and_parts}
 use Rattle.sc_node_table.specs.Values.{Ballot, Command, Noop, Call, Base, Effect, Route, OrderResult, AnswerBody, Mail, MailBody, Request, Answer, Prepare, Promise, Accept, Accepted, Nack, Learn, Ask, Install, TxPrepare, TxVote, TxOutcome, TxElsewhere, TxWatch, TxWatched, Told, Counted, Chosen, NotYet}
 use Rattle.sc_mail.specs.declared.bodies.AnswerBody.TheVariants as Answers
 use Rattle.sc_base.specs.Definitions.{is_member, least_of}
-use Rattle.sc_machine_table.specs.Definitions.{child_by, Group, state_after, applied}
-use Rattle.sc_paxos_words.specs.Definitions.{LeaderState, without_flight_at, counted, AcceptorState}
+use Rattle.sc_group_table.specs.machine.Definitions.{child_by, Group, state_after, applied}
+use Rattle.sc_words.specs.paxos.Definitions.{LeaderState, without_flight_at, counted, AcceptorState}
 use Rattle.sc_node_table.specs.Definitions.{elected, ended, stopped, entered, answer_of, answered_or_put_back, order_result, effect_reported, announced, learnt_to, welcomed, slot_lost, landed, left_gone, left, is_among, looked_for, looked, executed_one, child_at, next_child, has_room, next_ready, ending, executed_ready, executed, install_to, asked_to_promise, welcomed_all, sent, pumped, put_back, ReplicaState, Place, Executed, childless, name_of, next, members, flying, set_at, last_slot, forgotten, learn_row, mailed, with_slot, without_slot, before_of, spoken, leads, readied, vote_tallied, voted, accepted_row}
 use Rattle.sc_node_table.specs.declared.Before.{Before}
 use Rattle.sc_law_walks.proofs.Lemmas.{entered_next, either_way}

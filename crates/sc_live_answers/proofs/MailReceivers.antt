@@ -4,8 +4,8 @@ use Rattle.std.proofs.lemmas.Bool.{cases_eq, cond_both, cond-false, eqb-true, an
 use Rattle.sc_base.specs.Definitions.{Each, is_member}
 use Rattle.sc_node_table.specs.Values.{Ballot}
 use Rattle.sc_node_table.specs.Definitions.{listed}
-use Rattle.sc_paxos_words.specs.Definitions.{below}
-use Rattle.sc_paxos_words.proofs.Lemmas.{Each-append, Each-weaker}
+use Rattle.sc_words.specs.paxos.Definitions.{below}
+use Rattle.sc_words.proofs.PaxosProofs.Lemmas.{Each-append, Each-weaker}
 use Rattle.sc_live_steps.specs.following.Definitions.{Mark, Asks, Votes, Tells, Installs, Prepares, Promises, Course, Progress, Sets, members_at, promise_by, IsFit, AreFit, IsFollowing, IsRow, IsIdle, IsOffer, answered, Takes, reported_of, told_from, Leads, Elects}
 use Rattle.sc_live_steps.proofs.FollowingProofs.Lemmas.{each-row, offers-each, told-each, rises, reached-least}
 use Rattle.sc_live_answers.specs.Definitions.{IsHeld, FindsOne, IsStranger, IsAtHome, HomesAreKept}

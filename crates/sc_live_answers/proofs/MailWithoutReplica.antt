@@ -16,7 +16,7 @@ use Rattle.sc_live_steps.proofs.FollowingProofs.Lemmas.{same_mark}
 use Rattle.sc_live_steps.specs.following.Definitions.{Course, Installs, mark_of, AreHeeded}
 use Rattle.sc_base.specs.Definitions.{is_member}
 use Rattle.sc_node_table.specs.Definitions.{NodeState, group_of_mail}
-use Rattle.sc_sound.specs.Definitions.{Player}
+use Rattle.sc_meaning.specs.sound.Definitions.{Player}
 use Rattle.sc_live_journals.specs.scenes.CreatedReplicas.{Led as JoinsLed, Unled as JoinsUnled}
 use Rattle.sc_live_journals.proofs.ScenesProofs.Lemmas.{no_lead as no_scene_lead}
 use Rattle.std.proofs.lemmas.Option.{same_Some}

@@ -6,9 +6,9 @@ use Rattle.std.proofs.lemmas.Option.{same_Some}
 use Rattle.sc_base.specs.Definitions.{same_draw, united}
 use Rattle.sc_node_table.specs.Values.{Draw, Offer, Command, Noop, Call, Join, Leave, Split, Begin, Prepared, RecordVote, GiveUp, Finish, Watched, RecordWatch, Core, Lock, Coordinating, Free, Promised, Watching, Effect, Route, OrderRefusal, Gift, No, Outcome, Abort, Merged, Moved, Migrated, Divided, Past}
 use Rattle.sc_base.proofs.Lemmas.{draw_is}
-use Rattle.sc_cmd.specs.declared.effects.Effect.TheVariants as Was
-use Rattle.sc_cmd.specs.declared.votes.Past.TheVariants as Cast
-use Rattle.sc_machine_table.specs.Definitions.{can_gain, finished, gained_group, lost_group, moved, participant_after, settled_in, watch_ended, welcomed_group, Group, applied, ordered, refusal_of, can_cut, has_key_of, has_named, aborted, asks_watcher, begun_group, is_coordinating, watch_recorded, has_voted, vote_of, voted_on, watch_vote_of}
+use Rattle.sc_words.specs.declared.commands.effects.Effect.TheVariants as Was
+use Rattle.sc_words.specs.declared.commands.votes.Past.TheVariants as Cast
+use Rattle.sc_group_table.specs.machine.Definitions.{can_gain, finished, gained_group, lost_group, moved, participant_after, settled_in, watch_ended, welcomed_group, Group, applied, ordered, refusal_of, can_cut, has_key_of, has_named, aborted, asks_watcher, begun_group, is_coordinating, watch_recorded, has_voted, vote_of, voted_on, watch_vote_of}
 use Rattle.sc_live_steps.proofs.EntriesProofs.Lemmas.{StandsAs, join-stands, leave-stands, split-stands, vote-waits, watch-stands}
 use Rattle.sc_live_answers.proofs.Cores.{called_core}
 

@@ -1,6 +1,6 @@
 -- How many names of groups a calm journal has, and how often its clients are sent on.
 use Rattle.sc_live_answers.proofs.RedirectBounds.{clients_near}
-use Rattle.sc_scenario.proofs.Lemmas.{valid_scenarios_are_bounded}
+use Rattle.sc_scenario.proofs.ScenarioProofs.Lemmas.{valid_scenarios_are_bounded}
 use Rattle.sc_live_answers.proofs.RequestLaws.{lawful_replicas_are_named_once}
 use Rattle.sc_live_journals.proofs.ChartsProofs.Lemmas.{led_stand_once}
 use Rattle.sc_live_answers.proofs.QuietPrefixLaws.{prefixes_are_found}

@@ -6,12 +6,12 @@ use Rattle.std.proofs.lemmas.List.{length_push}
 use Rattle.std.proofs.lemmas.Option.{none-some, same_Some}
 use Rattle.sc_base.specs.Definitions.{Among, is_member}
 use Rattle.sc_node_table.specs.Values.{Command, Base}
-use Rattle.sc_machine_table.specs.Definitions.{child_by, Group, group_of, state_after, applied, staying, child_of}
-use Rattle.sc_log_entries.specs.Definitions.{birth_of, division_of}
-use Rattle.sc_log_entries.specs.declared.Division.{Division}
-use Rattle.sc_log_entries.proofs.Lemmas.{births_are_children}
+use Rattle.sc_group_table.specs.machine.Definitions.{child_by, Group, group_of, state_after, applied, staying, child_of}
+use Rattle.sc_meaning.specs.entries.Definitions.{birth_of, division_of}
+use Rattle.sc_meaning.specs.declared.entries.Division.{Division}
+use Rattle.sc_meaning.proofs.EntriesProofs.Lemmas.{births_are_children}
 use Rattle.sc_paxos_law.proofs.Lemmas.{Among-either}
-use Rattle.sc_sound.specs.Definitions.{children_of}
+use Rattle.sc_meaning.specs.sound.Definitions.{children_of}
 use Rattle.sc_live_answers.specs.Definitions.{IsBirth}
 use Rattle.sc_law_groups.proofs.WholeProofs.Lemmas.{listed as option_is}
 

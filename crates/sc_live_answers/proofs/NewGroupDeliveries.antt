@@ -6,13 +6,13 @@ use Rattle.sc_base.specs.Definitions.{Among, same_ballot, same_draw, is_member}
 use Rattle.sc_node_table.specs.Values.{Ballot, Draw, Command, Base, OrderLine, Mail, MailBody, Request, Answer, Prepare, Promise, Accept, Accepted, Nack, Learn, Ask, Install, TxPrepare, TxVote, TxOutcome, TxElsewhere, TxWatch, TxWatched, Told as ToldMail, Seat, Deliver, Node, NotYet}
 use Rattle.sc_actor.specs.Definitions.{mails, numbered, row_of}
 use Rattle.sc_live_orderly.proofs.Lemmas.{is_born-from}
-use Rattle.sc_machine_table.specs.Definitions.{child_by, Group, group_of, state_after, applied, right_members}
-use Rattle.sc_scenario.specs.declared.scenarios.Scenario.{Scenario}
+use Rattle.sc_group_table.specs.machine.Definitions.{child_by, Group, group_of, state_after, applied, right_members}
+use Rattle.sc_scenario.specs.declared.scenario.scenarios.Scenario.{Scenario}
 use Rattle.sc_node_table.specs.Definitions.{child_at, group_of_mail, ReplicaState, Executed, born_replica, next, last_slot, set_at, childless, learn_row, mailed, slots_ahead, leads, vote_tallied, voted, accepted_row}
-use Rattle.sc_paxos_words.specs.Definitions.{flight_at, counted, vote_at}
-use Rattle.sc_paxos_words.proofs.Lemmas.{Each-among}
+use Rattle.sc_words.specs.paxos.Definitions.{flight_at, counted, vote_at}
+use Rattle.sc_words.proofs.PaxosProofs.Lemmas.{Each-among}
 use Rattle.sc_law_walks.proofs.Lemmas.{either_way}
-use Rattle.sc_sound.specs.Definitions.{groups_at, decided_log, Player, player_table, births, as_nodes}
+use Rattle.sc_meaning.specs.sound.Definitions.{groups_at, decided_log, Player, player_table, births, as_nodes}
 use Rattle.sc_live_steps.specs.calm.Definitions.{players, HasReplica, Rows}
 use Rattle.sc_live_steps.proofs.OrdersProofs.Lemmas.{cases-draw}
 use Rattle.sc_live_journals.specs.rows.Definitions.{view_at, with_event, IsWellKept}

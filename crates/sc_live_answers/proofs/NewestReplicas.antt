@@ -14,7 +14,7 @@ use Rattle.sc_live_steps.proofs.FollowingProofs.Lemmas.{reached-least}
 use Rattle.sc_live_steps.specs.following.Definitions.{AreFit, Course, IsFit, Mark, Sets, next_by, Tellers, StepsBy}
 use Rattle.sc_node_table.specs.Definitions.{Place, ReplicaState, listed, next}
 use Rattle.sc_live_orderly.specs.Definitions.{AreInTime}
-use Rattle.sc_sound.specs.Definitions.{Player, player_table}
+use Rattle.sc_meaning.specs.sound.Definitions.{Player, player_table}
 
 -- no replica of a well led group is further than its newest state
 pub no_further : (at : Sets) (over : Ends) (by : Tellers) (words : ℕ → ℕ → ℕ × ℕ) (births : List (Seat Player)) (rows : Rows) (base : Base) (course : Course) (node : ℕ) (r : ReplicaState) → IsWellLed at over by words births rows base course

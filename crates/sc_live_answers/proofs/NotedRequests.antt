@@ -8,15 +8,15 @@ use Rattle.std.proofs.lemmas.Bool.{cond_both}
 use Rattle.std.proofs.lemmas.Option.{none-some}
 use Rattle.sc_base.specs.Definitions.{Among}
 use Rattle.sc_node_table.specs.Values.{Draw, Noted, Op, Get, Put, Del, Add, Cas, Reply, Base, Entry}
-use Rattle.sc_ideal.specs.Definitions.{HasStoreReplies, contents_after, HasEntry, Contents, key_of, reply_of, was, after, holds_key}
-use Rattle.sc_ideal.proofs.Lemmas.{get-part}
-use Rattle.sc_machine_table.specs.Definitions.{Group}
+use Rattle.sc_words.specs.ideal.Definitions.{HasStoreReplies, contents_after, HasEntry, Contents, key_of, reply_of, was, after, holds_key}
+use Rattle.sc_words.proofs.IdealProofs.Lemmas.{get-part}
+use Rattle.sc_group_table.specs.machine.Definitions.{Group}
 use Rattle.sc_law_entries.specs.logs.Definitions.{Rows}
 use Rattle.sc_law_entries.proofs.LogsProofs.Lemmas.{entries_make_one_map, allowed_entries_make_one_map, among_place}
 use Rattle.sc_law_entries.specs.names.Definitions.{OtherNamesAreFree, TakenOrdersAreAllowed, TakenWishesAreAllowed, WishesAreAtPositions}
-use Rattle.sc_scenario.specs.Definitions.{ValidScenariosAreBounded}
-use Rattle.sc_scenario.specs.declared.scenarios.Scenario.{Scenario}
-use Rattle.sc_sound.specs.Definitions.{groups_at, history_at, decided_log, decided_state, as_nodes, births, issue_row, IsSound}
+use Rattle.sc_scenario.specs.scenario.Definitions.{ValidScenariosAreBounded}
+use Rattle.sc_scenario.specs.declared.scenario.scenarios.Scenario.{Scenario}
+use Rattle.sc_meaning.specs.sound.Definitions.{groups_at, history_at, decided_log, decided_state, as_nodes, births, issue_row, IsSound}
 use Rattle.sc_law_groups.specs.whole.Definitions.{ValidScenariosBeginWell, ValidJournalsAreSound, ValidEntriesAreLogs}
 use Rattle.sc_live_orderly.specs.Definitions.{AreInTime}
 use Rattle.sc_live_steps.specs.calm.Definitions.{players, StandsQuiet}

@@ -9,9 +9,9 @@ use Rattle.sc_actor.proofs.Lemmas.{mails-snoc}
 use Rattle.sc_live_orderly.specs.Definitions.{rest, taken, mail_for, AreInTime}
 use Rattle.sc_live_orderly.proofs.Lemmas.{by_time, in_time_before, in_time_tidy, last_in_time, rest-calm}
 use Rattle.sc_paxos_law.proofs.Lemmas.{Among-left, Among-right}
-use Rattle.sc_paxos_words.proofs.Lemmas.{Among-filter, Each-among, Each-append, Each-from, Each-weaker}
+use Rattle.sc_words.proofs.PaxosProofs.Lemmas.{Among-filter, Each-among, Each-append, Each-from, Each-weaker}
 use Rattle.sc_node_table.specs.Definitions.{listed}
-use Rattle.sc_sound.specs.Definitions.{Player}
+use Rattle.sc_meaning.specs.sound.Definitions.{Player}
 use Rattle.sc_live_steps.specs.calm.Definitions.{players, Rows}
 use Rattle.sc_live_steps.specs.following.Definitions.{Mark, Asks, mark_of, marks_of, IsKnown, Course, Sets, Tellers}
 use Rattle.sc_live_journals.specs.groups.Definitions.{IsGroupRow, RowPasses, RowRests, RowTakes, RowMakes, RowLeads, RowElects, Ends, IsWellLed, RowsKeepTaught, AreWellBorn, HasOneLog, IsSentSo, EventsGoOn}

@@ -1,8 +1,8 @@
 -- What the entries of an order make of a group: by one that begins a transaction it asks its successor, by one that hears it asks the participant's, and by a Yes it is bound as it was.
 use Rattle.std.proofs.Common.{◌≡◌, ℕ, Bool, true, false, Option, Some, None, refl, sym, ◌∙◌, ap, subst}
 use Rattle.sc_node_table.specs.Values.{Draw, Body, Offer, Watch, Command, Split, Begin, RecordVote, GiveUp, RecordWatch, Core, Free, Coordinating, Promised, Watching, Effect, OrderRefusal, Heard, No}
-use Rattle.sc_cmd.specs.declared.bodies.Body.TheVariants as At
-use Rattle.sc_machine_table.specs.Definitions.{Group, applied, begin_refused, refusal_of, refused_in, split_refused, locked_in, begun_group, decided_group, heard_group, vote_of, watch_vote_of}
+use Rattle.sc_words.specs.declared.commands.bodies.Body.TheVariants as At
+use Rattle.sc_group_table.specs.machine.Definitions.{Group, applied, begin_refused, refusal_of, refused_in, split_refused, locked_in, begun_group, decided_group, heard_group, vote_of, watch_vote_of}
 use Rattle.sc_law_groups.proofs.WholeProofs.Lemmas.{EndsIt, comes, voting_group}
 use Rattle.sc_live_steps.specs.orders.Definitions.{bond_in, bond_of, turn_of, work_by, Bond, Unbound, Asking, Bound, Turn, First, Lone, Next, Opens, Answers, Records}
 use Rattle.sc_live_answers.specs.Definitions.{BeginsSo}
@@ -88,7 +88,7 @@ module _ (group : Group) (free : group.core.lock ≡ Free) where
       served = λ client seq op after effect is w so e. absurd (unopened after.core (ap (λ (x : Core). x.lock) is ∙ free) e);
       joined = λ node order w so e. cc;
       left = λ node order w so e. cc;
-      parted = λ at child order r w so e. absurd (no_asking tx2 asked turn (sym (ap (λ l. bond_in l (Rattle.sc_machine_table.specs.Splits.left_core group.core at child)) free) ∙ e));
+      parted = λ at child order r w so e. absurd (no_asking tx2 asked turn (sym (ap (λ l. bond_in l (Rattle.sc_group_table.specs.machine.Splits.left_core group.core at child)) free) ∙ e));
       split = λ at child order r w so e. (let child_is = same_opens tx child w in
           subst (λ t. bond_of (begun_group group t (At.Split at child) order).core ≡ Asking tx2 asked turn → IsOpened group tx asked turn (begun_group group t (At.Split at child) order)) (sym child_is)
           (begun_so (At.Split at child) order (sym (refused_so (Split at child order)) ∙ r)) e);

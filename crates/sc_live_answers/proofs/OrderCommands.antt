@@ -5,8 +5,8 @@ use Rattle.std.specs.List.{list_any}
 use Rattle.std.proofs.lemmas.Bool.{le-leb, and_from, and_parts}
 use Rattle.sc_base.specs.Definitions.{Each, Drawer, next_name}
 use Rattle.sc_node_table.specs.Values.{Draw, Command, Core, Free, Order, OrderLine, OrderRefusal, Refused, AnswerBody, Mail, Told, Must}
-use Rattle.sc_cmd.specs.declared.orders.Order.TheVariants as An
-use Rattle.sc_cmd.specs.declared.orders.OrderRefusal.TheVariants.{NotLeader}
+use Rattle.sc_words.specs.declared.commands.orders.Order.TheVariants as An
+use Rattle.sc_words.specs.declared.commands.orders.OrderRefusal.TheVariants.{NotLeader}
 use Rattle.sc_node_table.specs.Definitions.{answered, group_of_order, ordered_command, untaken, queued_or_refused, ordered_row, Found, is_act, waits, turned_down, next_queued, from_backlog, from_acts, from_queues, found_by, found_for, offered, pumped_from, pumped, ReplicaState, Place, name_of, next, settled, may_offer, first_set, taken_at, under_way, is_idle, open_slots, last_slot, slots_ahead}
 use Rattle.sc_live_steps.specs.calm.Definitions.{IsAtRest}
 use Rattle.sc_live_answers.specs.Definitions.{is_split}

@@ -9,10 +9,10 @@ use Rattle.sc_actor.specs.Definitions.{mails, numbered, value, System, row_of, n
 use Rattle.sc_live_orderly.specs.Definitions.{IsCalmRow, AreInTime}
 use Rattle.sc_live_orderly.proofs.Lemmas.{in_time_before, in_time_tidy, last_in_time, TakesFirst, takes_first, is_born-from}
 use Rattle.sc_node_table.specs.Definitions.{NodeState, replica_of, group_of_mail, ReplicaState, name_of}
-use Rattle.sc_paxos_words.proofs.Lemmas.{find_found}
-use Rattle.sc_scenario.specs.declared.scenarios.Scenario.{Scenario}
-use Rattle.sc_scenario.specs.Definitions.{ValidScenariosAreBounded}
-use Rattle.sc_sound.specs.Definitions.{groups_at, Player, player_table, births, as_nodes}
+use Rattle.sc_words.proofs.PaxosProofs.Lemmas.{find_found}
+use Rattle.sc_scenario.specs.declared.scenario.scenarios.Scenario.{Scenario}
+use Rattle.sc_scenario.specs.scenario.Definitions.{ValidScenariosAreBounded}
+use Rattle.sc_meaning.specs.sound.Definitions.{groups_at, Player, player_table, births, as_nodes}
 use Rattle.sc_live_steps.specs.calm.Definitions.{Chart, players, IsCalmFor, FindsCalm, MayAskThere, Points, StandsOnce, Rows, led_elsewhere, leads, is_leading, is_led}
 use Rattle.sc_live_journals.specs.rows.Definitions.{replicas_of, replica_in, view_at, with_event}
 use Rattle.sc_live_journals.specs.mail.Definitions.{SlotsAreLeft}

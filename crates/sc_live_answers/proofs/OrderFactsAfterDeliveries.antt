@@ -4,8 +4,8 @@ use Rattle.sc_base.specs.Definitions.{Each}
 use Rattle.sc_node_table.specs.Values.{Draw, Seat, Deliver, Base}
 use Rattle.sc_actor.specs.Definitions.{row_of}
 use Rattle.sc_node_table.specs.Definitions.{listed}
-use Rattle.sc_scenario.specs.declared.scenarios.Scenario.{Scenario}
-use Rattle.sc_sound.specs.Definitions.{Player, as_nodes, births, player_table}
+use Rattle.sc_scenario.specs.declared.scenario.scenarios.Scenario.{Scenario}
+use Rattle.sc_meaning.specs.sound.Definitions.{Player, as_nodes, births, player_table}
 use Rattle.sc_live_steps.specs.calm.Definitions.{StandsQuiet, Rows}
 use Rattle.sc_live_steps.specs.orders.Definitions.{OfQuestion, OfVote, OfOutcome, LastTakes, OneTakes, TwoTakes, LastFreed, OneFreed, TwoFreed, IsStepOf, ByRest, ByOrder, ByChange, ByDeal, ByPassing, ByAsking, ByTaking, ByVote, ByNo, ByHearing, ByDeciding, ByEnd, closed, First, Here, Lone, Next, Scene, Turn, Asks, Deal, IsAt, Stage, Still, Weighs}
 use Rattle.sc_live_journals.specs.rows.Definitions.{with_event}

@@ -7,14 +7,14 @@ use Rattle.sc_actor.specs.declared.rows.Event.TheVariants.{Told}
 use Rattle.sc_actor.specs.declared.rows.Input.TheVariants.{Told as ToldInput}
 use Rattle.sc_actor.specs.Definitions.{value, numbers_of, row_of}
 use Rattle.sc_actor.proofs.Lemmas.{lawful-prefix}
-use Rattle.sc_client_table.specs.Definitions.{Client as ClientState}
-use Rattle.sc_cmd.specs.declared.orders.Order.TheVariants as An
+use Rattle.sc_client_table.specs.table.Definitions.{Client as ClientState}
+use Rattle.sc_words.specs.declared.commands.orders.Order.TheVariants as An
 use Rattle.sc_node_table.specs.Definitions.{NodeState, group_of_order, on_order, ordered_of, replica_of, ordered_command, ordered_row, untaken, ReplicaState, born_replica, listed, slots_ahead}
 use Rattle.sc_law_entries.specs.names.Definitions.{NodesHaveNames, OtherNamesAreFree, TakenOrdersAreAllowed, TakenWishesAreAllowed, WishesAreAtPositions}
-use Rattle.sc_scenario.specs.Definitions.{ValidScenariosAreBounded}
-use Rattle.sc_scenario.specs.declared.scenarios.Scenario.{Scenario}
+use Rattle.sc_scenario.specs.scenario.Definitions.{ValidScenariosAreBounded}
+use Rattle.sc_scenario.specs.declared.scenario.scenarios.Scenario.{Scenario}
 use Rattle.sc_law_groups.specs.whole.Definitions.{ValidScenariosBeginWell}
-use Rattle.sc_sound.specs.Definitions.{Lawful, Player, as_nodes, births, player_table, schedule, system_of}
+use Rattle.sc_meaning.specs.sound.Definitions.{Lawful, Player, as_nodes, births, player_table, schedule, system_of}
 use Rattle.sc_live_steps.specs.calm.Definitions.{Rows}
 use Rattle.sc_live_steps.specs.orders.Definitions.{IsStepOf, ByRest, ByOrder, ByChange, ByDeal, ByPassing, ByAsking, ByTaking, ByVote, ByNo, ByHearing, ByDeciding, ByEnd, LastFreed, LastTakes, OfOutcome, OfQuestion, OfVote, OneFreed, OneTakes, TwoFreed, TwoTakes, work_by, works, Asking, Bound, Here, Opens, Scene, Turn, Unbound, Work, free, Asks, Closes, ClosesBoth, Filed, IsAt, Leg, Mailed, Ordered, Recorded, Replied, SentOn, Stage, Still, Weighs, closing, MayFile}
 use Rattle.sc_live_steps.proofs.OrdersProofs.Lemmas.{cases-draw, tables-order}

@@ -5,14 +5,14 @@ use Rattle.sc_node_table.specs.Values.{Draw, Command, Base, OrderLine, Mail, Mai
 use Rattle.sc_actor.specs.Definitions.{mails, numbered, value, System, row_of}
 use Rattle.sc_live_orderly.specs.Definitions.{is_told, AreInTime}
 use Rattle.sc_live_orderly.proofs.Lemmas.{count_push, is_born-from}
-use Rattle.sc_scenario.specs.Definitions.{ValidScenariosAreBounded}
-use Rattle.sc_scenario.specs.declared.scenarios.Scenario.{Scenario}
-use Rattle.sc_machine_table.specs.Definitions.{applied}
+use Rattle.sc_scenario.specs.scenario.Definitions.{ValidScenariosAreBounded}
+use Rattle.sc_scenario.specs.declared.scenario.scenarios.Scenario.{Scenario}
+use Rattle.sc_group_table.specs.machine.Definitions.{applied}
 use Rattle.sc_node_table.specs.Definitions.{NodeState, replica_of, group_of_mail, may_come, ReplicaState, name_of}
-use Rattle.sc_sound.specs.Definitions.{groups_at, Player, player_table, births, as_nodes}
+use Rattle.sc_meaning.specs.sound.Definitions.{groups_at, Player, player_table, births, as_nodes}
 use Rattle.sc_live_steps.specs.calm.Definitions.{players, FindsCalm, Rows}
 use Rattle.sc_actor.specs.declared.rows.Event.TheVariants.{Told}
-use Rattle.sc_paxos_words.proofs.Lemmas.{Each-from, Each-among, Each-weaker}
+use Rattle.sc_words.proofs.PaxosProofs.Lemmas.{Each-from, Each-among, Each-weaker}
 use Rattle.sc_live_steps.specs.orders.Definitions.{Stage}
 use Rattle.sc_live_journals.specs.rows.Definitions.{view_at, with_event}
 use Rattle.sc_live_journals.proofs.RowsProofs.Lemmas.{view_was}
@@ -24,7 +24,7 @@ use Rattle.sc_live_steps.specs.entries.LoneEntries.{IsEntry}
 use Rattle.sc_live_journals.specs.charts.Definitions.{chart_at, quiet_prefix}
 use Rattle.sc_live_plain.specs.Definitions.{replicas_after, DoHintsRise}
 use Rattle.sc_live_plain.proofs.Lemmas.{each_numbered}
-use Rattle.sc_client_table.specs.Definitions.{Client as ClientState}
+use Rattle.sc_client_table.specs.table.Definitions.{Client as ClientState}
 use Rattle.sc_live_answers.proofs.GuidedGroups as at_row
 use Rattle.sc_live_answers.proofs.GuidedGroups.{named_there}
 use Rattle.sc_live_answers.proofs.ClientsUnderOrders.{started_still, other_stays}

@@ -7,10 +7,10 @@ use Rattle.sc_actor.specs.declared.rows.Event.TheVariants.{Told}
 use Rattle.sc_actor.specs.Definitions.{System, row_of, mails}
 use Rattle.sc_live_orderly.specs.Definitions.{is_born, is_reported, AreInTime}
 use Rattle.sc_live_orderly.proofs.Lemmas.{count_push, in_time_before, in_time_tidy, quiet-empty}
-use Rattle.sc_scenario.specs.Definitions.{ValidScenariosAreBounded}
-use Rattle.sc_scenario.specs.declared.scenarios.Scenario.{Scenario}
+use Rattle.sc_scenario.specs.scenario.Definitions.{ValidScenariosAreBounded}
+use Rattle.sc_scenario.specs.declared.scenario.scenarios.Scenario.{Scenario}
 use Rattle.sc_node_table.specs.Definitions.{ReplicaState, next, last_slot}
-use Rattle.sc_sound.specs.Definitions.{groups_at, Player, player_table, births, as_nodes}
+use Rattle.sc_meaning.specs.sound.Definitions.{groups_at, Player, player_table, births, as_nodes}
 use Rattle.sc_live_steps.specs.following.Definitions.{marks_of}
 use Rattle.sc_live_steps.specs.calm.Definitions.{players, FindsCalm, IsAtRest, Rows}
 use Rattle.sc_live_steps.specs.orders.Definitions.{Stage, Still}
@@ -24,7 +24,7 @@ use Rattle.sc_live_answers.proofs.GuidedGroups as at_row
 use Rattle.sc_live_answers.proofs.GuidedGroups.{named_there, reached_even}
 use Rattle.sc_live_answers.proofs.ClientsUnderOrders.{started_still, told_stays}
 use Rattle.sc_live_answers.proofs.SentMailGroups.{known_told}
-use Rattle.sc_policy.specs.Definitions.{is_reported as is_told_order}
+use Rattle.sc_group_table.specs.policy.Definitions.{is_reported as is_told_order}
 use Rattle.sc_live_answers.proofs.HeldOrdersAtStart.{given_allowed, given_rows, held_at_start}
 use Rattle.sc_live_answers.proofs.WellLedLeaders.{well_led_lead_alone}
 

@@ -7,7 +7,7 @@ use Rattle.sc_live_journals.proofs.LogsProofs.Lemmas.{slots_have_rosters, views_
 use Rattle.sc_live_answers.proofs.LedGroupLaws.{replicas_run_logs}
 use Rattle.sc_live_answers.specs.Definitions.{FlightsAreEntries, DeliveriesKeepOrdered, OrdersBeginOrdered}
 use Rattle.sc_live_answers.proofs.OrderInvariantAfterDeliveries.{deliveries_keep}
-use Rattle.sc_scenario.proofs.Lemmas.{valid_scenarios_are_bounded}
+use Rattle.sc_scenario.proofs.ScenarioProofs.Lemmas.{valid_scenarios_are_bounded}
 use Rattle.sc_live_journals.proofs.MailProofs.Lemmas.{slots_are_left, replicas_last, mail_may_come}
 use Rattle.sc_live_answers.proofs.GroupMailLaws.{next_rows_are_sent}
 use Rattle.sc_live_answers.proofs.NewestReplicas.{newest_stay}

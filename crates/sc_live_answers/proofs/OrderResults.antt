@@ -5,11 +5,11 @@ use Rattle.std.proofs.lemmas.Bool.{cases_Bool, cond-true, cond-false}
 use Rattle.sc_base.specs.Definitions.{same_draw}
 use Rattle.sc_base.proofs.Lemmas.{same_name}
 use Rattle.sc_node_table.specs.Values.{Draw, Body, Command, Noop, Call, Join, Leave, Split, Begin, Prepared, RecordVote, GiveUp, Finish, Watched, RecordWatch, Core, Lock, Free, Coordinating, Promised, Watching, Effect, Route, OrderResult, OrderRefusal, Heard, No, Outcome, Abort}
-use Rattle.sc_cmd.specs.Definitions.{is_alone, is_changed, decided_in, result_of}
-use Rattle.sc_cmd.specs.declared.bodies.Body.TheVariants as At
-use Rattle.sc_cmd.specs.declared.effects.Effect.TheVariants.{NoEffect}
-use Rattle.sc_cmd.specs.declared.votes.Vote.TheVariants as Says
-use Rattle.sc_machine_table.specs.Definitions.{Group, applied, ordered, split_group, begun_group, has_named, refusal_of, with_node, without_node, asks_watcher, participant_answered, vote_recorded}
+use Rattle.sc_words.specs.commands.Definitions.{is_alone, is_changed, decided_in, result_of}
+use Rattle.sc_words.specs.declared.commands.bodies.Body.TheVariants as At
+use Rattle.sc_words.specs.declared.commands.effects.Effect.TheVariants.{NoEffect}
+use Rattle.sc_words.specs.declared.commands.votes.Vote.TheVariants as Says
+use Rattle.sc_group_table.specs.machine.Definitions.{Group, applied, ordered, split_group, begun_group, has_named, refusal_of, with_node, without_node, asks_watcher, participant_answered, vote_recorded}
 use Rattle.sc_node_table.specs.Definitions.{before_of, before_in, begun_result, outcome_result}
 use Rattle.sc_live_steps.specs.orders.Definitions.{Turn, First, Lone, Next, is_watch, Work, Opens, Records, Asking, IsOrder, work_by, bond_of, bond_in, turn_of}
 use Rattle.sc_live_steps.proofs.OrdersProofs.Lemmas.{orders-leave, records-leave}

@@ -22,9 +22,9 @@ use Rattle.sc_live_journals.specs.scenes.Definitions.{IsOrdered, AtAnother, AtLe
 use Rattle.sc_node_table.specs.Definitions.{NodeState, group_of_order, may_come, replica_of, ReplicaState, mailed}
 use Rattle.sc_live_orderly.proofs.Lemmas.{in_time_before}
 use Rattle.sc_live_orderly.specs.Definitions.{AreInTime}
-use Rattle.sc_paxos_words.proofs.Lemmas.{Each-among, Each-weaker}
-use Rattle.sc_scenario.specs.declared.scenarios.Scenario.{Scenario}
-use Rattle.sc_sound.specs.Definitions.{Player, as_nodes, births, player_table}
+use Rattle.sc_words.proofs.PaxosProofs.Lemmas.{Each-among, Each-weaker}
+use Rattle.sc_scenario.specs.declared.scenario.scenarios.Scenario.{Scenario}
+use Rattle.sc_meaning.specs.sound.Definitions.{Player, as_nodes, births, player_table}
 use Rattle.sc_law_groups.proofs.GroupProofs.Lemmas.{number_among}
 
 -- a replica that is kept has nothing to do where it does not run

@@ -7,16 +7,16 @@ use Rattle.std.proofs.lemmas.Option.{same_Some}
 use Rattle.sc_base.specs.Definitions.{Arc, end_of, from, holds, before, offset, same_draw, is_member, united}
 use Rattle.sc_node_table.specs.Values.{Draw, Body, Offer, Command, Noop, Call, Join, Leave, Split, Begin, Prepared, RecordVote, GiveUp, Finish, Watched, RecordWatch, Lock, Coordinating, Free, Promised, Watching, Effect, Frozen, Gift, Heard, Outcome, Past, Vote}
 use Rattle.sc_base.proofs.Lemmas.{draw_is}
-use Rattle.sc_cmd.specs.Definitions.{is_alone, decided_in, is_changed}
-use Rattle.sc_cmd.specs.declared.bodies.Body.TheVariants as At
-use Rattle.sc_cmd.specs.declared.effects.Effect.TheVariants as Was
-use Rattle.sc_cmd.specs.declared.votes.Outcome.TheVariants as Is
-use Rattle.sc_cmd.specs.declared.votes.Past.TheVariants as Cast
-use Rattle.sc_cmd.specs.declared.votes.Vote.TheVariants as Vows
-use Rattle.sc_ideal.specs.Definitions.{Contents, part_of}
-use Rattle.sc_log_entries.specs.Definitions.{named_group}
-use Rattle.sc_log_entries.specs.declared.LogEntry.{LogEntry}
-use Rattle.sc_machine_table.specs.Definitions.{can_gain, gained_group, lost_group, participant_after, welcomed_group, Group, applied, Plan, can_cut, can_join, can_migrate, can_repart, can_split, closing_group, giving_group, giving_plan, has_key_of, may_merge, merged_group, merged_route, migrated_group, part_gift, taken, taking_group, taking_plan, left_group, asks_watcher, committed, decided_group, granted, released, vote_recorded, watch_answered, watch_recorded, has_voted}
+use Rattle.sc_words.specs.commands.Definitions.{is_alone, decided_in, is_changed}
+use Rattle.sc_words.specs.declared.commands.bodies.Body.TheVariants as At
+use Rattle.sc_words.specs.declared.commands.effects.Effect.TheVariants as Was
+use Rattle.sc_words.specs.declared.commands.votes.Outcome.TheVariants as Is
+use Rattle.sc_words.specs.declared.commands.votes.Past.TheVariants as Cast
+use Rattle.sc_words.specs.declared.commands.votes.Vote.TheVariants as Vows
+use Rattle.sc_words.specs.ideal.Definitions.{Contents, part_of}
+use Rattle.sc_meaning.specs.entries.Definitions.{named_group}
+use Rattle.sc_meaning.specs.declared.entries.LogEntry.{LogEntry}
+use Rattle.sc_group_table.specs.machine.Definitions.{can_gain, gained_group, lost_group, participant_after, welcomed_group, Group, applied, Plan, can_cut, can_join, can_migrate, can_repart, can_split, closing_group, giving_group, giving_plan, has_key_of, may_merge, merged_group, merged_route, migrated_group, part_gift, taken, taking_group, taking_plan, left_group, asks_watcher, committed, decided_group, granted, released, vote_recorded, watch_answered, watch_recorded, has_voted}
 use Rattle.sc_law_entries.specs.ring.Definitions.{AreAllowed, IsAllowed, IsVoteCast, Sources, StoryWorld, first_recorded, recorded_stories, recorded_after, recorded_next, Groups, BeginInPlace, stories_of, Stories, Story, new_story, put, retold, stories_after, unsigned, vote_in, watch_vote_in, with_answer, with_decision, with_vote, with_watch_vote}
 use Rattle.sc_law_entries.proofs.RingProofs.Lemmas.{end_right, right_is, apart_of, mine_old, own_is, part_eff, arcs_in, mine_open, Old, arc_of, succ_of, view_of, inside_part, no_shared, outside_next, room_of, IsPair, pair_meets, cut_is, Ends, part_is, at_start, Kept, groups_in, IsOnRing, Ring, KeptWorld, kept_on, less_room as rest_room}
 use Rattle.sc_live_answers.specs.Definitions.{HasOwnKeys, IsTakenBy}
@@ -184,7 +184,7 @@ module _ (sources : Sources) (ring : Ring) (gs : Groups) (ys : Stories) (g : Dra
       takes_so cut y e = decided_fits (Is.Moved at None) y (λ offer o frozen v group own same signed keys.
           loses group own at (subst (λ (x : Frozen). can_cut x.arc at ≡ true) (voted_is y e frozen v ∙ sym same) cut))
 
-      repart_so : Answer (committed (Rattle.sc_machine_table.specs.Plans.repart_plan s at f) s tx)
+      repart_so : Answer (committed (Rattle.sc_group_table.specs.machine.Plans.repart_plan s at f) s tx)
       repart_so =
           cond_both (holds s.core.arc at) (giving_plan s at f) (taking_plan s at f) (λ (plan : Plan). Answer (committed plan s tx))
           (λ held. cond_both (can_repart s.core at f) (Some (giving_group s at f, Is.Moved at (Some (part_gift s at)))) None (λ (plan : Plan). Answer (committed plan s tx))
@@ -194,7 +194,7 @@ module _ (sources : Sources) (ring : Ring) (gs : Groups) (ys : Stories) (g : Dra
           (sym (Rattle.std.proofs.lemmas.Bool.cond-false (holds s.core.arc at) (can_cut s.core.arc at) (can_cut f.arc at && can_join s.core.arc (before f.arc at)) out) ∙ (and_parts (can_repart s.core at f) (not (has_key_of s.pairs (taken at f).pairs)) c).0)).0)
           (λ _. idle_so))
 
-    migrate_so : (node : ℕ) → Answer (committed (Rattle.sc_machine_table.specs.Plans.migrate_plan s node f) s tx)
+    migrate_so : (node : ℕ) → Answer (committed (Rattle.sc_group_table.specs.machine.Plans.migrate_plan s node f) s tx)
     migrate_so node =
         cond_both (can_migrate s.core node f) (Some (migrated_group s node f, Is.Migrated node)) None (λ (plan : Plan). Answer (committed plan s tx))
         (λ c y e. decided_fits (Is.Migrated node) y (λ offer o frozen v group own same signed keys.
@@ -296,7 +296,7 @@ module _ (sources : Sources) (ring : Ring) (gs : Groups) (ys : Stories) (g : Dra
   entry_fits (RecordVote tx (Vows.No why) by) a = fit_retold ys tx (with_answer s.core (Vows.No why) (applied s (RecordVote tx (Vows.No why) by)).1) (denied_at tx why by s.core.lock) old
   entry_fits (RecordWatch tx vote by) a = fit_retold ys tx (with_decision (decided_in (applied s (RecordWatch tx vote by)).1)) (watch_recorded_at tx vote s.core.lock refl) old
   entry_fits (GiveUp tx) a = fit_retold ys tx (with_decision (decided_in (applied s (GiveUp tx)).1))
-      (cond_both (Rattle.sc_machine_table.specs.Transactions.is_coordinating s.core.lock tx) _ _ (Decided_so tx) (λ _. abort_at tx) (λ _. idle_at tx)) old
+      (cond_both (Rattle.sc_group_table.specs.machine.Transactions.is_coordinating s.core.lock tx) _ _ (Decided_so tx) (λ _. abort_at tx) (λ _. idle_at tx)) old
 
 -- ---- all entries
 

@@ -5,11 +5,11 @@ use Rattle.sc_base.specs.Definitions.{Among, same_draw}
 use Rattle.sc_node_table.specs.Values.{Draw, Seat, Offer, Watch, Command, Split, Begin, Prepared, RecordVote, Finish, Watched, RecordWatch, Base, Free, Promised, Watching, NoEffect, Outcome, Flight}
 use Rattle.sc_base.proofs.Lemmas.{same_name}
 use Rattle.sc_actor.proofs.Lemmas.{lawful-prefix}
-use Rattle.sc_machine_table.specs.Definitions.{finished, participant_after, settled_in, watch_ended, Group, state_after, applied, frozen_of}
+use Rattle.sc_group_table.specs.machine.Definitions.{finished, participant_after, settled_in, watch_ended, Group, state_after, applied, frozen_of}
 use Rattle.sc_node_table.specs.Definitions.{ReplicaState}
-use Rattle.sc_paxos_words.proofs.Lemmas.{Each-among, Each-from}
-use Rattle.sc_scenario.specs.declared.scenarios.Scenario.{Scenario}
-use Rattle.sc_sound.specs.Definitions.{world_at, Lawful, Player, as_nodes, births, schedule, system_of, IsOneMap}
+use Rattle.sc_words.proofs.PaxosProofs.Lemmas.{Each-among, Each-from}
+use Rattle.sc_scenario.specs.declared.scenario.scenarios.Scenario.{Scenario}
+use Rattle.sc_meaning.specs.sound.Definitions.{world_at, Lawful, Player, as_nodes, births, schedule, system_of, IsOneMap}
 use Rattle.sc_law_groups.specs.whole.Definitions.{ValidEntriesAreLogs, ValidJournalsAreSound}
 use Rattle.sc_law_entries.specs.logs.Definitions.{AreItsLogs}
 use Rattle.sc_live_steps.specs.calm.Definitions.{Rows}

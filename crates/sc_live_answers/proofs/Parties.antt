@@ -2,9 +2,9 @@
 use Rattle.std.proofs.Common.{◌≡◌, ℕ, Bool, false, List, [], ◌∷◌, Some, ◌∙◌, ap}
 use Rattle.sc_node_table.specs.Values.{Draw, Command, Free, Seat}
 use Rattle.sc_actor.specs.Definitions.{numbers_of}
-use Rattle.sc_machine_table.specs.Definitions.{Group, state_after}
+use Rattle.sc_group_table.specs.machine.Definitions.{Group, state_after}
 use Rattle.sc_node_table.specs.Definitions.{ReplicaState}
-use Rattle.sc_sound.specs.Definitions.{Player}
+use Rattle.sc_meaning.specs.sound.Definitions.{Player}
 use Rattle.sc_live_steps.specs.calm.Definitions.{Rows}
 use Rattle.sc_live_steps.specs.orders.Definitions.{bond_of, Asking, Bound, Turn, First, Lone, Next}
 use Rattle.sc_live_journals.specs.rows.Definitions.{view_at}

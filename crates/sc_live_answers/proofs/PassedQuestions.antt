@@ -5,8 +5,8 @@ use Rattle.sc_base.specs.Definitions.{Among}
 use Rattle.sc_node_table.specs.Values.{Draw, Seat, Deliver, Got, Base, Mail, TxElsewhere, Client, Node}
 use Rattle.sc_actor.specs.Definitions.{value, row_of}
 use Rattle.sc_node_table.specs.Definitions.{NodeState, group_of_mail, may_come, replica_of, routed, ReplicaState, Place, mailed}
-use Rattle.sc_scenario.specs.declared.scenarios.Scenario.{Scenario}
-use Rattle.sc_sound.specs.Definitions.{Player, as_nodes, births, player_table}
+use Rattle.sc_scenario.specs.declared.scenario.scenarios.Scenario.{Scenario}
+use Rattle.sc_meaning.specs.sound.Definitions.{Player, as_nodes, births, player_table}
 use Rattle.sc_live_plain.specs.Definitions.{replicas_after}
 use Rattle.sc_live_steps.specs.calm.Definitions.{HasReplica, Rows}
 use Rattle.sc_live_steps.specs.orders.Definitions.{errand_by, errands_for, Elsewhere, Here, Question, is_watch, Asks, Deal, IsAt, Recorded, SentOn, Stage}

@@ -7,7 +7,7 @@ use Rattle.sc_base.proofs.Lemmas.{same_name}
 use Rattle.sc_actor.specs.Definitions.{mails, numbered, row_of}
 use Rattle.sc_live_orderly.specs.Definitions.{AreInTime}
 use Rattle.sc_live_orderly.proofs.Lemmas.{last_in_time}
-use Rattle.sc_sound.specs.Definitions.{Player, player_table}
+use Rattle.sc_meaning.specs.sound.Definitions.{Player, player_table}
 use Rattle.sc_live_steps.specs.calm.Definitions.{players, Rows}
 use Rattle.sc_live_steps.specs.orders.Definitions.{errand_by, errand_for, errands_for, Errand, Question, Elsewhere, Reply, Result, Scene, Asks, Closes, ClosesBoth, Deal, IsAt, Leg, Ordered, Recorded, Replied, SentOn, Stage, Still, Weighs, closing, parties_of}
 use Rattle.sc_live_steps.proofs.OrdersProofs.Lemmas.{among-left, among-right, found, tagged, tokens, closing-errand, errands_of, no-errand}

@@ -5,15 +5,15 @@ use Rattle.std.proofs.lemmas.Option.{none-some}
 use Rattle.sc_base.specs.Definitions.{Among, client_actor}
 use Rattle.sc_node_table.specs.Values.{Draw, Node, Client, OrderLine, Mail, Seat, Input}
 use Rattle.sc_actor.specs.Definitions.{value, acted, replay, input_of}
-use Rattle.sc_client_table.specs.Definitions.{Client as ClientState, born_client, table}
+use Rattle.sc_client_table.specs.table.Definitions.{Client as ClientState, born_client, table}
 use Rattle.sc_live_orderly.proofs.Lemmas.{seat_found}
 use Rattle.sc_paxos_law.proofs.Lemmas.{Among-either, from_map}
-use Rattle.sc_paxos_words.proofs.Lemmas.{find_found}
+use Rattle.sc_words.proofs.PaxosProofs.Lemmas.{find_found}
 use Rattle.sc_node_table.specs.Definitions.{replica_of, born_node, ReplicaState, numbers_from}
-use Rattle.sc_scenario.specs.declared.scenarios.Asks.{Asks}
-use Rattle.sc_scenario.specs.declared.scenarios.Scenario.{Scenario}
-use Rattle.sc_scenario.specs.Definitions.{IsBounded}
-use Rattle.sc_sound.specs.Definitions.{Player, player_table, node_seat, client_seat, route_of, births, as_nodes}
+use Rattle.sc_scenario.specs.declared.scenario.scenarios.Asks.{Asks}
+use Rattle.sc_scenario.specs.declared.scenario.scenarios.Scenario.{Scenario}
+use Rattle.sc_scenario.specs.scenario.Definitions.{IsBounded}
+use Rattle.sc_meaning.specs.sound.Definitions.{Player, player_table, node_seat, client_seat, route_of, births, as_nodes}
 use Rattle.sc_law_groups.proofs.WholeProofs.Lemmas.{all_apart}
 use Rattle.sc_live_steps.specs.calm.Definitions.{Rows}
 use Rattle.sc_live_journals.specs.rows.Definitions.{replicas_of, replica_in, view_at}

@@ -1,6 +1,6 @@
 -- The prefixes of a calm journal from its births on.
 use Rattle.sc_live_answers.proofs.RestAtBirth.{journals_begin}
-use Rattle.sc_scenario.proofs.Lemmas.{valid_scenarios_are_bounded}
+use Rattle.sc_scenario.proofs.ScenarioProofs.Lemmas.{valid_scenarios_are_bounded}
 use Rattle.sc_live_journals.proofs.MailProofs.Lemmas.{slots_are_left}
 use Rattle.sc_live_answers.proofs.LedGroupLaws.{groups_begin_standing}
 use Rattle.sc_live_answers.proofs.RequestLaws.{lawful_replicas_are_named_once}

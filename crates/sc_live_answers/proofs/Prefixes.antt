@@ -7,8 +7,8 @@ use Rattle.sc_actor.specs.Definitions.{System}
 use Rattle.sc_actor.specs.declared.rows.Event.TheVariants.{Told}
 use Rattle.sc_live_orderly.specs.Definitions.{IsInOrder, IsCalmEvent, is_born, is_told}
 use Rattle.sc_live_orderly.proofs.Lemmas.{in_time_tidy, quiet-empty}
-use Rattle.sc_scenario.specs.declared.scenarios.Scenario.{Scenario}
-use Rattle.sc_sound.specs.Definitions.{groups_at, Player, births, as_nodes}
+use Rattle.sc_scenario.specs.declared.scenario.scenarios.Scenario.{Scenario}
+use Rattle.sc_meaning.specs.sound.Definitions.{groups_at, Player, births, as_nodes}
 use Rattle.sc_live_steps.specs.following.Definitions.{marks_of}
 use Rattle.sc_live_steps.specs.calm.Definitions.{players, Rows}
 use Rattle.sc_live_journals.specs.rows.Definitions.{marks_at}

@@ -7,12 +7,12 @@ use Rattle.sc_node_table.specs.Values.{Ballot, Draw, Command, Base, OrderLine, M
 use Rattle.sc_actor.specs.Definitions.{mails, row_of}
 use Rattle.sc_live_orderly.specs.Definitions.{IsCalmEvent, rest, AreInTime}
 use Rattle.sc_live_orderly.proofs.Lemmas.{in_time_before}
-use Rattle.sc_paxos_words.specs.Definitions.{IsAtLeast}
-use Rattle.sc_paxos_words.proofs.Lemmas.{Each-weaker}
-use Rattle.sc_scenario.specs.declared.scenarios.Scenario.{Scenario}
+use Rattle.sc_words.specs.paxos.Definitions.{IsAtLeast}
+use Rattle.sc_words.proofs.PaxosProofs.Lemmas.{Each-weaker}
+use Rattle.sc_scenario.specs.declared.scenario.scenarios.Scenario.{Scenario}
 use Rattle.sc_node_table.specs.Definitions.{NodeState, group_of_mail, ordered_row, ReplicaState, Place, listed, name_of, next, born_replica, mailed, made_by, slots_ahead}
 use Rattle.sc_law_walks.specs.Definitions.{GoesOn}
-use Rattle.sc_sound.specs.Definitions.{Player, player_table, births, as_nodes}
+use Rattle.sc_meaning.specs.sound.Definitions.{Player, player_table, births, as_nodes}
 use Rattle.sc_live_steps.specs.calm.Definitions.{players, Rows}
 use Rattle.sc_live_steps.specs.following.Definitions.{Dated, dated_for, marks_in, AreLow, from_slot_of, IsDatedRow, Mark, Asks, Tells, Installs, Prepares, mark_of, Course, Progress, Sets, IsKnown, IsFit, Tellers, IsLeadOf, IsAside, IsCount, answered, marks_for}
 use Rattle.sc_live_steps.proofs.FollowingProofs.Lemmas.{prepares_are_known, counts_of, same_mark, order_is_kept}

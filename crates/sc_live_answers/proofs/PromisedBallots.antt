@@ -4,11 +4,11 @@ use Rattle.std.proofs.lemmas.Bool.{cases_eq}
 use Rattle.sc_node_table.specs.Values.{Ballot, Draw, Base, OrderLine, Mail, Seat, Event, Row}
 use Rattle.sc_actor.specs.Definitions.{mails, row_of}
 use Rattle.sc_live_orderly.specs.Definitions.{IsCalmEvent, AreInTime}
-use Rattle.sc_paxos_words.specs.Definitions.{IsAtLeast}
-use Rattle.sc_paxos_words.proofs.Lemmas.{at_least_itself, at_least_trans}
-use Rattle.sc_scenario.specs.declared.scenarios.Scenario.{Scenario}
+use Rattle.sc_words.specs.paxos.Definitions.{IsAtLeast}
+use Rattle.sc_words.proofs.PaxosProofs.Lemmas.{at_least_itself, at_least_trans}
+use Rattle.sc_scenario.specs.declared.scenario.scenarios.Scenario.{Scenario}
 use Rattle.sc_node_table.specs.Definitions.{ReplicaState, listed, first_ballot}
-use Rattle.sc_sound.specs.Definitions.{Player, player_table, births, as_nodes}
+use Rattle.sc_meaning.specs.sound.Definitions.{Player, player_table, births, as_nodes}
 use Rattle.sc_live_steps.specs.calm.Definitions.{players, Rows}
 use Rattle.sc_live_steps.specs.following.Definitions.{Mark, Prepares, reached, pledged, AreFit, Course, Progress, Sets, IsOpen, Tellers, IsRow, marks_for}
 use Rattle.sc_live_steps.proofs.FollowingProofs.Lemmas.{pledged-append}

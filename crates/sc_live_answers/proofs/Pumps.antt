@@ -3,8 +3,8 @@ use Rattle.std.proofs.Common.{◌≡◌, ℕ, ◌+◌, ◌&&◌, nat_le, Bool, t
 use Rattle.std.specs.Prelude.{is_some}
 use Rattle.std.specs.List.{list_any}
 use Rattle.sc_node_table.specs.Values.{Command, Must, Gap}
-use Rattle.sc_paxos_words.specs.Definitions.{LogState, next_of, must}
-use Rattle.sc_paxos_words.specs.declared.answers.Must.TheVariants.{Value, Free as Open}
+use Rattle.sc_words.specs.paxos.Definitions.{LogState, next_of, must}
+use Rattle.sc_words.specs.declared.paxos.answers.Must.TheVariants.{Value, Free as Open}
 use Rattle.sc_node_table.specs.Definitions.{Found, is_act, from_backlog, from_acts, from_queues, found_by, found_for, offered, pumped_from, pumped, Place, next, settled, may_offer, taken_at, under_way, is_idle, last_slot}
 
 -- the log of a place

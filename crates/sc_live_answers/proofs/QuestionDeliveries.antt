@@ -6,8 +6,8 @@ use Rattle.sc_node_table.specs.Values.{Draw, Seat, Deliver, Got, Base, Mail, Cli
 use Rattle.sc_actor.specs.Definitions.{value, row_of}
 use Rattle.sc_node_table.specs.Definitions.{NodeState, group_of_mail, may_come, replica_of, routed, Place, ReplicaState, mailed}
 use Rattle.sc_live_orderly.proofs.Lemmas.{last_in_time}
-use Rattle.sc_scenario.specs.declared.scenarios.Scenario.{Scenario}
-use Rattle.sc_sound.specs.Definitions.{Player, as_nodes, births, player_table}
+use Rattle.sc_scenario.specs.declared.scenario.scenarios.Scenario.{Scenario}
+use Rattle.sc_meaning.specs.sound.Definitions.{Player, as_nodes, births, player_table}
 use Rattle.sc_live_steps.specs.calm.Definitions.{Rows}
 use Rattle.sc_live_steps.specs.orders.Definitions.{errand_by, errand_for, errands_for, Errand}
 use Rattle.sc_live_journals.specs.rows.Definitions.{view_at, with_event}

@@ -4,10 +4,10 @@ use Rattle.std.proofs.lemmas.Bool.{cases_eq}
 use Rattle.sc_base.specs.Definitions.{Among, least_of}
 use Rattle.sc_node_table.specs.Values.{Draw, Seat, Deliver, Command, Base, MailBody, Accepted, TxElsewhere, Flight}
 use Rattle.sc_actor.specs.Definitions.{row_of}
-use Rattle.sc_machine_table.specs.Definitions.{Group, state_after}
+use Rattle.sc_group_table.specs.machine.Definitions.{Group, state_after}
 use Rattle.sc_node_table.specs.Definitions.{group_of_mail, ReplicaState}
-use Rattle.sc_scenario.specs.declared.scenarios.Scenario.{Scenario}
-use Rattle.sc_sound.specs.Definitions.{Player, as_nodes, births, player_table}
+use Rattle.sc_scenario.specs.declared.scenario.scenarios.Scenario.{Scenario}
+use Rattle.sc_meaning.specs.sound.Definitions.{Player, as_nodes, births, player_table}
 use Rattle.sc_live_plain.specs.Definitions.{replicas_after}
 use Rattle.sc_live_steps.specs.calm.Definitions.{HasReplica, Rows}
 use Rattle.sc_live_steps.specs.orders.Definitions.{errands_for, work_by, works, Errand, Here, Question, Work, is_watch, Asks, Deal, IsAt, Stage}

@@ -3,11 +3,11 @@ use Rattle.std.proofs.Common.{◌≡◌, ℕ, Bool, true, false, true≢false, L
 use Rattle.sc_base.specs.Definitions.{Among, Each, least_of}
 use Rattle.sc_node_table.specs.Values.{Draw, Seat, Deliver, Command, Noop, Call, Join, RecordVote, RecordWatch, Base, Frozen, Mail, Flight}
 use Rattle.sc_actor.specs.Definitions.{row_of, mails, numbered}
-use Rattle.sc_cmd.specs.declared.votes.Vote.TheVariants as Says
+use Rattle.sc_words.specs.declared.commands.votes.Vote.TheVariants as Says
 use Rattle.sc_node_table.specs.Definitions.{group_of_mail, ReplicaState}
-use Rattle.sc_paxos_words.proofs.Lemmas.{Each-among}
-use Rattle.sc_scenario.specs.declared.scenarios.Scenario.{Scenario}
-use Rattle.sc_sound.specs.Definitions.{Player, as_nodes, births, player_table}
+use Rattle.sc_words.proofs.PaxosProofs.Lemmas.{Each-among}
+use Rattle.sc_scenario.specs.declared.scenario.scenarios.Scenario.{Scenario}
+use Rattle.sc_meaning.specs.sound.Definitions.{Player, as_nodes, births, player_table}
 use Rattle.sc_live_plain.specs.Definitions.{replicas_after}
 use Rattle.sc_live_steps.specs.calm.Definitions.{HasReplica, Rows}
 use Rattle.sc_live_answers.specs.Definitions.{IsTrueEntry, HasDone, Promising, doer, opened, ContinuesSince, IsHinted, IsAllowedBy, ReplicasAreRecorded, IsTrueSince, HintedOrdersGoOn, heard_doer}

@@ -5,8 +5,8 @@ use Rattle.sc_base.specs.Definitions.{Among, Each}
 use Rattle.sc_node_table.specs.Values.{Draw, Seat, Deliver, Base, Mail}
 use Rattle.sc_actor.specs.Definitions.{numbers_of, row_of}
 use Rattle.sc_node_table.specs.Definitions.{NodeState, replica_of, Place, ReplicaState, born_replica, slots_ahead}
-use Rattle.sc_scenario.specs.declared.scenarios.Scenario.{Scenario}
-use Rattle.sc_sound.specs.Definitions.{Player, as_nodes, births, player_table}
+use Rattle.sc_scenario.specs.declared.scenario.scenarios.Scenario.{Scenario}
+use Rattle.sc_meaning.specs.sound.Definitions.{Player, as_nodes, births, player_table}
 use Rattle.sc_live_steps.specs.calm.Definitions.{StandsQuiet, Rows}
 use Rattle.sc_live_steps.specs.orders.Definitions.{works, Answers, Asking, Bound, Elsewhere, Ends, Errand, First, Here, IsNone, Lone, Next, Question, Records, Reply, Result, Scene, Turn, Unbound, Work, free, is_watch, Asks, Closes, ClosesBoth, Deal, Filed, IsAt, Leg, Mailed, Ordered, Recorded, Replied, SentOn, Stage, Still, Weighs, bound_by, closing, heard, parties_of}
 use Rattle.sc_live_steps.proofs.OrdersProofs.Lemmas.{cases-draw, found, no-work, work_of}

@@ -5,7 +5,7 @@ use Rattle.sc_node_table.specs.Values.{Draw, Deliver, Mail}
 use Rattle.sc_actor.specs.declared.rows.Event.TheVariants.{Told}
 use Rattle.sc_actor.specs.Definitions.{row_of}
 use Rattle.sc_live_orderly.proofs.Lemmas.{last_in_time}
-use Rattle.sc_sound.specs.Definitions.{as_nodes, births, player_table}
+use Rattle.sc_meaning.specs.sound.Definitions.{as_nodes, births, player_table}
 use Rattle.sc_live_steps.specs.calm.Definitions.{players}
 use Rattle.sc_live_steps.specs.orders.Definitions.{errand_by, Elsewhere, Here, Unbound, Asks, IsAt, SentOn, Stage, Still}
 use Rattle.sc_live_steps.proofs.OrdersProofs.Lemmas.{among-right}

@@ -4,15 +4,15 @@ use Rattle.std.proofs.lemmas.Bool.{cond_both, cond-true, eqb-true, eq-eqb}
 use Rattle.sc_base.specs.Definitions.{Among, Each, same_draw, is_member, least_of}
 use Rattle.sc_node_table.specs.Values.{Draw, Base, Core}
 use Rattle.sc_base.proofs.Lemmas.{draw_is}
-use Rattle.sc_client_table.specs.Definitions.{Client as ClientState, born_client}
-use Rattle.sc_paxos_words.proofs.Lemmas.{at_least_itself, Each-among, find_found}
+use Rattle.sc_client_table.specs.table.Definitions.{Client as ClientState, born_client}
+use Rattle.sc_words.proofs.PaxosProofs.Lemmas.{at_least_itself, Each-among, find_found}
 use Rattle.sc_paxos_law.proofs.Lemmas.{from_map}
-use Rattle.sc_machine_table.specs.Definitions.{group_of}
+use Rattle.sc_group_table.specs.machine.Definitions.{group_of}
 use Rattle.sc_node_table.specs.Definitions.{born_replicas, born_node, replica_of, is_node, ReplicaState, name_of, next, members, first_ballot, born_replica, slots_ahead}
-use Rattle.sc_scenario.specs.Definitions.{base_at, IsBounded, ValidScenariosAreBounded}
-use Rattle.sc_scenario.specs.declared.scenarios.Asks.{Asks}
-use Rattle.sc_scenario.specs.declared.scenarios.Scenario.{Scenario}
-use Rattle.sc_sound.specs.Definitions.{route_of}
+use Rattle.sc_scenario.specs.scenario.Definitions.{base_at, IsBounded, ValidScenariosAreBounded}
+use Rattle.sc_scenario.specs.declared.scenario.scenarios.Asks.{Asks}
+use Rattle.sc_scenario.specs.declared.scenario.scenarios.Scenario.{Scenario}
+use Rattle.sc_meaning.specs.sound.Definitions.{route_of}
 use Rattle.sc_live_steps.specs.calm.Definitions.{View, IsNewest, IsAtRest, IsBelow, IsLinked, StandsQuiet, RisesAt, IsAnswered, IsQuiet}
 use Rattle.sc_live_steps.proofs.CalmProofs.Lemmas.{begin_at_rest, first_leads}
 use Rattle.sc_live_plain.specs.Definitions.{replicas_after, IsQuietJournal, IsOfNodes, IsKept, frame_at_rest, Frame, IsFrame, frame_of, IsBegun, Requests, IsPlainGroup}

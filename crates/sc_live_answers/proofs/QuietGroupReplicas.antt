@@ -5,9 +5,9 @@ use Rattle.sc_base.specs.Definitions.{Among, is_member}
 use Rattle.sc_node_table.specs.Values.{Base, Seat}
 use Rattle.sc_live_orderly.specs.Definitions.{is_born}
 use Rattle.sc_live_orderly.proofs.Lemmas.{in_time_tidy, quiet-empty}
-use Rattle.sc_scenario.specs.declared.scenarios.Scenario.{Scenario}
+use Rattle.sc_scenario.specs.declared.scenario.scenarios.Scenario.{Scenario}
 use Rattle.sc_node_table.specs.Definitions.{ReplicaState, next, last_slot}
-use Rattle.sc_sound.specs.Definitions.{Player, births, as_nodes}
+use Rattle.sc_meaning.specs.sound.Definitions.{Player, births, as_nodes}
 use Rattle.sc_live_steps.specs.calm.Definitions.{players, HasReplica}
 use Rattle.sc_law_entries.specs.logs.Definitions.{Rows}
 use Rattle.sc_live_steps.specs.following.Definitions.{marks_of, Course, Progress, Sets, members_at, Tellers, AreAt}

@@ -4,11 +4,11 @@ use Rattle.std.specs.Prelude.{is_some}
 use Rattle.std.proofs.lemmas.Bool.{cases_Bool}
 use Rattle.sc_node_table.specs.Values.{Ballot, Draw, Base, Route, Seat}
 use Rattle.sc_base.specs.Definitions.{is_member}
-use Rattle.sc_paxos_words.specs.Definitions.{IsAtLeast}
-use Rattle.sc_paxos_words.proofs.Lemmas.{same_from_at_least}
-use Rattle.sc_scenario.specs.declared.scenarios.Scenario.{Scenario}
+use Rattle.sc_words.specs.paxos.Definitions.{IsAtLeast}
+use Rattle.sc_words.proofs.PaxosProofs.Lemmas.{same_from_at_least}
+use Rattle.sc_scenario.specs.declared.scenario.scenarios.Scenario.{Scenario}
 use Rattle.sc_node_table.specs.Definitions.{ReplicaState, next}
-use Rattle.sc_sound.specs.Definitions.{Player, births, as_nodes}
+use Rattle.sc_meaning.specs.sound.Definitions.{Player, births, as_nodes}
 use Rattle.sc_live_steps.specs.calm.Definitions.{players, HasReplica, RisesAt, Rows}
 use Rattle.sc_live_steps.specs.following.Definitions.{Mark, reached, pledged, Course, Progress, Sets, IsOpen, IsFollowing, Tellers, hinted}
 use Rattle.sc_live_journals.specs.rows.Definitions.{view_at, marks_at, next_in, promise_in, progress_at}

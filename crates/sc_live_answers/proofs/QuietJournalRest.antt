@@ -4,9 +4,9 @@ use Rattle.std.specs.Prelude.{nat_le}
 use Rattle.sc_node_table.specs.Values.{Draw, Base, OrderLine, Mail}
 use Rattle.sc_actor.specs.Definitions.{mails, copies, System, numbers_of}
 use Rattle.sc_live_orderly.proofs.Lemmas.{in_time_tidy, quiet-empty}
-use Rattle.sc_scenario.specs.declared.scenarios.Scenario.{Scenario}
+use Rattle.sc_scenario.specs.declared.scenario.scenarios.Scenario.{Scenario}
 use Rattle.sc_node_table.specs.Definitions.{ReplicaState, next}
-use Rattle.sc_sound.specs.Definitions.{Player, births, as_nodes}
+use Rattle.sc_meaning.specs.sound.Definitions.{Player, births, as_nodes}
 use Rattle.sc_live_steps.specs.calm.Definitions.{players, IsAtRest, Rows}
 use Rattle.sc_live_steps.specs.orders.Definitions.{bond_in, errands_for, Bond, Unbound, Work, Errand, Here, free, Still, IsAt}
 use Rattle.sc_live_journals.specs.rows.Definitions.{view_at}

@@ -2,10 +2,10 @@
 use Rattle.std.proofs.Common.{◌≡◌, ℕ, true, true≢false, Option, Some, None, inl, inr, sym, ◌∙◌, ap, subst}
 use Rattle.sc_node_table.specs.Values.{Draw, Route}
 use Rattle.sc_base.specs.Definitions.{least_of}
-use Rattle.sc_machine_table.specs.Definitions.{Group}
+use Rattle.sc_group_table.specs.machine.Definitions.{Group}
 use Rattle.sc_node_table.specs.Definitions.{ReplicaState}
-use Rattle.sc_scenario.specs.declared.scenarios.Scenario.{Scenario}
-use Rattle.sc_sound.specs.Definitions.{as_nodes, births}
+use Rattle.sc_scenario.specs.declared.scenario.scenarios.Scenario.{Scenario}
+use Rattle.sc_meaning.specs.sound.Definitions.{as_nodes, births}
 use Rattle.sc_live_steps.specs.calm.Definitions.{HasReplica, IsNewest, IsQuiet, StandsQuiet, View, Rows}
 use Rattle.sc_live_answers.specs.Definitions.{AreKnown, AreReachable, AreSeen}
 use Rattle.sc_live_journals.specs.scenes.Definitions.{IsThere}

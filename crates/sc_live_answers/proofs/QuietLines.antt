@@ -4,12 +4,12 @@ use Rattle.std.proofs.lemmas.Bool.{both_ways}
 use Rattle.sc_base.specs.Definitions.{Among, Each, client_actor, least_of}
 use Rattle.sc_node_table.specs.Values.{Draw, Base, Mail, Node, Client}
 use Rattle.sc_actor.specs.Definitions.{value, has_started}
-use Rattle.sc_client_table.specs.Definitions.{Client as ClientState, born_client}
-use Rattle.sc_paxos_words.proofs.Lemmas.{Each-among}
-use Rattle.sc_scenario.specs.declared.scenarios.Asks.{Asks}
-use Rattle.sc_scenario.specs.declared.scenarios.Scenario.{Scenario}
-use Rattle.sc_scenario.specs.Definitions.{ValidScenariosAreBounded}
-use Rattle.sc_sound.specs.Definitions.{Player, player_table, client_seat, route_of, system_of, as_nodes}
+use Rattle.sc_client_table.specs.table.Definitions.{Client as ClientState, born_client}
+use Rattle.sc_words.proofs.PaxosProofs.Lemmas.{Each-among}
+use Rattle.sc_scenario.specs.declared.scenario.scenarios.Asks.{Asks}
+use Rattle.sc_scenario.specs.declared.scenario.scenarios.Scenario.{Scenario}
+use Rattle.sc_scenario.specs.scenario.Definitions.{ValidScenariosAreBounded}
+use Rattle.sc_meaning.specs.sound.Definitions.{Player, player_table, client_seat, route_of, system_of, as_nodes}
 use Rattle.sc_live_orderly.specs.Definitions.{rest, is_born}
 use Rattle.sc_live_steps.specs.calm.Definitions.{Ways, StandsQuiet, IsGoneQuiet, IsAnswered}
 use Rattle.sc_live_plain.specs.Definitions.{IsAsking, AreSeated, NobodyWaits, HaveAllReplies, replicas_after, setting_at, AreFramesOf, IsQuietJournal, frame_at_rest, Other, mark, Setting, IsSetting, Frame, IsBegun, IsPlainGroup, IsPlainAt}

@@ -1,6 +1,6 @@
 -- What a quiet prefix of a calm journal says of its groups, links, routes and notes.
 use Rattle.sc_live_answers.proofs.LinkLogs.{links_were_members as links_were_members_by}
-use Rattle.sc_scenario.proofs.Lemmas.{valid_scenarios_are_bounded}
+use Rattle.sc_scenario.proofs.ScenarioProofs.Lemmas.{valid_scenarios_are_bounded}
 use Rattle.sc_law_groups.proofs.WholeProofs.Lemmas.{valid_scenarios_begin_well, valid_journals_are_sound, valid_entries_are_logs}
 use Rattle.sc_law_entries.proofs.NamesProofs.Lemmas.{orders_are_allowed_allowed, orders_are_allowed_wishes, orders_are_allowed_positions, names_have_one_owner_others}
 use Rattle.sc_live_answers.specs.Definitions.{LinksWereMembers, GroupsAreAskedThrough, FreeGroupsHaveArcs, PrefixesAreFound, QuietPrefixesHaveGroups, QuietLogsAreExecuted, MembersAreHome, NoMailForStrangers, EntriesCreateChildren, ChildrenAreMade, PrefixMembersHaveReplicas, PrefixGroupsHaveReplicas, RoutesInPrefixesAgree, PrefixesAreKnown, PrefixesAreReachable, PrefixesAreTakenIn, PrefixesAreLinked, StillPrefixesAreFree, IssuedAreBegun, PrefixNotesAreBegun, PrefixesGoInTurn, PrefixesStayInTurn, FirstGroupsAreReached}

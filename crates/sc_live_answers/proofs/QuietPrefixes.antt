@@ -8,13 +8,13 @@ use Rattle.sc_node_table.specs.Values.{Draw, Base, OrderLine, Mail, Node, Client
 use Rattle.sc_base.proofs.Lemmas.{draw_is}
 use Rattle.sc_actor.specs.Definitions.{input_of, acted, replay, value}
 use Rattle.sc_actor.proofs.Lemmas.{lawful-prefix}
-use Rattle.sc_paxos_words.proofs.Lemmas.{find_found}
+use Rattle.sc_words.proofs.PaxosProofs.Lemmas.{find_found}
 use Rattle.sc_paxos_law.proofs.Lemmas.{Among-either, from_map}
-use Rattle.sc_scenario.specs.Definitions.{IsValid, ValidScenariosAreBounded}
-use Rattle.sc_scenario.specs.declared.scenarios.Asks.{Asks}
-use Rattle.sc_scenario.specs.declared.scenarios.Scenario.{Scenario}
+use Rattle.sc_scenario.specs.scenario.Definitions.{IsValid, ValidScenariosAreBounded}
+use Rattle.sc_scenario.specs.declared.scenario.scenarios.Asks.{Asks}
+use Rattle.sc_scenario.specs.declared.scenario.scenarios.Scenario.{Scenario}
 use Rattle.sc_node_table.specs.Definitions.{is_node, replica_of, ReplicaState, name_of, numbers_from}
-use Rattle.sc_sound.specs.Definitions.{groups_at, log_at, decided_log, Player, player_table, node_seat, client_seat, client_seats, route_of, births, as_nodes, Lawful, system_of, schedule, Continues, IsSound}
+use Rattle.sc_meaning.specs.sound.Definitions.{groups_at, log_at, decided_log, Player, player_table, node_seat, client_seat, client_seats, route_of, births, as_nodes, Lawful, system_of, schedule, Continues, IsSound}
 use Rattle.sc_law_entries.specs.logs.Definitions.{Rows, DecideInTurn}
 use Rattle.sc_law_entries.proofs.LogsProofs.Lemmas.{deciding_rows_stay}
 use Rattle.sc_law_entries.specs.names.Definitions.{OtherNamesAreFree, TakenOrdersAreAllowed, TakenWishesAreAllowed, WishesAreAtPositions}

@@ -6,15 +6,15 @@ use Rattle.std.proofs.lemmas.Bool.{cases_Bool, lt-ltb}
 use Rattle.sc_base.proofs.Lemmas.{draw_is, same_name}
 use Rattle.sc_base.specs.Definitions.{Among, Arc, IsArc, offset, holds, same_draw, pos_of}
 use Rattle.sc_node_table.specs.Values.{Draw, Base, Free, OrderLine, Mail, Row}
-use Rattle.sc_ideal.specs.Definitions.{holds_key}
-use Rattle.sc_log_entries.specs.Definitions.{effective, effective_by, is_open, serves, IsPlaced, StoreWorld, named_group, is_named}
-use Rattle.sc_log_entries.specs.declared.Cut.{Cut}
+use Rattle.sc_words.specs.ideal.Definitions.{holds_key}
+use Rattle.sc_meaning.specs.entries.Definitions.{effective, effective_by, is_open, serves, IsPlaced, StoreWorld, named_group, is_named}
+use Rattle.sc_meaning.specs.declared.entries.Cut.{Cut}
 use Rattle.sc_law_entries.specs.logs.Definitions.{AreItsLogs}
-use Rattle.sc_machine_table.specs.Definitions.{Group}
+use Rattle.sc_group_table.specs.machine.Definitions.{Group}
 use Rattle.sc_node_table.specs.Definitions.{ReplicaState, next}
-use Rattle.sc_paxos_words.proofs.Lemmas.{find_found}
-use Rattle.sc_scenario.specs.declared.scenarios.Scenario.{Scenario}
-use Rattle.sc_sound.specs.Definitions.{groups_at, birth_at, is_birth_of, world_at, as_nodes, IsOneMap}
+use Rattle.sc_words.proofs.PaxosProofs.Lemmas.{find_found}
+use Rattle.sc_scenario.specs.declared.scenario.scenarios.Scenario.{Scenario}
+use Rattle.sc_meaning.specs.sound.Definitions.{groups_at, birth_at, is_birth_of, world_at, as_nodes, IsOneMap}
 use Rattle.sc_live_steps.specs.calm.Definitions.{HasReplica, IsNewest, StandsQuiet}
 use Rattle.sc_live_plain.specs.Definitions.{replicas_after, AreFramesOf, IsQuietJournal, frame_at_rest, Frame, AreNamedApart}
 use Rattle.sc_live_answers.specs.Definitions.{state_of, AreKnown, QuietGroupsHaveCuts, IsOfCut}

@@ -4,9 +4,9 @@ use Rattle.std.specs.Prelude.{slice_get}
 use Rattle.std.proofs.lemmas.Bool.{cases_Bool}
 use Rattle.sc_base.specs.Definitions.{Each, IsRoster, is_member}
 use Rattle.sc_node_table.specs.Values.{Ballot, Base}
-use Rattle.sc_scenario.specs.declared.scenarios.Scenario.{Scenario}
+use Rattle.sc_scenario.specs.declared.scenario.scenarios.Scenario.{Scenario}
 use Rattle.sc_node_table.specs.Definitions.{is_node, ReplicaState, next}
-use Rattle.sc_sound.specs.Definitions.{as_nodes}
+use Rattle.sc_meaning.specs.sound.Definitions.{as_nodes}
 use Rattle.sc_live_steps.specs.calm.Definitions.{IsUnbound}
 use Rattle.sc_live_steps.proofs.CalmProofs.Lemmas.{unbound_new}
 use Rattle.sc_live_plain.specs.Definitions.{IsOfNodes, IsKept}

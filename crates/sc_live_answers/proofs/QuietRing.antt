@@ -6,15 +6,15 @@ use Rattle.std.proofs.lemmas.Bool.{cases_Bool, lt-ltb}
 use Rattle.sc_base.proofs.Lemmas.{draw_is, same_name}
 use Rattle.sc_base.specs.Definitions.{Among, Arc, IsArc, end_of, holds, offset, same_draw, pos_of}
 use Rattle.sc_node_table.specs.Values.{Draw, Base, Free}
-use Rattle.sc_ideal.specs.Definitions.{holds_key, contents_after}
-use Rattle.sc_log_entries.specs.Definitions.{effective, effective_by, is_open, serves, IsPlaced, StoreWorld, is_named, named_group}
-use Rattle.sc_log_entries.specs.declared.Cut.{Cut}
+use Rattle.sc_words.specs.ideal.Definitions.{holds_key, contents_after}
+use Rattle.sc_meaning.specs.entries.Definitions.{effective, effective_by, is_open, serves, IsPlaced, StoreWorld, is_named, named_group}
+use Rattle.sc_meaning.specs.declared.entries.Cut.{Cut}
 use Rattle.sc_law_entries.specs.logs.Definitions.{AreItsLogs}
-use Rattle.sc_machine_table.specs.Definitions.{Group}
+use Rattle.sc_group_table.specs.machine.Definitions.{Group}
 use Rattle.sc_node_table.specs.Definitions.{ReplicaState, next}
-use Rattle.sc_paxos_words.proofs.Lemmas.{find_found}
-use Rattle.sc_scenario.specs.declared.scenarios.Scenario.{Scenario}
-use Rattle.sc_sound.specs.Definitions.{groups_at, is_birth_of, world_at, as_nodes, IsOneMap}
+use Rattle.sc_words.proofs.PaxosProofs.Lemmas.{find_found}
+use Rattle.sc_scenario.specs.declared.scenario.scenarios.Scenario.{Scenario}
+use Rattle.sc_meaning.specs.sound.Definitions.{groups_at, is_birth_of, world_at, as_nodes, IsOneMap}
 use Rattle.sc_live_steps.specs.calm.Definitions.{IsNewest, StandsQuiet, Rows}
 use Rattle.sc_live_plain.specs.Definitions.{IsQuietJournal, replicas_after}
 use Rattle.sc_live_answers.specs.Definitions.{AreKnown, state_of}

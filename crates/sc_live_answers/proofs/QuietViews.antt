@@ -7,10 +7,10 @@ use Rattle.sc_node_table.specs.Values.{Draw, Base, OrderLine, Mail, Client, Seat
 use Rattle.sc_actor.specs.Definitions.{value}
 use Rattle.sc_node_table.specs.Definitions.{is_node, replica_of, ReplicaState, name_of, numbers_from}
 use Rattle.sc_paxos_law.proofs.Lemmas.{Among-left, from_map}
-use Rattle.sc_paxos_words.proofs.Lemmas.{find_found}
-use Rattle.sc_scenario.specs.declared.scenarios.Scenario.{Scenario}
-use Rattle.sc_scenario.specs.Definitions.{IsValid, ValidScenariosAreBounded}
-use Rattle.sc_sound.specs.Definitions.{Player, player_table, node_seat, client_seat, client_seats, route_of, as_nodes, births, Lawful}
+use Rattle.sc_words.proofs.PaxosProofs.Lemmas.{find_found}
+use Rattle.sc_scenario.specs.declared.scenario.scenarios.Scenario.{Scenario}
+use Rattle.sc_scenario.specs.scenario.Definitions.{IsValid, ValidScenariosAreBounded}
+use Rattle.sc_meaning.specs.sound.Definitions.{Player, player_table, node_seat, client_seat, client_seats, route_of, as_nodes, births, Lawful}
 use Rattle.sc_live_journals.specs.charts.Definitions.{replicas_of as chart_replicas, all_replicas}
 use Rattle.sc_live_plain.specs.Definitions.{replicas_after, IsQuietJournal, replicas_of}
 use Rattle.sc_live_plain.proofs.Lemmas.{in_numbers, to_numbers, map_among, among_last}

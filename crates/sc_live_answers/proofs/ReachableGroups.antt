@@ -3,10 +3,10 @@ use Rattle.std.proofs.Common.{◌≡◌, ℕ, ◌+◌, ◌≤◌, true, length, 
 use Rattle.std.proofs.lemmas.Option.{none-some}
 use Rattle.sc_base.specs.Definitions.{Among, is_member}
 use Rattle.sc_node_table.specs.Values.{Draw, Base, Route}
-use Rattle.sc_machine_table.specs.Definitions.{Group, group_of, state_after}
-use Rattle.sc_scenario.specs.declared.scenarios.Scenario.{Scenario}
+use Rattle.sc_group_table.specs.machine.Definitions.{Group, group_of, state_after}
+use Rattle.sc_scenario.specs.declared.scenario.scenarios.Scenario.{Scenario}
 use Rattle.sc_node_table.specs.Definitions.{ReplicaState, next}
-use Rattle.sc_sound.specs.Definitions.{groups_at, decided_log, decided_state, as_nodes}
+use Rattle.sc_meaning.specs.sound.Definitions.{groups_at, decided_log, decided_state, as_nodes}
 use Rattle.sc_live_steps.specs.calm.Definitions.{HasReplica, IsNewest, StandsQuiet}
 use Rattle.sc_law_entries.specs.logs.Definitions.{Rows}
 use Rattle.sc_live_steps.specs.following.Definitions.{Course, Tellers}

@@ -3,15 +3,15 @@ use Rattle.std.proofs.Common.{◌≡◌, ℕ, ◌≤◌, List, ◌++◌, drop, l
 use Rattle.std.proofs.lemmas.Option.{same_Some}
 use Rattle.sc_base.specs.Definitions.{Among, Each, united}
 use Rattle.sc_node_table.specs.Values.{Draw, Seat, Offer, Watch, Command, Finish, Prepared, RecordVote, Watched, Base, Route, Frozen, Outcome, Merged, Flight}
-use Rattle.sc_cmd.specs.declared.bodies.Body.TheVariants as At
-use Rattle.sc_cmd.specs.declared.votes.Vote.TheVariants as Vows
-use Rattle.sc_machine_table.specs.Definitions.{Group, group_of, state_after}
+use Rattle.sc_words.specs.declared.commands.bodies.Body.TheVariants as At
+use Rattle.sc_words.specs.declared.commands.votes.Vote.TheVariants as Vows
+use Rattle.sc_group_table.specs.machine.Definitions.{Group, group_of, state_after}
 use Rattle.sc_node_table.specs.Definitions.{NodeState, ReplicaState}
-use Rattle.sc_paxos_words.proofs.Lemmas.{Each-weaker}
+use Rattle.sc_words.proofs.PaxosProofs.Lemmas.{Each-weaker}
 use Rattle.sc_paxos_law.specs.Definitions.{IsLog}
-use Rattle.sc_scenario.specs.Definitions.{IsValid, ValidScenariosAreBounded}
-use Rattle.sc_scenario.specs.declared.scenarios.Scenario.{Scenario}
-use Rattle.sc_sound.specs.Definitions.{entries_at, groups_at, decided_log, Lawful, Player, as_nodes, route_of}
+use Rattle.sc_scenario.specs.scenario.Definitions.{IsValid, ValidScenariosAreBounded}
+use Rattle.sc_scenario.specs.declared.scenario.scenarios.Scenario.{Scenario}
+use Rattle.sc_meaning.specs.sound.Definitions.{entries_at, groups_at, decided_log, Lawful, Player, as_nodes, route_of}
 use Rattle.sc_law_entries.specs.ring.Definitions.{Sources, Story, unsigned, unsigned_watch}
 use Rattle.sc_law_entries.specs.logs.Definitions.{AllowsAsItStands, GroupAllows}
 use Rattle.sc_law_entries.proofs.LogsProofs.Lemmas.{states_allow, groups_allow_others, deciding_rows}
@@ -151,7 +151,7 @@ module _ (bounded : ValidScenariosAreBounded) (begin : ValidScenariosBeginWell) 
         splits = splits_fit (group_of base) executed_log.0 (Each-weaker Queues BeginsShared shared executed_log.0 queues) fresh.roster (none_split (group_of base) fresh.free);
         promises = λ tx offer lock. (
           allows base.core.id (Prepared tx offer) (stands_offer sources base.core.id state tx offer lock),
-          allows base.core.id (RecordVote tx (Vows.Yes (Rattle.sc_machine_table.specs.Plans.frozen_of state)) 0) (al.promises tx offer lock base.core.id 0),
+          allows base.core.id (RecordVote tx (Vows.Yes (Rattle.sc_group_table.specs.machine.Plans.frozen_of state)) 0) (al.promises tx offer lock base.core.id 0),
         );
         watches = λ tx watch lock. allows base.core.id (Watched tx watch) (stands_watch sources base.core.id state tx watch lock);
       }

@@ -5,15 +5,15 @@ use Rattle.sc_base.specs.Definitions.{Among, Each, holds, is_member, united}
 use Rattle.sc_node_table.specs.Values.{Draw, Seat, Body, Offer, Command, Prepared, RecordVote, RecordWatch, Base, Coordinating, Free, Promised, Frozen, Past, Flight}
 use Rattle.sc_actor.proofs.Lemmas.{lawful-prefix}
 use Rattle.sc_live_plain.specs.Definitions.{replicas_after}
-use Rattle.sc_cmd.specs.Definitions.{is_alone}
-use Rattle.sc_cmd.specs.declared.bodies.Body.TheVariants as At
-use Rattle.sc_cmd.specs.declared.votes.Vote.TheVariants as Vows
-use Rattle.sc_machine_table.specs.Definitions.{Group, limit_refused, can_migrate, can_repart, frozen_of, has_key_of, may_merge, merged_link, taken, begun_group, heard_group, vote_of, state_after}
+use Rattle.sc_words.specs.commands.Definitions.{is_alone}
+use Rattle.sc_words.specs.declared.commands.bodies.Body.TheVariants as At
+use Rattle.sc_words.specs.declared.commands.votes.Vote.TheVariants as Vows
+use Rattle.sc_group_table.specs.machine.Definitions.{Group, limit_refused, can_migrate, can_repart, frozen_of, has_key_of, may_merge, merged_link, taken, begun_group, heard_group, vote_of, state_after}
 use Rattle.sc_node_table.specs.Definitions.{ReplicaState, before_in}
-use Rattle.sc_paxos_words.proofs.Lemmas.{Each-among}
+use Rattle.sc_words.proofs.PaxosProofs.Lemmas.{Each-among}
 use Rattle.sc_law_entries.specs.ring.Definitions.{offer_with, unsigned, watch_with}
-use Rattle.sc_scenario.specs.declared.scenarios.Scenario.{Scenario}
-use Rattle.sc_sound.specs.Definitions.{world_at, Lawful, Player, as_nodes, births, schedule, system_of, IsOneMap}
+use Rattle.sc_scenario.specs.declared.scenario.scenarios.Scenario.{Scenario}
+use Rattle.sc_meaning.specs.sound.Definitions.{world_at, Lawful, Player, as_nodes, births, schedule, system_of, IsOneMap}
 use Rattle.sc_law_groups.specs.whole.Definitions.{ValidEntriesAreLogs, ValidJournalsAreSound}
 use Rattle.sc_law_entries.specs.logs.Definitions.{AreItsLogs}
 use Rattle.sc_live_steps.specs.calm.Definitions.{StandsQuiet, Rows}

@@ -1,11 +1,11 @@
 -- A client that has not started is sent on no more often than there are names: it knows one group alone.
 use Rattle.std.proofs.Common.{◌≡◌, ℕ, ◌≤◌, List, [], ◌∷◌, ◌++◌, length, refl, sym, ◌∙◌, subst, arith, append-nil}
 use Rattle.sc_node_table.specs.Values.{Draw, Base}
-use Rattle.sc_lookup.specs.declared.ways.Way.{Way}
-use Rattle.sc_scenario.specs.Definitions.{ValidScenariosAreBounded}
-use Rattle.sc_scenario.specs.declared.scenarios.Scenario.{Scenario}
+use Rattle.sc_client_table.specs.declared.lookup.ways.Way.{Way}
+use Rattle.sc_scenario.specs.scenario.Definitions.{ValidScenariosAreBounded}
+use Rattle.sc_scenario.specs.declared.scenario.scenarios.Scenario.{Scenario}
 use Rattle.sc_node_table.specs.Definitions.{ReplicaState}
-use Rattle.sc_sound.specs.Definitions.{births, as_nodes}
+use Rattle.sc_meaning.specs.sound.Definitions.{births, as_nodes}
 use Rattle.sc_live_steps.specs.calm.Definitions.{Chart, players, sent_on, Rows}
 use Rattle.sc_live_journals.specs.charts.Definitions.{all_replicas, chart_at, names_at, reach_in, LedStandOnce, quiet_prefix}
 use Rattle.sc_live_plain.specs.Definitions.{IsAsking, AreRequests, AreSeated, QuietJournalsAsk, IsLinkedSetting, Setting, IsSetting}

@@ -5,10 +5,10 @@ use Rattle.std.specs.List.{list_any}
 use Rattle.sc_node_table.specs.Values.{Ballot, Draw, Command, Noop, Call, Effect, Route, OrderResult, AnswerBody, Answer, Prepare, Accept, Learn, Install, Must, Gap}
 use Rattle.sc_base.specs.Definitions.{client_actor, is_member, least_of}
 use Rattle.sc_mail.specs.declared.bodies.AnswerBody.TheVariants as Says
-use Rattle.sc_machine_table.specs.Definitions.{base_of, applied}
+use Rattle.sc_group_table.specs.machine.Definitions.{base_of, applied}
 use Rattle.sc_law_entries.proofs.HistoryProofs.Lemmas.{applied_same}
-use Rattle.sc_paxos_words.specs.declared.answers.Must.TheVariants.{Value, Free as Open}
-use Rattle.sc_paxos_words.specs.Definitions.{below, must}
+use Rattle.sc_words.specs.declared.paxos.answers.Must.TheVariants.{Value, Free as Open}
+use Rattle.sc_words.specs.paxos.Definitions.{below, must}
 use Rattle.sc_node_table.specs.Definitions.{has_act, with_act, act_queued, open_nodes, elected, ended, stopped, saw, entered, answer_of, answered_or_put_back, order_result, effect_reported, announced, learnt_to, welcomed, landed, left_gone, left, is_among, looked_for, looked, executed_one, executed, install_to, asked_to_promise, welcomed_all, sent, answered_all, sent_others, order_number, Found, is_act, from_backlog, from_acts, from_queues, found_by, found_for, offered, pumped_from, pumped, put_back, ReplicaState, Place, name_of, next, members, settled, may_offer, taken_at, under_way, is_idle, last_slot, forgotten, before_of, spoken}
 use Rattle.sc_node_table.specs.declared.Before.{Before}
 use Rattle.sc_law_walks.proofs.Lemmas.{next_found, welcomed_place, executed_place, landed_place, either_way}

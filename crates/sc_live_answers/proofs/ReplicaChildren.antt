@@ -4,13 +4,13 @@ use Rattle.std.proofs.lemmas.Bool.{cases_eq, cases_lt, cond_both, cond-true, and
 use Rattle.std.proofs.lemmas.List.{length_push}
 use Rattle.sc_base.specs.Definitions.{Among, Each, IsRoster, is_member}
 use Rattle.sc_node_table.specs.Values.{Ballot, Command, Base, Mail, Counted, Chosen, NotYet}
-use Rattle.sc_machine_table.specs.Definitions.{child_by, Group, group_of, state_after, applied}
-use Rattle.sc_paxos_words.specs.Definitions.{LeaderState, without_flight_at, counted}
-use Rattle.sc_paxos_words.proofs.Lemmas.{Each-among}
+use Rattle.sc_group_table.specs.machine.Definitions.{child_by, Group, group_of, state_after, applied}
+use Rattle.sc_words.specs.paxos.Definitions.{LeaderState, without_flight_at, counted}
+use Rattle.sc_words.proofs.PaxosProofs.Lemmas.{Each-among}
 use Rattle.sc_paxos_law.specs.Definitions.{needed, IsLog, IsLawfulHistory, Accepted}
 use Rattle.sc_paxos_law.proofs.Lemmas.{Among-left, Among-right, earlier, longer_log}
 use Rattle.sc_node_table.specs.Definitions.{ended, entered, learnt_to, welcomed, landed, left, looked, child_at, executed_one, next_child, next_ready, has_room, ending, all_ready, executed_ready, executed, ReplicaState, Place, Executed, childless, name_of, next, members, set_at, last_slot, learn_row, slots_ahead, with_slot, without_slot, before_of, spoken, leads, readied, vote_tallied, voted, accepted_row}
-use Rattle.sc_sound.specs.Definitions.{Ahead}
+use Rattle.sc_meaning.specs.sound.Definitions.{Ahead}
 use Rattle.sc_law_groups.proofs.GroupProofs.Lemmas.{IsLearnt, by_own_log, Steps, rule, first, IsFlying}
 use Rattle.sc_live_steps.specs.following.Definitions.{AreAt}
 use Rattle.sc_live_steps.proofs.FollowingProofs.Lemmas.{told_state, landed_is, entered_keeps, ends, announced_keeps, spoken_same}

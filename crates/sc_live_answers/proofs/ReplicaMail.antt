@@ -4,9 +4,9 @@ use Rattle.std.proofs.lemmas.Bool.{lt-leb}
 use Rattle.sc_base.specs.Definitions.{Each, Drawer}
 use Rattle.sc_node_table.specs.Values.{Ballot, Draw, Command, Base, OrderLine, Mail, MailBody, Request, Answer, Prepare, Promise, Accept, Accepted, Nack, Learn, Ask, Install, TxPrepare, TxVote, TxOutcome, TxElsewhere, TxWatch, TxWatched, Told, Report, PrepareAnswer}
 use Rattle.sc_law_entries.proofs.HistoryProofs.Lemmas.{applied_same}
-use Rattle.sc_paxos_words.specs.declared.answers.PrepareAnswer.TheVariants as Prepared
-use Rattle.sc_paxos_words.specs.Definitions.{AcceptorState, reports_from, may_promise, after_promise, IsAtLeast, prepared}
-use Rattle.sc_paxos_words.proofs.Lemmas.{Each-weaker}
+use Rattle.sc_words.specs.declared.paxos.answers.PrepareAnswer.TheVariants as Prepared
+use Rattle.sc_words.specs.paxos.Definitions.{AcceptorState, reports_from, may_promise, after_promise, IsAtLeast, prepared}
+use Rattle.sc_words.proofs.PaxosProofs.Lemmas.{Each-weaker}
 use Rattle.sc_node_table.specs.Definitions.{named, install_to, ordered_row, ReplicaState, Place, name_of, next, first_ballot, forgotten, installed_replica, mailed, made_by, slots_ahead, promise_to, promised, prepare_row}
 use Rattle.sc_law_walks.specs.Definitions.{GoesOn}
 use Rattle.sc_law_walks.proofs.Lemmas.{either_way}

@@ -3,9 +3,9 @@ use Rattle.std.proofs.Common.{◌≡◌, Bool, true, false, cond, Option, Some, 
 use Rattle.sc_base.specs.Definitions.{Among, is_member}
 use Rattle.sc_node_table.specs.Values.{Base}
 use Rattle.sc_node_table.specs.Definitions.{born_replica, slots_ahead}
-use Rattle.sc_scenario.specs.Definitions.{IsBounded, ValidScenariosAreBounded}
-use Rattle.sc_scenario.specs.declared.scenarios.Scenario.{Scenario}
-use Rattle.sc_sound.specs.Definitions.{births, as_nodes}
+use Rattle.sc_scenario.specs.scenario.Definitions.{IsBounded, ValidScenariosAreBounded}
+use Rattle.sc_scenario.specs.declared.scenario.scenarios.Scenario.{Scenario}
+use Rattle.sc_meaning.specs.sound.Definitions.{births, as_nodes}
 use Rattle.sc_live_journals.proofs.RowsProofs.Lemmas.{view_born}
 use Rattle.sc_live_answers.specs.Definitions.{GroupsAreBornOrNot, AreBornAsBegun, GroupsAreBornAsBegun}
 

@@ -5,14 +5,14 @@ use Rattle.sc_node_table.specs.Values.{Draw, Base, OrderLine, Mail, MailBody, Re
 use Rattle.sc_actor.specs.declared.rows.Input.TheVariants.{Go as GoInput}
 use Rattle.sc_actor.specs.Definitions.{mails, acted, input_of, row_of}
 use Rattle.sc_actor.proofs.Lemmas.{mails-snoc}
-use Rattle.sc_client_table.specs.Definitions.{Client as ClientState, table}
+use Rattle.sc_client_table.specs.table.Definitions.{Client as ClientState, table}
 use Rattle.sc_node_table.specs.Definitions.{node_table}
 use Rattle.sc_live_orderly.specs.Definitions.{IsInOrder, IsOrderly, IsTidy}
-use Rattle.sc_paxos_words.proofs.Lemmas.{Each-append, Each-weaker}
-use Rattle.sc_scenario.specs.Definitions.{ValidScenariosAreBounded}
-use Rattle.sc_scenario.specs.declared.scenarios.Asks.{Asks}
-use Rattle.sc_scenario.specs.declared.scenarios.Scenario.{Scenario}
-use Rattle.sc_sound.specs.Definitions.{Player, player_table, births, node_seat, client_seat, route_of, system_of, as_nodes}
+use Rattle.sc_words.proofs.PaxosProofs.Lemmas.{Each-append, Each-weaker}
+use Rattle.sc_scenario.specs.scenario.Definitions.{ValidScenariosAreBounded}
+use Rattle.sc_scenario.specs.declared.scenario.scenarios.Asks.{Asks}
+use Rattle.sc_scenario.specs.declared.scenario.scenarios.Scenario.{Scenario}
+use Rattle.sc_meaning.specs.sound.Definitions.{Player, player_table, births, node_seat, client_seat, route_of, system_of, as_nodes}
 use Rattle.sc_live_steps.specs.calm.Definitions.{Rows}
 use Rattle.sc_live_steps.specs.orders.Definitions.{errand_by, Errand}
 use Rattle.sc_live_journals.proofs.MailProofs.Lemmas.{IsRequestOf, clients_ask}

@@ -8,9 +8,9 @@ use Rattle.sc_actor.specs.Definitions.{System, row_of}
 use Rattle.sc_live_orderly.specs.Definitions.{IsInOrder, IsOrderly, IsTidy, rest, AreInTime}
 use Rattle.sc_live_orderly.proofs.Lemmas.{in_time_tidy}
 use Rattle.sc_node_table.specs.Definitions.{ReplicaState, last_slot, listed, slots_ahead}
-use Rattle.sc_scenario.specs.declared.scenarios.Scenario.{Scenario}
-use Rattle.sc_scenario.specs.Definitions.{ValidScenariosAreBounded}
-use Rattle.sc_sound.specs.Definitions.{groups_at, Player, player_table, births, as_nodes}
+use Rattle.sc_scenario.specs.declared.scenario.scenarios.Scenario.{Scenario}
+use Rattle.sc_scenario.specs.scenario.Definitions.{ValidScenariosAreBounded}
+use Rattle.sc_meaning.specs.sound.Definitions.{groups_at, Player, player_table, births, as_nodes}
 use Rattle.sc_live_steps.specs.calm.Definitions.{Chart, players, FindsCalm, Rows}
 use Rattle.sc_live_steps.specs.following.Definitions.{Mark, Asks, Votes, Tells, mark_of, marks_of, named_mark}
 use Rattle.sc_live_journals.specs.rows.Definitions.{IsSeat}

@@ -1,6 +1,6 @@
 -- What holds while clients ask alone, between two orders of a calm journal.
 use Rattle.sc_live_answers.proofs.RequestInvariant.{requests_begin as requests_begin_by, requests_stay as requests_stay_by, requests_find, requests_leave_young as requests_leave_young_by}
-use Rattle.sc_scenario.proofs.Lemmas.{valid_scenarios_are_bounded}
+use Rattle.sc_scenario.proofs.ScenarioProofs.Lemmas.{valid_scenarios_are_bounded}
 use Rattle.sc_live_answers.proofs.SettingLaws.{quiet_journals_have_frames, quiet_charts_count}
 use Rattle.sc_live_answers.proofs.CalmRowLaws.{chart_hints_rise}
 use Rattle.sc_live_plain.proofs.Lemmas.{quiet_journals_ask, requests_go_on}

@@ -1,6 +1,6 @@
 -- A line of requests in a calm journal, between two orders: each row finds what it needs, and the line leaves a quiet journal.
 use Rattle.sc_live_answers.proofs.RequestLineEnds.{replicas_quiet}
-use Rattle.sc_scenario.proofs.Lemmas.{valid_scenarios_are_bounded}
+use Rattle.sc_scenario.proofs.ScenarioProofs.Lemmas.{valid_scenarios_are_bounded}
 use Rattle.sc_live_answers.specs.Definitions.{LinesLeaveReplicasQuiet, LinesLeaveQuiet, LawfulJournalsHaveOneLog, LawfulLinesLeaveQuiet, AnswersAreExpected, LinesAskLeaders, RequestRowsFindCalm, QuietJournalsCountOnce, LawfulReplicasAreNamedOnce, LawfulQuietJournalsCountOnce}
 use Rattle.sc_live_answers.proofs.QuietLines.{leave_quiet}
 use Rattle.sc_live_answers.proofs.EqualReplicas.{lawful_one_log}

@@ -3,15 +3,15 @@ use Rattle.std.proofs.Common.{◌≡◌, ℕ, ◌≤◌, eqb, [], ◌∷◌, ◌
 use Rattle.std.proofs.lemmas.Bool.{cases_eq, both_ways}
 use Rattle.sc_base.specs.Definitions.{Among, client_actor}
 use Rattle.sc_node_table.specs.Values.{Draw, Base, OrderLine, Mail, Client, Seat, Event, Deliver, Tick, Go, Got, Row}
-use Rattle.sc_lookup.specs.declared.ways.Way.{Way}
+use Rattle.sc_client_table.specs.declared.lookup.ways.Way.{Way}
 use Rattle.sc_actor.specs.declared.rows.Input.TheVariants.{Go as GoInput}
 use Rattle.sc_actor.specs.Definitions.{value, System, row_of, has_started}
-use Rattle.sc_client_table.specs.Definitions.{Client as ClientState, table}
+use Rattle.sc_client_table.specs.table.Definitions.{Client as ClientState, table}
 use Rattle.sc_node_table.specs.Definitions.{is_node}
-use Rattle.sc_scenario.specs.declared.scenarios.Asks.{Asks}
-use Rattle.sc_scenario.specs.declared.scenarios.Scenario.{Scenario}
-use Rattle.sc_scenario.specs.Definitions.{ValidScenariosAreBounded}
-use Rattle.sc_sound.specs.Definitions.{Player, player_table, node_seat, client_seat, route_of, births, system_of, as_nodes}
+use Rattle.sc_scenario.specs.declared.scenario.scenarios.Asks.{Asks}
+use Rattle.sc_scenario.specs.declared.scenario.scenarios.Scenario.{Scenario}
+use Rattle.sc_scenario.specs.scenario.Definitions.{ValidScenariosAreBounded}
+use Rattle.sc_meaning.specs.sound.Definitions.{Player, player_table, node_seat, client_seat, route_of, births, system_of, as_nodes}
 use Rattle.sc_live_orderly.specs.Definitions.{IsTidy, IsOrderly, IsInOrder, owed}
 use Rattle.sc_live_plain.specs.Definitions.{IsAsking, AreFarFromLast, AreRequests, AreSeated, NobodyWaits, IsLinkedSetting, Setting, IsSetting}
 use Rattle.sc_live_plain.proofs.RequestPhaseClients as clients_of

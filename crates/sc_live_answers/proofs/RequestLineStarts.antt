@@ -6,11 +6,11 @@ use Rattle.sc_base.specs.Definitions.{Among, same_draw, client_actor}
 use Rattle.sc_base.proofs.Lemmas.{same_name, draw_is}
 use Rattle.sc_node_table.specs.Values.{Mail, Node}
 use Rattle.sc_actor.specs.Definitions.{mails, copies, has_started}
-use Rattle.sc_client_table.specs.Definitions.{Client as ClientState, born_client}
+use Rattle.sc_client_table.specs.table.Definitions.{Client as ClientState, born_client}
 use Rattle.sc_node_table.specs.Definitions.{replica_of, ReplicaState, name_of}
-use Rattle.sc_paxos_words.proofs.Lemmas.{Each-among}
-use Rattle.sc_scenario.specs.Definitions.{ValidScenariosAreBounded}
-use Rattle.sc_sound.specs.Definitions.{route_of, system_of, as_nodes}
+use Rattle.sc_words.proofs.PaxosProofs.Lemmas.{Each-among}
+use Rattle.sc_scenario.specs.scenario.Definitions.{ValidScenariosAreBounded}
+use Rattle.sc_meaning.specs.sound.Definitions.{route_of, system_of, as_nodes}
 use Rattle.sc_live_orderly.specs.Definitions.{mail_with, is_born}
 use Rattle.sc_live_steps.specs.calm.Definitions.{IsAtRest, IsAnswered}
 use Rattle.sc_live_plain.proofs.Lemmas.{stage, node_number, replica_is, client_is}

@@ -3,7 +3,7 @@ use Rattle.sc_live_answers.proofs.KnownRestingPrefixes.{resting_known, sent_node
 use Rattle.sc_live_answers.proofs.QuietPrefixLaws.{prefixes_are_found, routes_in_prefixes_agree, no_mail_for_strangers, still_prefixes_are_free, prefixes_stay_in_turn}
 use Rattle.sc_law_groups.proofs.WholeProofs.Lemmas.{valid_journals_are_sound, valid_entries_are_logs}
 use Rattle.sc_live_answers.specs.Definitions.{RestingPrefixesAreKnown, SentNodesMayPump, RequestsBeginAsked, RequestsStayAsked, AskedRowsGoOn, AskedRowsFindCalm, RequestsKeepGroups, RequestsRestAgain}
-use Rattle.sc_scenario.proofs.Lemmas.{valid_scenarios_are_bounded}
+use Rattle.sc_scenario.proofs.ScenarioProofs.Lemmas.{valid_scenarios_are_bounded}
 use Rattle.sc_live_answers.proofs.RequestLaws.{lawful_replicas_are_named_once}
 use Rattle.sc_live_answers.proofs.GroupMail.{sent_replicas}
 use Rattle.sc_live_answers.proofs.RequestPhases.{begin_asked, stay_asked, rows_asked, asked_find, keep_groups, rest_again}

@@ -9,9 +9,9 @@ use Rattle.sc_actor.specs.Definitions.{mails, value, System, row_of, is_quiet}
 use Rattle.sc_live_orderly.specs.Definitions.{IsInOrder, is_told, orders, AreInTime}
 use Rattle.sc_live_orderly.proofs.Lemmas.{last_in_time}
 use Rattle.sc_node_table.specs.Definitions.{replica_of, ReplicaState, listed}
-use Rattle.sc_scenario.specs.declared.scenarios.Scenario.{Scenario}
-use Rattle.sc_scenario.specs.Definitions.{ValidScenariosAreBounded}
-use Rattle.sc_sound.specs.Definitions.{groups_at, Player, player_table, births, node_seat, as_nodes}
+use Rattle.sc_scenario.specs.declared.scenario.scenarios.Scenario.{Scenario}
+use Rattle.sc_scenario.specs.scenario.Definitions.{ValidScenariosAreBounded}
+use Rattle.sc_meaning.specs.sound.Definitions.{groups_at, Player, player_table, births, node_seat, as_nodes}
 use Rattle.sc_live_steps.specs.calm.Definitions.{players, Rows}
 use Rattle.sc_live_steps.specs.orders.Definitions.{work_by, works_in, works_flying, works_ready, works}
 use Rattle.sc_live_journals.specs.rows.Definitions.{view_at, IsSeat, with_event}

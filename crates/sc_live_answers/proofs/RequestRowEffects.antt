@@ -4,8 +4,8 @@ use Rattle.std.proofs.lemmas.Bool.{cond_both, both_ways}
 use Rattle.sc_base.specs.Definitions.{Among, client_actor, is_member}
 use Rattle.sc_node_table.specs.Values.{Ballot, Draw, Op, Command, Call, MailBody, Request, Answer, Accept, Accepted, Learn, Report}
 use Rattle.std.specs.Prelude.{nat_lt}
-use Rattle.sc_paxos_words.specs.Definitions.{with_report, below}
-use Rattle.sc_paxos_words.proofs.Lemmas.{from_filter}
+use Rattle.sc_words.specs.paxos.Definitions.{with_report, below}
+use Rattle.sc_words.proofs.PaxosProofs.Lemmas.{from_filter}
 use Rattle.sc_node_table.specs.Definitions.{ReplicaState, Place, next, last_slot, mailed, slots_ahead}
 use Rattle.sc_live_plain.specs.Definitions.{Frame, IsFrame, Requests, IsPlainCall, IsPlainCommand, IsPlainBody, AreTaken, IsPlainLeader, IsPlainFollower, IsPlainVoter, IsPlainReplica, IsPlainAt, IsDue}
 use Rattle.sc_live_plain.proofs.Lemmas.{as_voter, learn_is, learnt_plain, learnt_follower, learnt_next, IsRun, call_is, DidRefuse, DidQueue, DidCount, following_at, none_stops, replica_row, taken_once}

@@ -4,11 +4,11 @@ use Rattle.std.specs.Prelude.{slice_get}
 use Rattle.sc_base.specs.Definitions.{Among, Each, client_actor}
 use Rattle.sc_node_table.specs.Values.{Op, Base, OrderLine, Mail, Node, Client, Seat, Event, Deliver, Go}
 use Rattle.sc_actor.specs.Definitions.{mails, numbered, value, row_of, has_started, waiting, kth}
-use Rattle.sc_client_table.specs.Definitions.{Client as ClientState}
-use Rattle.sc_scenario.specs.declared.scenarios.Asks.{Asks}
-use Rattle.sc_scenario.specs.declared.scenarios.Scenario.{Scenario}
-use Rattle.sc_scenario.specs.Definitions.{ValidScenariosAreBounded}
-use Rattle.sc_sound.specs.Definitions.{Player, player_table, births, node_seat, client_seat, route_of, system_of, as_nodes}
+use Rattle.sc_client_table.specs.table.Definitions.{Client as ClientState}
+use Rattle.sc_scenario.specs.declared.scenario.scenarios.Asks.{Asks}
+use Rattle.sc_scenario.specs.declared.scenario.scenarios.Scenario.{Scenario}
+use Rattle.sc_scenario.specs.scenario.Definitions.{ValidScenariosAreBounded}
+use Rattle.sc_meaning.specs.sound.Definitions.{Player, player_table, births, node_seat, client_seat, route_of, system_of, as_nodes}
 use Rattle.sc_live_orderly.specs.Definitions.{IsTidy, IsOrderly, IsInOrder}
 use Rattle.sc_live_orderly.proofs.Lemmas.{TakesFirst, takes_first, is_born-from}
 use Rattle.sc_live_steps.specs.calm.Definitions.{Chart, IsCalmFor, MayGoNow, FindsCalm, led_elsewhere}

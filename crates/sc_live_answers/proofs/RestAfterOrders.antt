@@ -6,12 +6,12 @@ use Rattle.sc_node_table.specs.Values.{Draw, Base, OrderLine, Mail, Seat, Client
 use Rattle.sc_actor.specs.Definitions.{mails, System, has_started, is_quiet, value}
 use Rattle.sc_live_orderly.specs.Definitions.{is_born, orders, AreInTime}
 use Rattle.sc_live_orderly.proofs.Lemmas.{in_time_tidy, quiet-empty, seat_found}
-use Rattle.sc_scenario.specs.declared.scenarios.Scenario.{Scenario}
+use Rattle.sc_scenario.specs.declared.scenario.scenarios.Scenario.{Scenario}
 use Rattle.sc_node_table.specs.Definitions.{ReplicaState, numbers_from}
-use Rattle.sc_sound.specs.Definitions.{groups_at, Player, player_table, births, as_nodes, node_seat, client_seat, client_seats, route_of}
-use Rattle.sc_scenario.specs.Definitions.{ValidScenariosAreBounded}
-use Rattle.sc_scenario.specs.declared.scenarios.Asks.{Asks}
-use Rattle.sc_client_table.specs.Definitions.{Client as ClientState}
+use Rattle.sc_meaning.specs.sound.Definitions.{groups_at, Player, player_table, births, as_nodes, node_seat, client_seat, client_seats, route_of}
+use Rattle.sc_scenario.specs.scenario.Definitions.{ValidScenariosAreBounded}
+use Rattle.sc_scenario.specs.declared.scenario.scenarios.Asks.{Asks}
+use Rattle.sc_client_table.specs.table.Definitions.{Client as ClientState}
 use Rattle.sc_law_groups.proofs.WholeProofs.Lemmas.{all_apart}
 use Rattle.sc_live_plain.proofs.Lemmas.{map_among}
 use Rattle.sc_live_steps.proofs.OrdersProofs.Lemmas.{among-right}

@@ -1,8 +1,8 @@
 -- A quiet prefix of a calm journal rests, since whose last quiet prefix clients asked alone.
 use Rattle.std.proofs.Common.{◌++◌}
 use Rattle.sc_live_orderly.proofs.Lemmas.{in_time_tidy, quiet-empty}
-use Rattle.sc_scenario.specs.Definitions.{ValidScenariosAreBounded}
-use Rattle.sc_sound.specs.Definitions.{births, as_nodes}
+use Rattle.sc_scenario.specs.scenario.Definitions.{ValidScenariosAreBounded}
+use Rattle.sc_meaning.specs.sound.Definitions.{births, as_nodes}
 use Rattle.sc_live_steps.specs.calm.Definitions.{players}
 use Rattle.sc_live_journals.specs.charts.Definitions.{chart_at}
 use Rattle.sc_live_plain.specs.Definitions.{QuietJournalsAsk}

@@ -4,16 +4,16 @@ use Rattle.std.specs.Prelude.{is_some}
 use Rattle.std.proofs.lemmas.Bool.{cases_Bool, cases_lt}
 use Rattle.sc_base.specs.Definitions.{Among}
 use Rattle.sc_node_table.specs.Values.{Ballot, Draw, Command, Base, Free, OrderLine, Mail, Report}
-use Rattle.sc_machine_table.specs.Definitions.{Group}
-use Rattle.sc_paxos_words.specs.Definitions.{IsAtLeast}
-use Rattle.sc_paxos_words.proofs.Lemmas.{Each-weaker}
+use Rattle.sc_group_table.specs.machine.Definitions.{Group}
+use Rattle.sc_words.specs.paxos.Definitions.{IsAtLeast}
+use Rattle.sc_words.proofs.PaxosProofs.Lemmas.{Each-weaker}
 use Rattle.sc_actor.specs.Definitions.{System}
 use Rattle.sc_live_orderly.specs.Definitions.{is_born, rest}
 use Rattle.sc_live_orderly.proofs.Lemmas.{in_time_tidy, quiet-empty}
 use Rattle.sc_node_table.specs.Definitions.{ReplicaState}
-use Rattle.sc_scenario.specs.declared.scenarios.Scenario.{Scenario}
-use Rattle.sc_scenario.specs.Definitions.{ValidScenariosAreBounded}
-use Rattle.sc_sound.specs.Definitions.{groups_at, Player, births, as_nodes}
+use Rattle.sc_scenario.specs.declared.scenario.scenarios.Scenario.{Scenario}
+use Rattle.sc_scenario.specs.scenario.Definitions.{ValidScenariosAreBounded}
+use Rattle.sc_meaning.specs.sound.Definitions.{groups_at, Player, births, as_nodes}
 use Rattle.sc_live_steps.specs.calm.Definitions.{players, MayPump, HasReplica, StandsQuiet, IsGoneQuiet, IsAtRest, RisesAt, Rows}
 use Rattle.sc_live_steps.specs.following.Definitions.{Course, marks_of, IsLeadOf}
 use Rattle.sc_live_journals.specs.rows.Definitions.{marks_at, progress_at}

@@ -6,9 +6,9 @@ use Rattle.sc_node_table.specs.Values.{Ballot, Draw, Base, OrderLine, Seat, Even
 use Rattle.sc_actor.specs.declared.rows.Event.TheVariants.{Told}
 use Rattle.sc_actor.specs.Definitions.{mails, numbers_of}
 use Rattle.sc_live_orderly.specs.Definitions.{IsCalmEvent, AreInTime}
-use Rattle.sc_scenario.specs.declared.scenarios.Scenario.{Scenario}
+use Rattle.sc_scenario.specs.declared.scenario.scenarios.Scenario.{Scenario}
 use Rattle.sc_node_table.specs.Definitions.{ReplicaState, Place}
-use Rattle.sc_sound.specs.Definitions.{Player, births, as_nodes}
+use Rattle.sc_meaning.specs.sound.Definitions.{Player, births, as_nodes}
 use Rattle.sc_live_steps.specs.calm.Definitions.{players, Rows}
 use Rattle.sc_live_steps.specs.following.Definitions.{Course, Sets, Tellers}
 use Rattle.sc_live_steps.specs.orders.Definitions.{works, Work, Deal, Stage, Still, Asks, IsAt}

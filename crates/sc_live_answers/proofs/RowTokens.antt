@@ -3,9 +3,9 @@ use Rattle.std.proofs.Common.{◌≡◌, ℕ, ◌+◌, ◌≤◌, ◌&&◌, eqb,
 use Rattle.std.proofs.lemmas.Bool.{eqb-true, and_parts}
 use Rattle.sc_base.specs.Definitions.{Each, client_actor, same_ballot, is_majority, is_member}
 use Rattle.sc_node_table.specs.Values.{Ballot, Draw, Op, Command, Call, Core, AnswerBody, Mail, MailBody, Request, Answer, Accept, Accepted, Learn, Chosen, NotYet, Flight}
-use Rattle.sc_paxos_words.specs.Definitions.{must, flight_at, without_flight_at, kept_voters, voters_after, with_voters, vote_at}
-use Rattle.sc_paxos_words.proofs.Lemmas.{Each-among, find_found}
-use Rattle.sc_machine_table.specs.Definitions.{applied}
+use Rattle.sc_words.specs.paxos.Definitions.{must, flight_at, without_flight_at, kept_voters, voters_after, with_voters, vote_at}
+use Rattle.sc_words.proofs.PaxosProofs.Lemmas.{Each-among, find_found}
+use Rattle.sc_group_table.specs.machine.Definitions.{applied}
 use Rattle.sc_node_table.specs.Definitions.{entered, executed_one, has_room, next_child, next_ready, ending, executed_ready, executed, pumped, ReplicaState, Place, Executed, childless, name_of, next, members, set_at, last_slot, forgotten, mailed, at_slot, with_slot, slots_ahead, leads, readied, vote_tallied, voted, accepted_row}
 use Rattle.sc_law_walks.proofs.Lemmas.{entered_next, cleared, either_way}
 use Rattle.sc_live_plain.specs.Definitions.{Frame, IsFrame, Requests, IsPlainCommand, IsPlainCall, IsPlainBody, IsPlainFlight, IsPlainReplica, IsPlainFollower, IsPlainVoter, IsPlainLeader, IsPlainAt, IsDue}

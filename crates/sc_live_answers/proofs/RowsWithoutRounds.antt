@@ -6,9 +6,9 @@ use Rattle.sc_node_table.specs.Values.{Ballot, Seat, Event, Command, Noop, Call,
 use Rattle.sc_actor.specs.Definitions.{row_of}
 use Rattle.sc_node_table.specs.Definitions.{is_act, ReplicaState, flying, listed, next, at_slot}
 use Rattle.sc_live_orderly.specs.Definitions.{AreInTime}
-use Rattle.sc_paxos_words.specs.Definitions.{flight_at}
-use Rattle.sc_paxos_words.proofs.Lemmas.{Each-among, Each-append, Each-weaker, find_found}
-use Rattle.sc_sound.specs.Definitions.{Player, player_table}
+use Rattle.sc_words.specs.paxos.Definitions.{flight_at}
+use Rattle.sc_words.proofs.PaxosProofs.Lemmas.{Each-among, Each-append, Each-weaker, find_found}
+use Rattle.sc_meaning.specs.sound.Definitions.{Player, player_table}
 use Rattle.sc_live_steps.specs.following.Definitions.{Asks, Course, Mark, Prepares, Progress, Sets, Tells, Votes, members_at, Tellers, ActsAlone, IsLeadOf, IsLed, IsOrderly, IsOffer, IsRow, answered, told_from, reported_of, welcome}
 use Rattle.sc_live_steps.specs.calm.Definitions.{players, Rows}
 use Rattle.sc_live_steps.specs.orders.Definitions.{work_by, Work}

@@ -4,11 +4,11 @@ use Rattle.sc_base.specs.Definitions.{next_name, Among}
 use Rattle.sc_node_table.specs.Values.{Draw, Seat, Node, Client}
 use Rattle.sc_actor.specs.Definitions.{value}
 use Rattle.sc_node_table.specs.Definitions.{NodeState, numbers_from}
-use Rattle.sc_paxos_words.proofs.Lemmas.{find_found}
+use Rattle.sc_words.proofs.PaxosProofs.Lemmas.{find_found}
 use Rattle.sc_paxos_law.proofs.Lemmas.{Among-either, from_map}
-use Rattle.sc_scenario.specs.Definitions.{IsValid, ValidScenariosAreBounded}
-use Rattle.sc_scenario.specs.declared.scenarios.Scenario.{Scenario}
-use Rattle.sc_sound.specs.Definitions.{Lawful, Player, as_nodes, births, client_seat, node_seat, player_table, route_of}
+use Rattle.sc_scenario.specs.scenario.Definitions.{IsValid, ValidScenariosAreBounded}
+use Rattle.sc_scenario.specs.declared.scenario.scenarios.Scenario.{Scenario}
+use Rattle.sc_meaning.specs.sound.Definitions.{Lawful, Player, as_nodes, births, client_seat, node_seat, player_table, route_of}
 use Rattle.sc_law_entries.specs.names.Definitions.{NodesHaveNames, OtherNamesAreFree, TakenOrdersAreAllowed, TakenWishesAreAllowed, WishesAreAtPositions, owner_in}
 use Rattle.sc_law_groups.proofs.GroupProofs.Lemmas.{among_numbers}
 use Rattle.sc_law_groups.specs.whole.Definitions.{ValidScenariosBeginWell}

@@ -5,13 +5,13 @@ use Rattle.sc_base.specs.Definitions.{Each}
 use Rattle.sc_node_table.specs.Values.{Ballot, Draw, Command, Base, OrderLine, Mail, MailBody, Prepare, Promise, Accept, Accepted, Nack, Learn, Ask, Install, Seat, Event, Deliver, Report}
 use Rattle.sc_actor.specs.Definitions.{mails, numbered, row_of}
 use Rattle.sc_live_orderly.specs.Definitions.{IsCalmEvent, AreInTime}
-use Rattle.sc_paxos_words.specs.Definitions.{below, IsAtLeast}
-use Rattle.sc_paxos_words.proofs.Lemmas.{at_least_itself, at_least_trans, Each-among}
-use Rattle.sc_scenario.specs.declared.scenarios.Scenario.{Scenario}
+use Rattle.sc_words.specs.paxos.Definitions.{below, IsAtLeast}
+use Rattle.sc_words.proofs.PaxosProofs.Lemmas.{at_least_itself, at_least_trans, Each-among}
+use Rattle.sc_scenario.specs.declared.scenario.scenarios.Scenario.{Scenario}
 use Rattle.sc_node_table.specs.Definitions.{entered, NodeState, group_of_mail, ordered_row, ReplicaState, listed, name_of, next, first_ballot, born_replica, mailed, made_by, slots_ahead}
 use Rattle.sc_law_groups.proofs.GroupProofs.Lemmas.{number_among}
 use Rattle.sc_law_walks.specs.Definitions.{GoesOn}
-use Rattle.sc_sound.specs.Definitions.{Player, player_table, births, as_nodes}
+use Rattle.sc_meaning.specs.sound.Definitions.{Player, player_table, births, as_nodes}
 use Rattle.sc_live_steps.specs.calm.Definitions.{players, Rows}
 use Rattle.sc_live_steps.specs.following.Definitions.{Mark, Asks, Tells, Prepares, mark_of, Course, Sets, IsKnown, IsFit, Tellers}
 use Rattle.sc_live_steps.proofs.FollowingProofs.Lemmas.{tables_elect, same_mark}

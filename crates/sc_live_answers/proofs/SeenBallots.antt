@@ -11,11 +11,11 @@ use Rattle.sc_actor.proofs.Lemmas.{mails-snoc}
 use Rattle.sc_law_groups.proofs.GroupProofs.Lemmas.{number_among}
 use Rattle.sc_live_orderly.specs.Definitions.{IsCalmEvent, AreInTime}
 use Rattle.sc_live_orderly.proofs.Lemmas.{in_time_before, in_time_tidy, takes_first, is_born-from}
-use Rattle.sc_paxos_words.specs.Definitions.{below, IsAtLeast}
-use Rattle.sc_paxos_words.proofs.Lemmas.{at_least_itself, at_least_trans, same_from_at_least, Each-among, Each-append, Each-weaker}
-use Rattle.sc_scenario.specs.declared.scenarios.Scenario.{Scenario}
+use Rattle.sc_words.specs.paxos.Definitions.{below, IsAtLeast}
+use Rattle.sc_words.proofs.PaxosProofs.Lemmas.{at_least_itself, at_least_trans, same_from_at_least, Each-among, Each-append, Each-weaker}
+use Rattle.sc_scenario.specs.declared.scenario.scenarios.Scenario.{Scenario}
 use Rattle.sc_node_table.specs.Definitions.{NodeState, replica_of, group_of_mail, ReplicaState, listed, first_ballot}
-use Rattle.sc_sound.specs.Definitions.{Player, player_table, births, as_nodes}
+use Rattle.sc_meaning.specs.sound.Definitions.{Player, player_table, births, as_nodes}
 use Rattle.sc_law_walks.proofs.Lemmas.{either_way}
 use Rattle.sc_live_steps.specs.calm.Definitions.{players, Rows}
 use Rattle.sc_live_steps.specs.following.Definitions.{Mark, Asks, Votes, Tells, Prepares, Promises, promise_by, pledged, mark_of, AreFit, Course, Progress, Sets, members_at, Tellers, IsRow, answered, welcome, reported_of, told_from, IsOffer, marks_for}

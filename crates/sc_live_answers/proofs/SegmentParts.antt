@@ -6,8 +6,8 @@ use Rattle.sc_actor.specs.declared.rows.Event.TheVariants.{Told}
 use Rattle.sc_actor.specs.Definitions.{mails, System, row_of}
 use Rattle.sc_live_orderly.specs.Definitions.{IsInOrder, is_told, orders, AreInTime}
 use Rattle.sc_live_orderly.proofs.Lemmas.{last_in_time, count_push}
-use Rattle.sc_scenario.specs.declared.scenarios.Scenario.{Scenario}
-use Rattle.sc_sound.specs.Definitions.{Player, player_table, births, as_nodes}
+use Rattle.sc_scenario.specs.declared.scenario.scenarios.Scenario.{Scenario}
+use Rattle.sc_meaning.specs.sound.Definitions.{Player, player_table, births, as_nodes}
 use Rattle.sc_live_steps.specs.calm.Definitions.{players, FindsCalm, Rows}
 use Rattle.sc_live_steps.specs.orders.Definitions.{Still}
 use Rattle.sc_live_journals.specs.scenes.Definitions.{IsThere, StageAfter, scene_at}

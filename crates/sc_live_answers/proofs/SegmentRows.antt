@@ -7,10 +7,10 @@ use Rattle.sc_actor.specs.declared.rows.Event.TheVariants.{Told}
 use Rattle.sc_actor.specs.Definitions.{mails, copies, value, System, row_of, is_quiet}
 use Rattle.sc_live_orderly.specs.Definitions.{IsCalmEvent, IsCalmRow, IsInOrder, is_told, is_born, mail_with, rest, under_way, AreInTime, ComesInTime}
 use Rattle.sc_live_orderly.proofs.Lemmas.{in_time_before, last_in_time}
-use Rattle.sc_paxos_words.proofs.Lemmas.{Each-among, Each-from, Each-weaker}
-use Rattle.sc_scenario.specs.Definitions.{ValidScenariosAreBounded}
-use Rattle.sc_scenario.specs.declared.scenarios.Scenario.{Scenario}
-use Rattle.sc_sound.specs.Definitions.{Player, player_table, births, as_nodes}
+use Rattle.sc_words.proofs.PaxosProofs.Lemmas.{Each-among, Each-from, Each-weaker}
+use Rattle.sc_scenario.specs.scenario.Definitions.{ValidScenariosAreBounded}
+use Rattle.sc_scenario.specs.declared.scenario.scenarios.Scenario.{Scenario}
+use Rattle.sc_meaning.specs.sound.Definitions.{Player, player_table, births, as_nodes}
 use Rattle.sc_live_steps.specs.calm.Definitions.{Chart, players, MayFollow, FindsCalm, KeepsCalm, IsResting, RestsCalm, Rows}
 use Rattle.sc_live_journals.specs.rows.Definitions.{IsSeat}
 use Rattle.sc_live_journals.specs.mail.Definitions.{ReplicasLast}

@@ -8,7 +8,7 @@ use Rattle.sc_actor.specs.declared.rows.Event.TheVariants.{Told}
 use Rattle.sc_actor.specs.Definitions.{System, is_quiet}
 use Rattle.sc_live_orderly.specs.Definitions.{IsCalmEvent, IsCalmRow, is_told, IsClear, ComesInTime, AreInTime}
 use Rattle.sc_live_orderly.proofs.Lemmas.{by_time, last_in_time}
-use Rattle.sc_sound.specs.Definitions.{Player}
+use Rattle.sc_meaning.specs.sound.Definitions.{Player}
 use Rattle.sc_live_steps.specs.calm.Definitions.{Rows}
 use Rattle.sc_live_journals.specs.charts.Definitions.{quiet_upto, quiet_prefix}
 use Rattle.sc_live_journals.proofs.ChartsProofs.Lemmas.{upto_low, prefix_stays}

@@ -6,9 +6,9 @@ use Rattle.sc_node_table.specs.Values.{Draw, Base}
 use Rattle.sc_actor.specs.Definitions.{is_quiet}
 use Rattle.sc_actor.proofs.Lemmas.{lawful-prefix}
 use Rattle.sc_node_table.specs.Definitions.{ReplicaState, next, members}
-use Rattle.sc_scenario.specs.declared.scenarios.Scenario.{Scenario}
-use Rattle.sc_scenario.specs.Definitions.{ValidScenariosAreBounded}
-use Rattle.sc_sound.specs.Definitions.{world_at, births, schedule, system_of, as_nodes, Lawful}
+use Rattle.sc_scenario.specs.declared.scenario.scenarios.Scenario.{Scenario}
+use Rattle.sc_scenario.specs.scenario.Definitions.{ValidScenariosAreBounded}
+use Rattle.sc_meaning.specs.sound.Definitions.{world_at, births, schedule, system_of, as_nodes, Lawful}
 use Rattle.sc_live_steps.specs.calm.Definitions.{players, StandsQuiet, Rows}
 use Rattle.sc_live_journals.specs.charts.Definitions.{quiet_prefix}
 use Rattle.sc_live_answers.proofs.Segments.{prefix_whole}

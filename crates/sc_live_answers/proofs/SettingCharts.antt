@@ -9,10 +9,10 @@ use Rattle.sc_node_table.specs.Values.{Draw, Base, Route, OrderLine, Mail, Clien
 use Rattle.sc_actor.specs.Definitions.{value, is_quiet}
 use Rattle.sc_node_table.specs.Definitions.{replica_of, ReplicaState, name_of, numbers_from}
 use Rattle.sc_paxos_law.proofs.Lemmas.{Among-left, from_map}
-use Rattle.sc_paxos_words.proofs.Lemmas.{Among-filter, Each-among, Each-from, Each-passes}
-use Rattle.sc_scenario.specs.declared.scenarios.Scenario.{Scenario}
-use Rattle.sc_scenario.specs.Definitions.{IsValid, ValidScenariosAreBounded}
-use Rattle.sc_sound.specs.Definitions.{Player, player_table, node_seat, client_seat, client_seats, route_of, as_nodes, births, Lawful}
+use Rattle.sc_words.proofs.PaxosProofs.Lemmas.{Among-filter, Each-among, Each-from, Each-passes}
+use Rattle.sc_scenario.specs.declared.scenario.scenarios.Scenario.{Scenario}
+use Rattle.sc_scenario.specs.scenario.Definitions.{IsValid, ValidScenariosAreBounded}
+use Rattle.sc_meaning.specs.sound.Definitions.{Player, player_table, node_seat, client_seat, client_seats, route_of, as_nodes, births, Lawful}
 use Rattle.sc_live_steps.specs.calm.Definitions.{players, HasReplica, StandsQuiet, leads, is_leading, is_led}
 use Rattle.sc_live_journals.specs.charts.Definitions.{replicas_of as chart_replicas, all_replicas, went_in, ends_by, way_by, names_at, chart_at, reach_in, GoInTurn, EndsFall, LedStandOnce, quiet_upto, quiet_prefix}
 use Rattle.sc_live_journals.proofs.ChartsProofs.Lemmas.{led_by}

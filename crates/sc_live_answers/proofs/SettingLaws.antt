@@ -1,6 +1,6 @@
 -- The setting that a quiet journal gives to the requests behind it.
 use Rattle.sc_live_answers.proofs.Frames.{quiet_frames}
-use Rattle.sc_scenario.proofs.Lemmas.{valid_scenarios_are_bounded}
+use Rattle.sc_scenario.proofs.ScenarioProofs.Lemmas.{valid_scenarios_are_bounded}
 use Rattle.sc_live_answers.proofs.RequestLaws.{lawful_replicas_are_named_once}
 use Rattle.sc_live_answers.specs.Definitions.{QuietJournalsHaveFrames, QuietChartsCount}
 use Rattle.sc_live_answers.proofs.SettingCharts.{charts_count}

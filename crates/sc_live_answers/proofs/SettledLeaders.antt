@@ -5,14 +5,14 @@ use Rattle.sc_base.specs.Definitions.{Among, Each, is_majority, is_member}
 use Rattle.sc_node_table.specs.Values.{Draw, Seat, Event, Deliver, Base, OrderLine, Mail, TxElsewhere, Node}
 use Rattle.sc_actor.specs.declared.rows.Event.TheVariants.{Told}
 use Rattle.sc_actor.specs.Definitions.{numbers_of, row_of}
-use Rattle.sc_machine_table.specs.Definitions.{Group}
+use Rattle.sc_group_table.specs.machine.Definitions.{Group}
 use Rattle.sc_node_table.specs.Definitions.{NodeState, group_of_mail, ReplicaState, first_set, may_offer, members, next, settled}
 use Rattle.sc_live_orderly.specs.Definitions.{IsCalmEvent, is_born, AreInTime}
 use Rattle.sc_live_orderly.proofs.Lemmas.{in_time_tidy, last_in_time, quiet-empty}
-use Rattle.sc_paxos_words.specs.Definitions.{below}
-use Rattle.sc_paxos_words.proofs.Lemmas.{Each-among}
-use Rattle.sc_scenario.specs.declared.scenarios.Scenario.{Scenario}
-use Rattle.sc_sound.specs.Definitions.{Player, as_nodes, births, player_table}
+use Rattle.sc_words.specs.paxos.Definitions.{below}
+use Rattle.sc_words.proofs.PaxosProofs.Lemmas.{Each-among}
+use Rattle.sc_scenario.specs.declared.scenario.scenarios.Scenario.{Scenario}
+use Rattle.sc_meaning.specs.sound.Definitions.{Player, as_nodes, births, player_table}
 use Rattle.sc_live_steps.specs.following.Definitions.{Course, IsOpen, Prepares, Promises, marks_of, members_at, IsLeadOf}
 use Rattle.sc_live_steps.proofs.FollowingProofs.Lemmas.{order_is_kept, decided as all_decide}
 use Rattle.sc_live_steps.specs.calm.Definitions.{players, Rows}

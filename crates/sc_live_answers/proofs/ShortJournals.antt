@@ -11,13 +11,13 @@ use Rattle.sc_node_table.specs.Definitions.{numbers_from}
 use Rattle.sc_live_orderly.specs.Definitions.{Nothing}
 use Rattle.sc_live_orderly.proofs.Lemmas.{rows_of_all, goes_in_time}
 use Rattle.sc_live_orderly.proofs.GivenOrders.{few_told, spaced_are_calm}
-use Rattle.sc_paxos_words.proofs.Lemmas.{Each-from_All}
-use Rattle.sc_scenario.specs.Definitions.{most_deliveries, IsBoundedLine, ValidScenariosAreBounded}
-use Rattle.sc_scenario.specs.declared.scenarios.Asks.{Asks}
-use Rattle.sc_scenario.specs.declared.scenarios.Scenario.{Scenario}
-use Rattle.sc_scenario.specs.declared.scenarios.SchedLine.{SchedLine}
-use Rattle.sc_scenario.specs.declared.scenarios.SchedLine.TheVariants.{Go, Deliver, Told, Settle, Free}
-use Rattle.sc_sound.specs.Definitions.{client_seats, client_seat, node_seat, route_of, schedule, as_nodes, system_of}
+use Rattle.sc_words.proofs.PaxosProofs.Lemmas.{Each-from_All}
+use Rattle.sc_scenario.specs.scenario.Definitions.{most_deliveries, IsBoundedLine, ValidScenariosAreBounded}
+use Rattle.sc_scenario.specs.declared.scenario.scenarios.Asks.{Asks}
+use Rattle.sc_scenario.specs.declared.scenario.scenarios.Scenario.{Scenario}
+use Rattle.sc_scenario.specs.declared.scenario.scenarios.SchedLine.{SchedLine}
+use Rattle.sc_scenario.specs.declared.scenario.scenarios.SchedLine.TheVariants.{Go, Deliver, Told, Settle, Free}
+use Rattle.sc_meaning.specs.sound.Definitions.{client_seats, client_seat, node_seat, route_of, schedule, as_nodes, system_of}
 use Rattle.sc_law_groups.proofs.WholeProofs.Lemmas.{all_apart}
 use Rattle.sc_live_plain.specs.Definitions.{delivers, gives_order, orders_of, calm_budget_of, AllowsCalmly, CalmLinesAreSpaced}
 use Rattle.sc_live_plain.proofs.Lemmas.{few_clients}

@@ -3,9 +3,9 @@ use Rattle.std.proofs.Common.{◌≡◌, ℕ, ◌+◌, ◌≤◌, ◌⊎◌, tru
 use Rattle.sc_node_table.specs.Values.{Ballot, Draw, Command, Base, OrderLine, Mail, Accepted, Learn, Install, Node, Seat, Event, Deliver}
 use Rattle.sc_base.specs.Definitions.{is_member}
 use Rattle.sc_actor.specs.Definitions.{value, row_of}
-use Rattle.sc_scenario.specs.declared.scenarios.Scenario.{Scenario}
+use Rattle.sc_scenario.specs.declared.scenario.scenarios.Scenario.{Scenario}
 use Rattle.sc_node_table.specs.Definitions.{entered, NodeState, replica_of, group_of_mail, ReplicaState, next, last_slot, mailed}
-use Rattle.sc_sound.specs.Definitions.{Ahead, Player, births, player_table}
+use Rattle.sc_meaning.specs.sound.Definitions.{Ahead, Player, births, player_table}
 use Rattle.sc_law_entries.specs.logs.Definitions.{Rows}
 use Rattle.sc_live_steps.specs.following.Definitions.{Sets, members_at, Tellers, DecidesNext}
 use Rattle.sc_live_journals.specs.rows.Definitions.{view_at, IsSeat, made_children, AreAsBegun}

@@ -4,14 +4,14 @@ use Rattle.std.proofs.lemmas.Bool.{both_ways, eqb-true, eq-eqb, cond-true}
 use Rattle.std.proofs.lemmas.List.Sums.{sum_by-append, sum_by-cons}
 use Rattle.sc_base.specs.Definitions.{Among, client_actor, same_draw, is_member}
 use Rattle.sc_node_table.specs.Values.{Draw, Op, Command, Call, Base, OrderLine, AnswerBody, Mail, MailBody, Request, Answer, Prepare, Accept, Accepted, Learn, Node, Client, Flight, Seat, Row}
-use Rattle.sc_paxos_words.proofs.Lemmas.{find_found}
+use Rattle.sc_words.proofs.PaxosProofs.Lemmas.{find_found}
 use Rattle.sc_actor.specs.Definitions.{mails, copies, numbered, value, System, has_started, waiting, kth}
-use Rattle.sc_client_table.specs.Definitions.{Client as ClientState}
+use Rattle.sc_client_table.specs.table.Definitions.{Client as ClientState}
 use Rattle.sc_node_table.specs.Definitions.{replica_of, is_node, ReplicaState, name_of, numbers_from, slots_ahead}
-use Rattle.sc_scenario.specs.declared.scenarios.Asks.{Asks}
-use Rattle.sc_scenario.specs.declared.scenarios.Scenario.{Scenario}
-use Rattle.sc_scenario.specs.Definitions.{ValidScenariosAreBounded}
-use Rattle.sc_sound.specs.Definitions.{Player, player_table, node_seat, client_seat, route_of, births, system_of, as_nodes}
+use Rattle.sc_scenario.specs.declared.scenario.scenarios.Asks.{Asks}
+use Rattle.sc_scenario.specs.declared.scenario.scenarios.Scenario.{Scenario}
+use Rattle.sc_scenario.specs.scenario.Definitions.{ValidScenariosAreBounded}
+use Rattle.sc_meaning.specs.sound.Definitions.{Player, player_table, node_seat, client_seat, route_of, births, system_of, as_nodes}
 use Rattle.sc_live_orderly.specs.Definitions.{IsTidy, IsOrderly, rest, mail_with, is_born, under_way, owed}
 use Rattle.sc_live_orderly.proofs.Lemmas.{TakesFirst, is_born-from, seat_found}
 use Rattle.sc_paxos_law.proofs.Lemmas.{Among-right}

@@ -3,9 +3,9 @@ use Rattle.std.proofs.Common.{◌≡◌, ℕ, zero, suc, ◌+◌, ◌<◌, ◌�
 use Rattle.std.proofs.lemmas.Bool.{cond_both, cond-true, cond-false}
 use Rattle.sc_base.specs.Definitions.{Among, Each, is_member, least_of}
 use Rattle.sc_node_table.specs.Values.{Ballot, Draw, OrderLine, Mail, Seat, Row}
-use Rattle.sc_paxos_words.specs.Definitions.{below}
-use Rattle.sc_paxos_words.proofs.Lemmas.{Each-among}
-use Rattle.sc_sound.specs.Definitions.{Player}
+use Rattle.sc_words.specs.paxos.Definitions.{below}
+use Rattle.sc_words.proofs.PaxosProofs.Lemmas.{Each-among}
+use Rattle.sc_meaning.specs.sound.Definitions.{Player}
 use Rattle.sc_law_entries.specs.logs.Definitions.{Rows}
 use Rattle.sc_live_steps.specs.following.Definitions.{Mark, Asks, Votes, Tells, Installs, Prepares, Promises, Course, Sets, answered, welcome, reported_of, told_from, IsOffer}
 use Rattle.sc_live_steps.proofs.FollowingProofs.Lemmas.{among-either}

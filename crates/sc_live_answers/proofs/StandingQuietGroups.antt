@@ -4,12 +4,12 @@ use Rattle.std.specs.Prelude.{is_some}
 use Rattle.std.proofs.lemmas.Bool.{cases_eq, cases_lt}
 use Rattle.sc_base.specs.Definitions.{Among, is_member, least_of}
 use Rattle.sc_node_table.specs.Values.{Ballot, Command, Base, Route, Report}
-use Rattle.sc_machine_table.specs.Definitions.{Group}
-use Rattle.sc_paxos_words.specs.Definitions.{below}
-use Rattle.sc_paxos_words.proofs.Lemmas.{Each-weaker}
-use Rattle.sc_scenario.specs.declared.scenarios.Scenario.{Scenario}
+use Rattle.sc_group_table.specs.machine.Definitions.{Group}
+use Rattle.sc_words.specs.paxos.Definitions.{below}
+use Rattle.sc_words.proofs.PaxosProofs.Lemmas.{Each-weaker}
+use Rattle.sc_scenario.specs.declared.scenario.scenarios.Scenario.{Scenario}
 use Rattle.sc_node_table.specs.Definitions.{ReplicaState, next, members}
-use Rattle.sc_sound.specs.Definitions.{as_nodes}
+use Rattle.sc_meaning.specs.sound.Definitions.{as_nodes}
 use Rattle.sc_live_steps.specs.calm.Definitions.{IsLinked, IsBelow, MayVote, IsUpToDate, StandsQuiet, IsGoneQuiet}
 use Rattle.sc_law_entries.specs.logs.Definitions.{Rows}
 use Rattle.sc_live_steps.specs.following.Definitions.{Sets, Course, Progress, members_at, IsOpen, IsEvenLed, Tellers, IsLeadOf, AreAt}

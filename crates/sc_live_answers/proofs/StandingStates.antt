@@ -8,10 +8,10 @@ use Rattle.sc_actor.specs.Definitions.{mails, row_of}
 use Rattle.sc_actor.proofs.Lemmas.{mails-snoc}
 use Rattle.sc_live_orderly.specs.Definitions.{AreInTime}
 use Rattle.sc_live_orderly.proofs.Lemmas.{by_time, last_in_time}
-use Rattle.sc_paxos_words.proofs.Lemmas.{Each-among, Each-append}
-use Rattle.sc_machine_table.specs.Definitions.{group_of, state_after}
-use Rattle.sc_scenario.specs.declared.scenarios.Scenario.{Scenario}
-use Rattle.sc_sound.specs.Definitions.{decided_log, Player, births, as_nodes, player_table}
+use Rattle.sc_words.proofs.PaxosProofs.Lemmas.{Each-among, Each-append}
+use Rattle.sc_group_table.specs.machine.Definitions.{group_of, state_after}
+use Rattle.sc_scenario.specs.declared.scenario.scenarios.Scenario.{Scenario}
+use Rattle.sc_meaning.specs.sound.Definitions.{decided_log, Player, births, as_nodes, player_table}
 use Rattle.sc_live_steps.specs.calm.Definitions.{players, Rows}
 use Rattle.sc_law_groups.proofs.GroupProofs.Lemmas.{number_among}
 use Rattle.sc_live_steps.specs.following.Definitions.{Mark, Tells, Installs, Prepares, mark_of, Course, Sets, members_at, Tellers, reported_of, told_from, welcome, marks_for}

@@ -4,10 +4,10 @@ use Rattle.sc_node_table.specs.Values.{Draw, OrderLine, OrderResult, Mail, MailB
 use Rattle.sc_actor.specs.Definitions.{mails, numbered, value, row_of}
 use Rattle.sc_live_orderly.specs.Definitions.{IsCalmEvent, AreInTime}
 use Rattle.sc_live_orderly.proofs.Lemmas.{in_time_before, in_time_tidy, last_in_time, takes_first, is_born-from}
-use Rattle.sc_paxos_words.proofs.Lemmas.{Each-among}
-use Rattle.sc_scenario.specs.declared.scenarios.Scenario.{Scenario}
+use Rattle.sc_words.proofs.PaxosProofs.Lemmas.{Each-among}
+use Rattle.sc_scenario.specs.declared.scenario.scenarios.Scenario.{Scenario}
 use Rattle.sc_node_table.specs.Definitions.{NodeState, group_of_mail}
-use Rattle.sc_sound.specs.Definitions.{Player, births, as_nodes, player_table}
+use Rattle.sc_meaning.specs.sound.Definitions.{Player, births, as_nodes, player_table}
 use Rattle.sc_live_steps.specs.calm.Definitions.{players, IsCalmMailAt, Strays as StraysAt, IsDelivered, Elsewhere, Ways, Rows}
 use Rattle.sc_live_journals.specs.mail.Definitions.{IsNodesBody, IsClientsBody, IsPlayers, IsPosted}
 use Rattle.sc_live_journals.proofs.MailProofs.Lemmas.{desks_apart, mail_posted}

@@ -4,13 +4,13 @@ use Rattle.std.proofs.lemmas.Bool.{cases_Bool, cond-true, cond-false, cond_both}
 use Rattle.sc_base.specs.Definitions.{Among, Each, same_draw, is_member}
 use Rattle.sc_node_table.specs.Values.{Draw, Body, Watch, Command, Split, Begin, Prepared, RecordVote, Finish, Watched, RecordWatch, Base, Core, Coordinating, Free, Effect, NoEffect, Voted, Route, OrderRefusal, No, Flight, Seat, Promised, Watching, Apart}
 use Rattle.sc_base.proofs.Lemmas.{same_name}
-use Rattle.sc_cmd.specs.Definitions.{is_alone, is_changed}
-use Rattle.sc_cmd.specs.declared.bodies.Body.TheVariants as At
-use Rattle.sc_machine_table.specs.Definitions.{Group, applied, split_group, body_refused, locked_in, ordered, refusal_of, refused_in, has_named, left_group, begun_group, has_voted, no_of, past_of, voted_on, watch_no, watch_vote_of, merged_link, right_link, vote_of}
+use Rattle.sc_words.specs.commands.Definitions.{is_alone, is_changed}
+use Rattle.sc_words.specs.declared.commands.bodies.Body.TheVariants as At
+use Rattle.sc_group_table.specs.machine.Definitions.{Group, applied, split_group, body_refused, locked_in, ordered, refusal_of, refused_in, has_named, left_group, begun_group, has_voted, no_of, past_of, voted_on, watch_no, watch_vote_of, merged_link, right_link, vote_of}
 use Rattle.sc_node_table.specs.Definitions.{ReplicaState}
-use Rattle.sc_paxos_words.proofs.Lemmas.{Each-among}
-use Rattle.sc_scenario.specs.declared.scenarios.Scenario.{Scenario}
-use Rattle.sc_sound.specs.Definitions.{as_nodes, births, world_at, Lawful, Player, schedule, system_of, IsOneMap}
+use Rattle.sc_words.proofs.PaxosProofs.Lemmas.{Each-among}
+use Rattle.sc_scenario.specs.declared.scenario.scenarios.Scenario.{Scenario}
+use Rattle.sc_meaning.specs.sound.Definitions.{as_nodes, births, world_at, Lawful, Player, schedule, system_of, IsOneMap}
 use Rattle.sc_law_entries.specs.names.Definitions.{CoreNames, IsUsed, NamesAreDrawn}
 use Rattle.sc_live_steps.specs.calm.Definitions.{Rows, StandsQuiet}
 use Rattle.sc_live_steps.specs.orders.Definitions.{IsBegun, turn_of, work_by, Answers, Asking, Ends, First, Here, Lone, Next, Opens, Records, Turn, Work, is_watch, Deal, IsAt, IsOrder, Stage, Weighs, heard, heard_lead}
@@ -22,7 +22,7 @@ use Rattle.sc_live_journals.specs.rows.Definitions.{view_at}
 use Rattle.sc_live_journals.proofs.ScenesProofs.Lemmas.{tell}
 use Rattle.sc_law_entries.specs.logs.Definitions.{AreItsLogs}
 use Rattle.sc_law_entries.specs.ring.Definitions.{Story, unsigned_watch, watch_with}
-use Rattle.sc_scenario.specs.Definitions.{ValidScenariosAreBounded}
+use Rattle.sc_scenario.specs.scenario.Definitions.{ValidScenariosAreBounded}
 use Rattle.sc_law_groups.specs.whole.Definitions.{ValidEntriesAreLogs, ValidJournalsAreSound}
 use Rattle.sc_live_answers.proofs.LeaderWork.{IsWorkAt, OfOrder, OfOutcome, OfQuestion, OfVote, at_stage, stands_in, was_there}
 use Rattle.sc_live_answers.proofs.Names.{has_not_voted, used_in}

@@ -3,9 +3,9 @@ use Rattle.std.proofs.Common.{◌≡◌, ℕ, List, [], ◌∷◌, ◌⊎◌, in
 use Rattle.sc_base.specs.Definitions.{Among, Each}
 use Rattle.sc_node_table.specs.Values.{Command, Base, Node}
 use Rattle.sc_node_table.specs.Definitions.{NodeState, ReplicaState, name_of}
-use Rattle.sc_paxos_words.proofs.Lemmas.{Each-weaker}
-use Rattle.sc_scenario.specs.Definitions.{ValidScenariosAreBounded}
-use Rattle.sc_sound.specs.Definitions.{groups_at, Ahead, route_of, as_nodes}
+use Rattle.sc_words.proofs.PaxosProofs.Lemmas.{Each-weaker}
+use Rattle.sc_scenario.specs.scenario.Definitions.{ValidScenariosAreBounded}
+use Rattle.sc_meaning.specs.sound.Definitions.{groups_at, Ahead, route_of, as_nodes}
 use Rattle.sc_law_entries.specs.ring.Definitions.{Sources}
 use Rattle.sc_law_entries.specs.names.Definitions.{OtherNamesAreFree, TakenOrdersAreAllowed, TakenWishesAreAllowed, WishesAreAtPositions, owner_in}
 use Rattle.sc_law_groups.proofs.GroupProofs.Lemmas.{h_of, Holds, IsOther, Steps, IsOneOf}

@@ -6,16 +6,16 @@ use Rattle.std.proofs.lemmas.Option.{none-some}
 use Rattle.sc_base.specs.Definitions.{Among, same_draw, is_member}
 use Rattle.sc_node_table.specs.Values.{Draw, Base, OrderLine, Refused, Mail, MailBody, Request, Prepare, Accept, Learn, Install, TxPrepare, TxVote, TxOutcome, TxElsewhere, TxWatch, TxWatched, Node, Client, Seat, Event, Deliver, Tick, Go, Input, Got, Row}
 use Rattle.sc_base.proofs.Lemmas.{draw_is, same_name}
-use Rattle.sc_cmd.specs.declared.orders.OrderRefusal.TheVariants.{NotLeader}
+use Rattle.sc_words.specs.declared.commands.orders.OrderRefusal.TheVariants.{NotLeader}
 use Rattle.sc_actor.specs.declared.rows.Event.TheVariants.{Told}
 use Rattle.sc_actor.specs.Definitions.{mails, value, input_of, acted, row_of}
 use Rattle.sc_live_orderly.specs.Definitions.{is_born, IsCalmEvent, AreInTime}
 use Rattle.sc_live_orderly.proofs.Lemmas.{by_time, in_time_before, in_time_tidy, last_in_time, takes_first, is_born-from}
-use Rattle.sc_paxos_words.proofs.Lemmas.{find_found}
-use Rattle.sc_scenario.specs.Definitions.{base_at}
-use Rattle.sc_scenario.specs.declared.scenarios.Scenario.{Scenario}
+use Rattle.sc_words.proofs.PaxosProofs.Lemmas.{find_found}
+use Rattle.sc_scenario.specs.scenario.Definitions.{base_at}
+use Rattle.sc_scenario.specs.declared.scenario.scenarios.Scenario.{Scenario}
 use Rattle.sc_node_table.specs.Definitions.{NodeState, replica_of, with_made, unknown, may_come, group_of_mail, taken_by, routed, on_mail, group_of_order, ordered_of, result_sent, ReplicaState, Place, name_of, last_slot, made_by, slots_ahead}
-use Rattle.sc_sound.specs.Definitions.{groups_at, Player, player_table, node_seat, client_seats, births, as_nodes}
+use Rattle.sc_meaning.specs.sound.Definitions.{groups_at, Player, player_table, node_seat, client_seats, births, as_nodes}
 use Rattle.sc_live_steps.specs.calm.Definitions.{players}
 use Rattle.sc_law_entries.specs.logs.Definitions.{Rows}
 use Rattle.sc_law_walks.proofs.Lemmas.{either_way}

@@ -4,11 +4,11 @@ use Rattle.std.specs.List.{find}
 use Rattle.sc_base.specs.Definitions.{Among, same_draw}
 use Rattle.sc_node_table.specs.Values.{Draw, Seat, Deliver, Base, Outcome, Mail, MailBody, TxElsewhere, TxPrepare, TxVote, TxWatch, TxWatched, Node}
 use Rattle.sc_actor.proofs.Lemmas.{lawful-prefix}
-use Rattle.sc_machine_table.specs.Definitions.{Group, locked_in, is_locked_in}
+use Rattle.sc_group_table.specs.machine.Definitions.{Group, locked_in, is_locked_in}
 use Rattle.sc_node_table.specs.Definitions.{NodeState, ReplicaState, gone_vote, noted_outcome, standing_by, standing_vote}
-use Rattle.sc_scenario.specs.Definitions.{ValidScenariosAreBounded}
-use Rattle.sc_scenario.specs.declared.scenarios.Scenario.{Scenario}
-use Rattle.sc_sound.specs.Definitions.{Lawful, Player, as_nodes, births, schedule, system_of}
+use Rattle.sc_scenario.specs.scenario.Definitions.{ValidScenariosAreBounded}
+use Rattle.sc_scenario.specs.declared.scenario.scenarios.Scenario.{Scenario}
+use Rattle.sc_meaning.specs.sound.Definitions.{Lawful, Player, as_nodes, births, schedule, system_of}
 use Rattle.sc_law_entries.specs.names.Definitions.{IsUsed, NamesAreDrawn, CoreNames}
 use Rattle.sc_live_steps.specs.calm.Definitions.{Rows}
 use Rattle.sc_live_steps.specs.orders.Definitions.{bond_of, errand_by, is_cast_yes, is_yes, Asking, Errand, Here, Question, Reply, Asks, Deal, Replied, Stage}
@@ -86,7 +86,7 @@ module _ (bounded : ValidScenariosAreBounded) (drawn : NamesAreDrawn) (words : �
     asking : bond_of d.now.group.core ≡ Asking deal.tx deal.asked deal.turn
     asking = sym (lead_bond all rows deal.coord deal.chief d.now replied.stands.leads.0 d.is) ∙ ap (λ (h : Here). h.bond) replied.stands.parties.0.0
 
-    free : d.first.group.core.lock ≡ Rattle.sc_cmd.specs.declared.cores.Lock.TheVariants.Free
+    free : d.first.group.core.lock ≡ Rattle.sc_words.specs.declared.commands.cores.Lock.TheVariants.Free
     free = (t.rests.is.quiet.at_rest deal.coord deal.chief d.first (sym (t.seen deal.coord deal.chief) ∙ d.was)).free
 
     same_decided : r.group.core.decided ≡ d.first.group.core.decided

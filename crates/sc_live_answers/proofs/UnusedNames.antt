@@ -8,12 +8,12 @@ use Rattle.sc_node_table.specs.Values.{Draw, Command, Core, Lock, Free, Coordina
 use Rattle.sc_actor.specs.Definitions.{value}
 use Rattle.sc_law_entries.specs.names.Definitions.{AllNames, PlayerNames, ReplicaNames, CoreNames, LockNames, OutcomeNames, IsUsed}
 use Rattle.sc_law_entries.proofs.NamesProofs.Lemmas.{drawn_names_are_new_drawn}
-use Rattle.sc_paxos_words.proofs.Lemmas.{Each-among, Each-weaker, find_found}
-use Rattle.sc_machine_table.specs.Definitions.{Group, locked_in, has_named, is_locked_in, state_after}
-use Rattle.sc_scenario.specs.Definitions.{IsBounded}
-use Rattle.sc_scenario.specs.declared.scenarios.Scenario.{Scenario}
+use Rattle.sc_words.proofs.PaxosProofs.Lemmas.{Each-among, Each-weaker, find_found}
+use Rattle.sc_group_table.specs.machine.Definitions.{Group, locked_in, has_named, is_locked_in, state_after}
+use Rattle.sc_scenario.specs.scenario.Definitions.{IsBounded}
+use Rattle.sc_scenario.specs.declared.scenario.scenarios.Scenario.{Scenario}
 use Rattle.sc_node_table.specs.Definitions.{ReplicaState, name_of, listed}
-use Rattle.sc_sound.specs.Definitions.{Player, player_table, births, as_nodes, Lawful}
+use Rattle.sc_meaning.specs.sound.Definitions.{Player, player_table, births, as_nodes, Lawful}
 use Rattle.sc_live_steps.specs.calm.Definitions.{Rows}
 use Rattle.sc_live_steps.specs.orders.Definitions.{Stage, Ordered, Opens}
 use Rattle.sc_live_journals.specs.rows.Definitions.{view_at, replicas_of, replica_in}

@@ -5,11 +5,11 @@ use Rattle.std.proofs.lemmas.Bool.{cases_Bool, cond-true, cond-false}
 use Rattle.sc_base.specs.Definitions.{holds, same_draw, is_member}
 use Rattle.sc_node_table.specs.Values.{Draw, Body, Command, RecordVote, RecordWatch, Coordinating, Effect, Changed, NoEffect, Frozen, Heard, Outcome, Divided, Merged, Migrated, Moved, Past}
 use Rattle.sc_base.proofs.Lemmas.{same_name}
-use Rattle.sc_cmd.specs.Definitions.{decided_in, is_changed}
-use Rattle.sc_cmd.specs.declared.bodies.Body.TheVariants as At
-use Rattle.sc_cmd.specs.declared.votes.Past.TheVariants as Cast
-use Rattle.sc_cmd.specs.declared.votes.Vote.TheVariants as Vows
-use Rattle.sc_machine_table.specs.Definitions.{Group, applied, can_migrate, can_repart, can_split, closing_group, closing_plan, giving_group, giving_plan, has_key_of, may_merge, merged_group, merged_route, migrated_group, part_gift, taken, taking_group, taking_plan, left_group, committed, granted, heard_group, watch_answered, vote_recorded, watch_recorded}
+use Rattle.sc_words.specs.commands.Definitions.{decided_in, is_changed}
+use Rattle.sc_words.specs.declared.commands.bodies.Body.TheVariants as At
+use Rattle.sc_words.specs.declared.commands.votes.Past.TheVariants as Cast
+use Rattle.sc_words.specs.declared.commands.votes.Vote.TheVariants as Vows
+use Rattle.sc_group_table.specs.machine.Definitions.{Group, applied, can_migrate, can_repart, can_split, closing_group, closing_plan, giving_group, giving_plan, has_key_of, may_merge, merged_group, merged_route, migrated_group, part_gift, taken, taking_group, taking_plan, left_group, committed, granted, heard_group, watch_answered, vote_recorded, watch_recorded}
 use Rattle.sc_live_journals.specs.scenes.Definitions.{StaysIn}
 
 -- it decides
@@ -21,12 +21,12 @@ made_plan : (b : Bool) (plan : Group × Outcome) (group : Group) (tx : Draw) →
 made_plan b plan group tx e = subst (λ p. Decides (committed p group tx)) (sym (cond-true b (Some plan) None e)) (plan.1, refl)
 
 -- the entry, by a lock
-vote_comes : (group : Group) (tx : Draw) (body : Body) (order by : ℕ) (frozen : Frozen) → group.core.lock ≡ Coordinating tx body order None → (Rattle.sc_machine_table.specs.Transactions.asks_watcher body None ≡ false)
+vote_comes : (group : Group) (tx : Draw) (body : Body) (order by : ℕ) (frozen : Frozen) → group.core.lock ≡ Coordinating tx body order None → (Rattle.sc_group_table.specs.machine.Transactions.asks_watcher body None ≡ false)
     → applied group (RecordVote tx (Vows.Yes frozen) by) ≡ granted body group tx order frozen by
 vote_comes group tx body order by frozen lock none =
     ap (λ l. vote_recorded l group tx (Vows.Yes frozen) by) lock
-    ∙ (cond-true (same_draw tx tx) (cond (Rattle.sc_machine_table.specs.Transactions.asks_watcher body None) (group, NoEffect tx) (granted body group tx order frozen by)) (group, NoEffect tx) (same_name tx tx refl)
-    ∙ cond-false (Rattle.sc_machine_table.specs.Transactions.asks_watcher body None) (group, NoEffect tx) (granted body group tx order frozen by) none)
+    ∙ (cond-true (same_draw tx tx) (cond (Rattle.sc_group_table.specs.machine.Transactions.asks_watcher body None) (group, NoEffect tx) (granted body group tx order frozen by)) (group, NoEffect tx) (same_name tx tx refl)
+    ∙ cond-false (Rattle.sc_group_table.specs.machine.Transactions.asks_watcher body None) (group, NoEffect tx) (granted body group tx order frozen by) none)
 
 module _ (group : Group) (tx : Draw) (order by : ℕ) (frozen : Frozen) where
   abbrev entry : Command
@@ -74,12 +74,12 @@ module _ (group : Group) (tx : Draw) (order by : ℕ) (frozen : Frozen) where
 
 -- ---- a watcher's vote
 
-watch_comes : (group : Group) (tx : Draw) (body : Body) (order by : ℕ) (heard : Option Heard) (vote : Past) → group.core.lock ≡ Coordinating tx body order heard → (Rattle.sc_machine_table.specs.Transactions.asks_watcher body heard ≡ true)
+watch_comes : (group : Group) (tx : Draw) (body : Body) (order by : ℕ) (heard : Option Heard) (vote : Past) → group.core.lock ≡ Coordinating tx body order heard → (Rattle.sc_group_table.specs.machine.Transactions.asks_watcher body heard ≡ true)
     → applied group (RecordWatch tx vote by) ≡ watch_answered vote body heard group tx
 watch_comes group tx body order by heard vote lock asks =
     ap (λ l. watch_recorded l group tx vote) lock
-    ∙ (cond-true (same_draw tx tx) (cond (Rattle.sc_machine_table.specs.Transactions.asks_watcher body heard) (watch_answered vote body heard group tx) (group, NoEffect tx)) (group, NoEffect tx) (same_name tx tx refl)
-    ∙ cond-true (Rattle.sc_machine_table.specs.Transactions.asks_watcher body heard) (watch_answered vote body heard group tx) (group, NoEffect tx) asks)
+    ∙ (cond-true (same_draw tx tx) (cond (Rattle.sc_group_table.specs.machine.Transactions.asks_watcher body heard) (watch_answered vote body heard group tx) (group, NoEffect tx)) (group, NoEffect tx) (same_name tx tx refl)
+    ∙ cond-true (Rattle.sc_group_table.specs.machine.Transactions.asks_watcher body heard) (watch_answered vote body heard group tx) (group, NoEffect tx) asks)
 
 -- of a merge
 pub next_true : (group : Group) (tx : Draw) (order by : ℕ) (heard : Heard) (vote : Past) → group.core.lock ≡ Coordinating tx At.Merge order (Some heard) → may_merge group heard.frozen ≡ true → Decides (applied group (RecordWatch tx vote by))

@@ -3,12 +3,12 @@ use Rattle.std.proofs.Common.{◌≡◌, ℕ, ◌+◌, ◌-◌, ◌<◌, ◌≤�
 use Rattle.std.proofs.lemmas.Bool.{cases_eq, cases_lt, cond_both, and_parts, eqb-true}
 use Rattle.sc_base.specs.Definitions.{Among, Each, IsRoster}
 use Rattle.sc_node_table.specs.Values.{Ballot, Command, Base, Counted, Chosen, NotYet}
-use Rattle.sc_paxos_words.specs.Definitions.{LeaderState, counted}
-use Rattle.sc_paxos_words.proofs.Lemmas.{Each-among}
+use Rattle.sc_words.specs.paxos.Definitions.{LeaderState, counted}
+use Rattle.sc_words.proofs.PaxosProofs.Lemmas.{Each-among}
 use Rattle.sc_paxos_law.specs.Definitions.{needed, IsLog, IsLawfulHistory, Accepted}
 use Rattle.sc_paxos_law.proofs.Lemmas.{earlier}
 use Rattle.sc_node_table.specs.Definitions.{executed_one, next_child, next_ready, has_room, ending, executed_ready, executed, pumped, ReplicaState, Place, Executed, childless, next, set_at, slots_ahead, with_slot, leads, readied, vote_tallied, voted, accepted_row}
-use Rattle.sc_sound.specs.Definitions.{Ahead}
+use Rattle.sc_meaning.specs.sound.Definitions.{Ahead}
 use Rattle.sc_law_groups.proofs.GroupProofs.Lemmas.{IsLearnt, Steps, rule, first, IsFlying}
 use Rattle.sc_live_steps.specs.following.Definitions.{AreAt}
 use Rattle.sc_live_journals.proofs.LogsProofs.Lemmas.{at, IsAlong, by_log, next_ready_is, one_past, counted_learnt, each_with_slot}

@@ -1,7 +1,7 @@
 -- What stands at groups while an order is under way.
 use Rattle.sc_live_answers.proofs.WorkAtStart.{orders_begin}
 use Rattle.sc_live_journals.proofs.GroupsProofs.Lemmas.{scenarios_are_well_born}
-use Rattle.sc_scenario.proofs.Lemmas.{valid_scenarios_are_bounded}
+use Rattle.sc_scenario.proofs.ScenarioProofs.Lemmas.{valid_scenarios_are_bounded}
 use Rattle.sc_live_answers.specs.Definitions.{OrdersBeginWork, DeliveriesKeepWork}
 use Rattle.sc_live_answers.proofs.WorkInPrefixes.{deliveries_keep}
 

@@ -13,7 +13,7 @@ use Rattle.sc_live_journals.specs.rows.Definitions.{progress_at, view_at}
 use Rattle.sc_live_journals.specs.scenes.Definitions.{LeadsAlone}
 use Rattle.sc_live_steps.specs.following.Definitions.{Course, Sets, Tellers, IsLeadOf}
 use Rattle.sc_node_table.specs.Definitions.{ReplicaState}
-use Rattle.sc_sound.specs.Definitions.{Player}
+use Rattle.sc_meaning.specs.sound.Definitions.{Player}
 
 module _ (at : Sets) (over : Ends) (by : Tellers) (words : ℕ → ℕ → ℕ × ℕ) (births : List (Seat Player)) (rows : Rows) (base : Base) (course : Course) (was : IsWellLed at over by words births rows base course) where
   module _ (node : ℕ) (r : ReplicaState) (e : view_at births rows base.core.id node ≡ Some r) (runs : r.running ≡ true) where

@@ -6,11 +6,11 @@ use Rattle.sc_node_table.specs.Values.{Draw, Command, Noop, Call, Base, OrderLin
 use Rattle.sc_actor.specs.Definitions.{mails, numbered, System, row_of}
 use Rattle.sc_live_orderly.specs.Definitions.{is_born, rest, mail_for, taken, AreInTime}
 use Rattle.sc_live_orderly.proofs.Lemmas.{in_time_before, in_time_tidy, last_in_time, TakesFirst, is_born-from, takes_first, rest-calm}
-use Rattle.sc_paxos_words.proofs.Lemmas.{Each-append, Each-weaker}
+use Rattle.sc_words.proofs.PaxosProofs.Lemmas.{Each-append, Each-weaker}
 use Rattle.sc_law_entries.proofs.NamesProofs.Lemmas.{Each-drop}
-use Rattle.sc_scenario.specs.declared.scenarios.Scenario.{Scenario}
+use Rattle.sc_scenario.specs.declared.scenario.scenarios.Scenario.{Scenario}
 use Rattle.sc_node_table.specs.Definitions.{NodeState, replica_of, ReplicaState, mailed}
-use Rattle.sc_sound.specs.Definitions.{Player, player_table, births, as_nodes}
+use Rattle.sc_meaning.specs.sound.Definitions.{Player, player_table, births, as_nodes}
 use Rattle.sc_live_steps.specs.calm.Definitions.{players, Rows}
 use Rattle.sc_live_steps.specs.orders.Definitions.{works_in}
 use Rattle.sc_live_journals.specs.rows.Definitions.{view_at, IsSeat, with_event}

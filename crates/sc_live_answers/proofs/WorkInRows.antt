@@ -5,12 +5,12 @@ use Rattle.std.proofs.lemmas.Bool.{cond-true, cond-false}
 use Rattle.sc_base.specs.Definitions.{Each}
 use Rattle.sc_node_table.specs.Values.{Ballot, Draw, Command, Base, OrderLine, AnswerBody, Mail, MailBody, Request, Answer, Prepare, Promise, Accept, Accepted, Nack, Learn, Ask, Install, TxPrepare, TxVote, TxOutcome, TxElsewhere, TxWatch, TxWatched, Told as ToldMail, Node, Client, Seat, Event, Deliver, Go, Got}
 use Rattle.sc_actor.specs.Definitions.{mails, numbered, value, row_of}
-use Rattle.sc_client_table.specs.Definitions.{Client as ClientState}
+use Rattle.sc_client_table.specs.table.Definitions.{Client as ClientState}
 use Rattle.sc_live_orderly.specs.Definitions.{AreInTime}
 use Rattle.sc_node_table.specs.Definitions.{NodeState, replica_of, with_replica, with_children, group_of_mail, may_come, unknown, taken_by, routed, on_mail, absent, ReplicaState, Executed, name_of, next, born_replica, mailed, made_by, slots_ahead, listed}
 use Rattle.sc_law_walks.proofs.Lemmas.{either_way}
-use Rattle.sc_scenario.specs.declared.scenarios.Scenario.{Scenario}
-use Rattle.sc_sound.specs.Definitions.{Player, player_table, births, as_nodes}
+use Rattle.sc_scenario.specs.declared.scenario.scenarios.Scenario.{Scenario}
+use Rattle.sc_meaning.specs.sound.Definitions.{Player, player_table, births, as_nodes}
 use Rattle.sc_live_steps.specs.calm.Definitions.{players, Rows}
 use Rattle.sc_live_steps.proofs.CalmProofs.Lemmas.{put_others}
 use Rattle.sc_live_steps.proofs.OrdersProofs.Lemmas.{cases-draw}
@@ -25,7 +25,7 @@ use Rattle.sc_live_journals.specs.scenes.Definitions.{FindsReplica, AtLeader, At
 use Rattle.sc_live_journals.proofs.ScenesProofs.Lemmas.{client_leaves, got_nothing, unknown_apart, OneOf, all_children, all_sent, each_is, now_is}
 use Rattle.sc_live_answers.proofs.Affairs.{Affair, BeginsFree, Says, IsGood, AreGood}
 use Rattle.sc_live_answers.proofs.AffairParts.{Held, AllDo, Fly, Wait, Fine, Kids}
-use Rattle.sc_machine_table.specs.Definitions.{child_by, Group}
+use Rattle.sc_group_table.specs.machine.Definitions.{child_by, Group}
 use Rattle.sc_live_answers.proofs.UnknownChildren.{IsUnborn, made_unborn}
 use Rattle.sc_live_answers.proofs.AffairRows.{Hears, mailed_fine, mailed_kids, made_fine}
 use Rattle.std.proofs.lemmas.Option.{same_Some}

@@ -7,7 +7,7 @@ use Rattle.sc_live_answers.proofs.ChildrenUnderOrders.{children_were}
 use Rattle.sc_live_journals.proofs.MailProofs.Lemmas.{replicas_last, slots_are_left}
 use Rattle.sc_live_answers.proofs.WaitingWorkLaws.{deliveries_keep_work}
 use Rattle.sc_live_answers.proofs.YoungMembers.{children_created}
-use Rattle.sc_scenario.proofs.Lemmas.{valid_scenarios_are_bounded}
+use Rattle.sc_scenario.proofs.ScenarioProofs.Lemmas.{valid_scenarios_are_bounded}
 use Rattle.sc_law_groups.proofs.WholeProofs.Lemmas.{valid_scenarios_begin_well}
 use Rattle.sc_law_entries.proofs.NamesProofs.Lemmas.{orders_are_allowed_allowed, orders_are_allowed_wishes, orders_are_allowed_positions, names_have_one_owner_others}
 use Rattle.sc_live_journals.proofs.LogsProofs.Lemmas.{views_are_replicas}

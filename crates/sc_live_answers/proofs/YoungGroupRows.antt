@@ -6,19 +6,19 @@ use Rattle.std.proofs.lemmas.Bool.{cases_Bool, cond-true, cond-false, eq-eqb, eq
 use Rattle.sc_base.specs.Definitions.{Each, same_draw}
 use Rattle.sc_node_table.specs.Values.{Draw, Base, OrderLine, Refused, Mail, MailBody, TxPrepare, TxVote, TxOutcome, TxElsewhere, TxWatch, TxWatched, Node, Client, Seat, Event, Deliver, Go, Input, Got, Row}
 use Rattle.sc_base.proofs.Lemmas.{same_name}
-use Rattle.sc_cmd.specs.declared.orders.OrderRefusal.TheVariants.{NotLeader}
+use Rattle.sc_words.specs.declared.commands.orders.OrderRefusal.TheVariants.{NotLeader}
 use Rattle.sc_actor.specs.declared.rows.Event.TheVariants.{Told}
 use Rattle.sc_actor.specs.declared.rows.Input.TheVariants.{Told as ToldInput}
 use Rattle.sc_actor.specs.Definitions.{mails, numbered, value, acted, input_of, System, row_of, is_quiet}
-use Rattle.sc_client_table.specs.Definitions.{Client as ClientState, table}
+use Rattle.sc_client_table.specs.table.Definitions.{Client as ClientState, table}
 use Rattle.sc_live_orderly.specs.Definitions.{IsCalmRow, IsTidy, rest, mail_for, taken, AreInTime}
 use Rattle.sc_live_orderly.proofs.Lemmas.{in_time_before, in_time_tidy, last_in_time, TakesFirst, quiet-empty, is_born-from, takes_first, rest-calm}
-use Rattle.sc_paxos_words.proofs.Lemmas.{Each-among, Each-append, Each-weaker}
+use Rattle.sc_words.proofs.PaxosProofs.Lemmas.{Each-among, Each-append, Each-weaker}
 use Rattle.sc_law_entries.proofs.NamesProofs.Lemmas.{Each-drop}
-use Rattle.sc_scenario.specs.declared.scenarios.Scenario.{Scenario}
+use Rattle.sc_scenario.specs.declared.scenario.scenarios.Scenario.{Scenario}
 use Rattle.sc_node_table.specs.Definitions.{result_sent, NodeState, replica_of, with_replica, with_children, group_of_mail, may_come, unknown, taken_by, routed, on_mail, group_of_order, ordered_of, ordered_row, ReplicaState, Executed, name_of, born_replica, mailed, slots_ahead}
 use Rattle.sc_law_walks.proofs.Lemmas.{either_way}
-use Rattle.sc_sound.specs.Definitions.{Player, player_table, births, as_nodes}
+use Rattle.sc_meaning.specs.sound.Definitions.{Player, player_table, births, as_nodes}
 use Rattle.sc_live_steps.specs.calm.Definitions.{players, Rows}
 use Rattle.sc_live_steps.proofs.CalmProofs.Lemmas.{put_others}
 use Rattle.sc_live_steps.specs.orders.Definitions.{errand_by, errand_for, errands_for, Errand, Here, IsNone, Stage, parties_of}

@@ -8,10 +8,10 @@ use Rattle.sc_node_table.specs.Values.{Draw, Base, OrderLine, Seat}
 use Rattle.sc_actor.specs.Definitions.{is_quiet}
 use Rattle.sc_live_orderly.specs.Definitions.{is_born, AreInTime}
 use Rattle.sc_live_orderly.proofs.Lemmas.{in_time_tidy, quiet-empty}
-use Rattle.sc_machine_table.specs.Definitions.{Group, group_of, state_after, staying, right_members}
-use Rattle.sc_scenario.specs.declared.scenarios.Scenario.{Scenario}
+use Rattle.sc_group_table.specs.machine.Definitions.{Group, group_of, state_after, staying, right_members}
+use Rattle.sc_scenario.specs.declared.scenario.scenarios.Scenario.{Scenario}
 use Rattle.sc_node_table.specs.Definitions.{ReplicaState, next}
-use Rattle.sc_sound.specs.Definitions.{groups_at, decided_log, Player, births, as_nodes}
+use Rattle.sc_meaning.specs.sound.Definitions.{groups_at, decided_log, Player, births, as_nodes}
 use Rattle.sc_live_steps.specs.calm.Definitions.{players, HasReplica, Rows}
 use Rattle.sc_live_steps.specs.following.Definitions.{Mark, marks_of, reached, QuietMembersKnow}
 use Rattle.sc_live_journals.specs.mail.Definitions.{SlotsAreLeft, ReplicasLast}

@@ -2,9 +2,9 @@
 use Rattle.std.specs.Prelude.{◌≡◌, ℕ, ◌+◌, ◌^◌, ◌≤◌, true, false, List, ◌∷◌, length}
 use Rattle.sc_node_table.specs.Values.{Base, OrderLine, Mail, Row}
 use Rattle.sc_actor.specs.Definitions.{is_quiet, unsettled}
-use Rattle.sc_scenario.specs.Definitions.{IsValid}
-use Rattle.sc_scenario.specs.declared.scenarios.Scenario.{Scenario}
-use Rattle.sc_sound.specs.Definitions.{births, system_of, schedule, as_nodes, Lawful, Whole}
+use Rattle.sc_scenario.specs.scenario.Definitions.{IsValid}
+use Rattle.sc_scenario.specs.declared.scenario.scenarios.Scenario.{Scenario}
+use Rattle.sc_meaning.specs.sound.Definitions.{births, system_of, schedule, as_nodes, Lawful, Whole}
 use Rattle.sc_live_orderly.specs.Definitions.{AreInTime}
 use Rattle.sc_live_steps.specs.calm.Definitions.{Chart, players, Rows}
 use Rattle.sc_live_journals.specs.charts.Definitions.{chart_at}

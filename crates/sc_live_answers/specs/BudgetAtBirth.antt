@@ -1,7 +1,7 @@
 -- The budget of a calm scenario covers what all players owe at their births and what one order raises.
 use Rattle.std.specs.Prelude.{◌≡◌, ◌+◌, ◌*◌, ◌≤◌, length}
-use Rattle.sc_scenario.specs.declared.scenarios.Scenario.{Scenario}
-use Rattle.sc_sound.specs.Definitions.{births, as_nodes}
+use Rattle.sc_scenario.specs.declared.scenario.scenarios.Scenario.{Scenario}
+use Rattle.sc_meaning.specs.sound.Definitions.{births, as_nodes}
 use Rattle.sc_live_steps.specs.calm.Definitions.{Chart, births_owe}
 use Rattle.sc_live_plain.specs.Definitions.{orders_of, calm_budget_of}
 

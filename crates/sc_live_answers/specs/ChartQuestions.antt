@@ -3,7 +3,7 @@ use Rattle.std.specs.Prelude.{◌≡◌, ℕ, true, List, Some}
 use Rattle.sc_base.specs.Definitions.{Among}
 use Rattle.sc_node_table.specs.Values.{Draw, Seat}
 use Rattle.sc_node_table.specs.Definitions.{ReplicaState, name_of}
-use Rattle.sc_sound.specs.Definitions.{Player}
+use Rattle.sc_meaning.specs.sound.Definitions.{Player}
 use Rattle.sc_live_steps.specs.calm.Definitions.{Rows}
 use Rattle.sc_live_journals.specs.charts.Definitions.{all_replicas, asked_in}
 use Rattle.sc_live_steps.specs.orders.Definitions.{Turn, is_watch, Asking, Stage, IsAt}

@@ -4,8 +4,8 @@ use Rattle.sc_base.specs.Definitions.{Each}
 use Rattle.sc_node_table.specs.Values.{Seat, Event, OrderLine}
 use Rattle.sc_actor.specs.Definitions.{is_quiet, value}
 use Rattle.sc_live_orderly.specs.Definitions.{AreInTime}
-use Rattle.sc_scenario.specs.declared.scenarios.Scenario.{Scenario}
-use Rattle.sc_sound.specs.Definitions.{Player, player_table, births, as_nodes}
+use Rattle.sc_scenario.specs.declared.scenario.scenarios.Scenario.{Scenario}
+use Rattle.sc_meaning.specs.sound.Definitions.{Player, player_table, births, as_nodes}
 use Rattle.sc_live_steps.specs.calm.Definitions.{players, MayFollow, Rows}
 use Rattle.sc_live_journals.specs.rows.Definitions.{with_event}
 use Rattle.sc_live_journals.specs.charts.Definitions.{chart_at, WaitsForNone}

@@ -2,15 +2,15 @@
 use Rattle.std.specs.Prelude.{◌≡◌, ℕ, ◌-◌, ◌≤◌, false, Bool, List, [], ◌∷◌, ◌++◌, slice_get, Some, ◌⊎◌}
 use Rattle.sc_base.specs.Definitions.{Among, client_actor}
 use Rattle.sc_node_table.specs.Values.{Draw, Op, Base, OrderLine, AnswerBody, Mail, Answer, Client, Got, Row}
-use Rattle.sc_lookup.specs.Definitions.{target_in}
-use Rattle.sc_lookup.specs.declared.ways.Way.{Way}
+use Rattle.sc_client_table.specs.lookup.Definitions.{target_in}
+use Rattle.sc_client_table.specs.declared.lookup.ways.Way.{Way}
 use Rattle.sc_actor.specs.declared.rows.Input.TheVariants.{Go}
 use Rattle.sc_actor.specs.Definitions.{mails, numbered, value, waiting, kth, has_started}
-use Rattle.sc_client_table.specs.Definitions.{Client as ClientState, table}
-use Rattle.sc_scenario.specs.declared.scenarios.Asks.{Asks}
-use Rattle.sc_scenario.specs.declared.scenarios.Scenario.{Scenario}
-use Rattle.sc_scenario.specs.Definitions.{IsValid}
-use Rattle.sc_sound.specs.Definitions.{player_table, client_seat, route_of, system_of, as_nodes}
+use Rattle.sc_client_table.specs.table.Definitions.{Client as ClientState, table}
+use Rattle.sc_scenario.specs.declared.scenario.scenarios.Asks.{Asks}
+use Rattle.sc_scenario.specs.declared.scenario.scenarios.Scenario.{Scenario}
+use Rattle.sc_scenario.specs.scenario.Definitions.{IsValid}
+use Rattle.sc_meaning.specs.sound.Definitions.{player_table, client_seat, route_of, system_of, as_nodes}
 use Rattle.sc_live_orderly.specs.Definitions.{IsTidy, owed}
 use Rattle.sc_live_steps.specs.calm.Definitions.{Chart, IsCalmFor, MayGoNow, Elsewhere, sent_on}
 use Rattle.sc_live_plain.specs.Definitions.{IsAsking, AreRequests, AreSeated, NobodyWaits, IsLinkedSetting, IsCalmClient, Setting, IsSetting, IsCalmMail, Frame, IsWaiting, IsBegun}

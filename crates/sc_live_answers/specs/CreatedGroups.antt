@@ -6,9 +6,9 @@ use Rattle.sc_node_table.specs.Values.{Draw, Base, OrderLine, Mail, Seat, Delive
 use Rattle.sc_actor.specs.Definitions.{is_quiet}
 use Rattle.sc_actor.specs.declared.rows.Event.TheVariants.{Told}
 use Rattle.sc_live_orderly.specs.Definitions.{is_born, AreInTime}
-use Rattle.sc_scenario.specs.declared.scenarios.Scenario.{Scenario}
+use Rattle.sc_scenario.specs.declared.scenario.scenarios.Scenario.{Scenario}
 use Rattle.sc_node_table.specs.Definitions.{NodeState, replica_of, ReplicaState, mailed}
-use Rattle.sc_sound.specs.Definitions.{groups_at, Player, births, as_nodes}
+use Rattle.sc_meaning.specs.sound.Definitions.{groups_at, Player, births, as_nodes}
 use Rattle.sc_live_steps.specs.calm.Definitions.{players, HasReplica, Rows}
 use Rattle.sc_live_journals.specs.rows.Definitions.{view_at, marks_at, IsSeat, with_event}
 use Rattle.sc_live_journals.specs.scenes.Definitions.{IsThere, IsNowhere, IsTaking}

@@ -3,9 +3,9 @@ use Rattle.std.specs.Prelude.{◌≡◌, ℕ, Bool, true, false, List, [], ◌�
 use Rattle.sc_node_table.specs.Values.{Seat, Draw, Command, Noop, Call, Join, Leave, Split, Begin, Prepared, RecordVote, GiveUp, Finish, Watched, RecordWatch, Flight}
 use Rattle.sc_base.specs.Definitions.{Among, Each}
 use Rattle.sc_live_steps.specs.orders.Definitions.{IsBegun, work_by, works, Turn, First, Lone, Next, Work, Opens, Answers, Records, Party, Stage, Still, Ordered, Asks, SentOn, Weighs, Replied, Recorded, Closes, ClosesBoth}
-use Rattle.sc_machine_table.specs.Definitions.{state_after, applied}
+use Rattle.sc_group_table.specs.machine.Definitions.{state_after, applied}
 use Rattle.sc_node_table.specs.Definitions.{ReplicaState}
-use Rattle.sc_sound.specs.Definitions.{Player}
+use Rattle.sc_meaning.specs.sound.Definitions.{Player}
 use Rattle.sc_live_steps.specs.calm.Definitions.{Rows}
 use Rattle.sc_live_journals.specs.rows.Definitions.{view_at}
 use Rattle.sc_live_journals.specs.scenes.Definitions.{IsThere}

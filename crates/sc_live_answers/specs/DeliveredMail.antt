@@ -4,7 +4,7 @@ use Rattle.sc_node_table.specs.Values.{Ballot, Draw, Base, Mail, MailBody, Reque
 use Rattle.sc_actor.specs.Definitions.{value}
 use Rattle.sc_live_orderly.specs.Definitions.{AreInTime}
 use Rattle.sc_node_table.specs.Definitions.{NodeState, ReplicaState}
-use Rattle.sc_sound.specs.Definitions.{Player, player_table}
+use Rattle.sc_meaning.specs.sound.Definitions.{Player, player_table}
 use Rattle.sc_live_steps.specs.calm.Definitions.{players, MayCount, MayAskThere, Points, Ways, Rows}
 use Rattle.sc_live_steps.specs.following.Definitions.{Course, Sets, Tellers}
 use Rattle.sc_live_journals.specs.rows.Definitions.{IsSeat, with_event}

@@ -5,8 +5,8 @@ use Rattle.sc_node_table.specs.Values.{Draw, Seat, Deliver, Offer, Finish, Prepa
 use Rattle.sc_actor.specs.Definitions.{is_quiet}
 use Rattle.sc_actor.specs.declared.rows.Event.TheVariants.{Told}
 use Rattle.sc_node_table.specs.Definitions.{ReplicaState, listed}
-use Rattle.sc_scenario.specs.declared.scenarios.Scenario.{Scenario}
-use Rattle.sc_sound.specs.Definitions.{groups_at, Player, as_nodes, births}
+use Rattle.sc_scenario.specs.declared.scenario.scenarios.Scenario.{Scenario}
+use Rattle.sc_meaning.specs.sound.Definitions.{groups_at, Player, as_nodes, births}
 use Rattle.sc_live_journals.specs.charts.Definitions.{all_replicas, names_at, GoInTurn}
 use Rattle.sc_live_steps.specs.calm.Definitions.{players, Rows}
 use Rattle.sc_live_steps.specs.orders.Definitions.{Stage, Still, Ordered, Asks, SentOn, Weighs, Replied, Recorded, Closes, ClosesBoth, IsAt}

@@ -2,8 +2,8 @@
 use Rattle.std.specs.Prelude.{◌≡◌, ℕ, true, List, ◌∷◌}
 use Rattle.sc_base.specs.Definitions.{Among, is_member, least_of}
 use Rattle.sc_node_table.specs.Values.{Base}
-use Rattle.sc_scenario.specs.declared.scenarios.Scenario.{Scenario}
-use Rattle.sc_sound.specs.Definitions.{route_of}
+use Rattle.sc_scenario.specs.declared.scenario.scenarios.Scenario.{Scenario}
+use Rattle.sc_meaning.specs.sound.Definitions.{route_of}
 use Rattle.sc_live_steps.specs.calm.Definitions.{HasReplica, Rows}
 use Rattle.sc_live_plain.specs.Definitions.{replicas_after}
 use Rattle.sc_live_answers.specs.CalmJournals.{IsCalmJournal, IsPrefixOf}

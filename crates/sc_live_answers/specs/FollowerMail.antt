@@ -8,7 +8,7 @@ use Rattle.sc_live_journals.specs.mail.Definitions.{IsPosted}
 use Rattle.sc_live_steps.specs.orders.Definitions.{IsIdle}
 use Rattle.sc_live_journals.specs.scenes.Definitions.{IsOrdered, BesideFinds, IsBeside, IsTaking}
 use Rattle.sc_node_table.specs.Definitions.{NodeState, group_of_order, replica_of, ordered_row, untaken, ReplicaState, settled, mailed, noted_outcome, standing_vote}
-use Rattle.sc_sound.specs.Definitions.{Player}
+use Rattle.sc_meaning.specs.sound.Definitions.{Player}
 
 -- a node takes a mail of a group of which it has a replica: the group is guided at this row, the replica is the node's own, and where it does not run it has nothing to do
 pub record IsHere (words : ℕ → ℕ → ℕ × ℕ) (births : List (Seat Player)) (rows : Rows) (seat : Seat Player) (number : ℕ) (mail : Mail) (base : Base) (node : NodeState) (r : ReplicaState) : Type 0 where

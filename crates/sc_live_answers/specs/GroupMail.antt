@@ -4,11 +4,11 @@ use Rattle.sc_base.specs.Definitions.{Among, Each, is_member}
 use Rattle.sc_node_table.specs.Values.{Base, OrderLine, Seat, Event}
 use Rattle.sc_actor.specs.Definitions.{mails}
 use Rattle.sc_live_orderly.specs.Definitions.{AreInTime}
-use Rattle.sc_scenario.specs.Definitions.{IsBounded}
-use Rattle.sc_scenario.specs.declared.scenarios.Scenario.{Scenario}
-use Rattle.sc_paxos_words.specs.Definitions.{IsAtLeast}
+use Rattle.sc_scenario.specs.scenario.Definitions.{IsBounded}
+use Rattle.sc_scenario.specs.declared.scenario.scenarios.Scenario.{Scenario}
+use Rattle.sc_words.specs.paxos.Definitions.{IsAtLeast}
 use Rattle.sc_node_table.specs.Definitions.{ReplicaState, born_replica, slots_ahead}
-use Rattle.sc_sound.specs.Definitions.{Player, births, as_nodes}
+use Rattle.sc_meaning.specs.sound.Definitions.{Player, births, as_nodes}
 use Rattle.sc_live_steps.specs.calm.Definitions.{players, Rows}
 use Rattle.sc_live_steps.specs.following.Definitions.{Course, Sets, Tellers}
 use Rattle.sc_live_journals.specs.rows.Definitions.{view_at, marks_at, progress_at, IsSeat, with_event}

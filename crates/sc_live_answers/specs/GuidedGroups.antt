@@ -11,7 +11,7 @@ use Rattle.sc_live_steps.specs.following.Definitions.{Course, Sets, Tellers}
 use Rattle.sc_base.specs.Definitions.{IsRoster}
 use Rattle.sc_node_table.specs.Definitions.{ReplicaState, last_slot, next}
 use Rattle.sc_live_orderly.specs.Definitions.{is_born, AreInTime}
-use Rattle.sc_sound.specs.Definitions.{Player}
+use Rattle.sc_meaning.specs.sound.Definitions.{Player}
 
 -- after some rows each replica of a group is bound by what `bonds` says of its next slot
 abbrev pub AreBoundBy : (ℕ → Bond) → List (Seat Player) → Rows → Draw → Type 0

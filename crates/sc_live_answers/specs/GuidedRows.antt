@@ -11,8 +11,8 @@ use Rattle.sc_live_steps.specs.orders.Definitions.{Bond}
 use Rattle.sc_live_journals.specs.rows.Definitions.{IsSeat, with_event}
 use Rattle.sc_live_steps.specs.following.Definitions.{Course}
 use Rattle.sc_live_orderly.specs.Definitions.{IsCalmEvent, AreInTime}
-use Rattle.sc_scenario.specs.declared.scenarios.Scenario.{Scenario}
-use Rattle.sc_sound.specs.Definitions.{Player, as_nodes, births}
+use Rattle.sc_scenario.specs.declared.scenario.scenarios.Scenario.{Scenario}
+use Rattle.sc_meaning.specs.sound.Definitions.{Player, as_nodes, births}
 
 -- a group of a journal whose rows come in time is guided at a row, where its mail up to the row is as `IsSentSo` says, no replica of it uses up its slots or rounds, it is well led before the row, some replica of it has its newest state, and what its replicas are bound by depends only on how much they have executed
 abbrev pub RowsAreGuided : Type 0

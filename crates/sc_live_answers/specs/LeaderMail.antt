@@ -6,7 +6,7 @@ use Rattle.sc_live_steps.specs.calm.Definitions.{Rows}
 use Rattle.sc_live_steps.specs.orders.Definitions.{Scene, Work, IsUnderWay}
 use Rattle.sc_live_journals.specs.scenes.Definitions.{FindsFlight, LeaderFinds, scene_at, LeadsAlone}
 use Rattle.sc_node_table.specs.Definitions.{NodeState, ReplicaState, listed}
-use Rattle.sc_sound.specs.Definitions.{Player}
+use Rattle.sc_meaning.specs.sound.Definitions.{Player}
 
 -- while an order is under way each leader has one work of it, or none
 abbrev pub StagesLeaveOneWork : Type 0

@@ -7,11 +7,11 @@ use Rattle.sc_live_journals.specs.groups.Definitions.{IsSlotKept}
 use Rattle.sc_live_steps.specs.calm.Definitions.{Rows}
 use Rattle.sc_live_steps.specs.orders.Definitions.{IsBegun, bond_of, Answers, Asking, Bond, Bound, Changes, Ends, First, GivesUp, Lone, Next, Opens, Records, Scene, Turn, Unbound, Work, is_watch, IsUnderWay, IsVote}
 use Rattle.sc_live_journals.specs.scenes.Definitions.{StaysIn, FindsFlight, IsWork, scene_at}
-use Rattle.sc_cmd.specs.Definitions.{is_alone, decided_in, is_changed}
-use Rattle.sc_machine_table.specs.Definitions.{Group, applied, has_voted, watch_vote_of}
+use Rattle.sc_words.specs.commands.Definitions.{is_alone, decided_in, is_changed}
+use Rattle.sc_group_table.specs.machine.Definitions.{Group, applied, has_voted, watch_vote_of}
 use Rattle.sc_node_table.specs.Definitions.{NodeState, ReplicaState, before_of}
-use Rattle.sc_sound.specs.Definitions.{Player}
-use Rattle.sc_cmd.specs.declared.votes.Vote.TheVariants as Says
+use Rattle.sc_meaning.specs.sound.Definitions.{Player}
+use Rattle.sc_words.specs.declared.commands.votes.Vote.TheVariants as Says
 
 -- only work of an order is in flight or ready at a replica: no request of a client and no filler
 pub record IsOrdersAlone (r : ReplicaState) : Type 0 where

@@ -3,10 +3,10 @@ use Rattle.std.specs.Prelude.{◌≡◌, ℕ, ◌+◌, ◌-◌, ◌≤◌, true,
 use Rattle.sc_node_table.specs.Values.{Ballot, Draw, Command, Base, OrderLine, Mail, Accepted, Learn, Install, Node, Seat, Event}
 use Rattle.sc_base.specs.Definitions.{is_member}
 use Rattle.sc_actor.specs.Definitions.{mails, numbered, value}
-use Rattle.sc_machine_table.specs.Definitions.{group_of, state_after}
-use Rattle.sc_scenario.specs.declared.scenarios.Scenario.{Scenario}
+use Rattle.sc_group_table.specs.machine.Definitions.{group_of, state_after}
+use Rattle.sc_scenario.specs.declared.scenario.scenarios.Scenario.{Scenario}
 use Rattle.sc_node_table.specs.Definitions.{entered, NodeState, replica_of, group_of_mail, ReplicaState, next, last_slot, mailed}
-use Rattle.sc_sound.specs.Definitions.{decided_log, Ahead, Player, births, player_table}
+use Rattle.sc_meaning.specs.sound.Definitions.{decided_log, Ahead, Player, births, player_table}
 use Rattle.sc_law_entries.specs.logs.Definitions.{Rows}
 use Rattle.sc_live_steps.specs.following.Definitions.{members_at, Tellers}
 use Rattle.sc_live_journals.specs.rows.Definitions.{view_at, IsSeat, with_event, made_children, AreAsBegun}

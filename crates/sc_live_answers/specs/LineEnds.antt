@@ -2,9 +2,9 @@
 use Rattle.std.specs.Prelude.{◌≡◌, ℕ, ◌+◌, ◌*◌, false, List, []}
 use Rattle.sc_node_table.specs.Values.{OrderLine, Mail, Row}
 use Rattle.sc_actor.specs.Definitions.{unsettled}
-use Rattle.sc_scenario.specs.declared.scenarios.Scenario.{Scenario}
-use Rattle.sc_scenario.specs.Definitions.{IsValid}
-use Rattle.sc_sound.specs.Definitions.{births, schedule, as_nodes, system_of, Lawful}
+use Rattle.sc_scenario.specs.declared.scenario.scenarios.Scenario.{Scenario}
+use Rattle.sc_scenario.specs.scenario.Definitions.{IsValid}
+use Rattle.sc_meaning.specs.sound.Definitions.{births, schedule, as_nodes, system_of, Lawful}
 use Rattle.sc_live_steps.specs.calm.Definitions.{Chart, players, KeepCalm, RestCalm, Rows}
 use Rattle.sc_live_plain.specs.Definitions.{orders_of, calm_budget_of, IsCalmAtBudget}
 use Rattle.sc_live_answers.specs.BudgetAtBirth.{IsFirstChart}

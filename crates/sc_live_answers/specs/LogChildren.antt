@@ -3,10 +3,10 @@ use Rattle.std.specs.Prelude.{◌≡◌, ℕ, ◌-◌, ◌<◌, ◌≤◌, true,
 use Rattle.sc_base.specs.Definitions.{Among, is_member}
 use Rattle.sc_node_table.specs.Values.{Ballot, Command, Base, Mail, Accepted, Learn, Seat}
 use Rattle.sc_actor.specs.Definitions.{mails, numbered}
-use Rattle.sc_machine_table.specs.Definitions.{child_by, group_of, state_after}
-use Rattle.sc_scenario.specs.declared.scenarios.Scenario.{Scenario}
+use Rattle.sc_group_table.specs.machine.Definitions.{child_by, group_of, state_after}
+use Rattle.sc_scenario.specs.declared.scenario.scenarios.Scenario.{Scenario}
 use Rattle.sc_node_table.specs.Definitions.{NodeState, ReplicaState, next, last_slot, mailed}
-use Rattle.sc_sound.specs.Definitions.{decided_log, Ahead, Player}
+use Rattle.sc_meaning.specs.sound.Definitions.{decided_log, Ahead, Player}
 use Rattle.sc_law_entries.specs.logs.Definitions.{Rows}
 use Rattle.sc_live_journals.specs.logs.Definitions.{IsGroupOf, HasReplica}
 

@@ -2,10 +2,10 @@
 use Rattle.std.specs.Prelude.{◌≡◌, ℕ, suc, ◌-◌, ◌≤◌, true, false, take}
 use Rattle.sc_node_table.specs.Values.{Base, Free, Seat}
 use Rattle.sc_base.specs.Definitions.{is_member}
-use Rattle.sc_machine_table.specs.Definitions.{Group, group_of, state_after}
-use Rattle.sc_scenario.specs.declared.scenarios.Scenario.{Scenario}
+use Rattle.sc_group_table.specs.machine.Definitions.{Group, group_of, state_after}
+use Rattle.sc_scenario.specs.declared.scenario.scenarios.Scenario.{Scenario}
 use Rattle.sc_node_table.specs.Definitions.{NodeState, ReplicaState, next}
-use Rattle.sc_sound.specs.Definitions.{decided_log, Ahead, Player}
+use Rattle.sc_meaning.specs.sound.Definitions.{decided_log, Ahead, Player}
 use Rattle.sc_law_entries.specs.logs.Definitions.{Rows}
 use Rattle.sc_live_steps.specs.following.Definitions.{members_at}
 use Rattle.sc_live_journals.specs.logs.Definitions.{logged_sets, IsGroupOf, HasReplica}

@@ -3,9 +3,9 @@ use Rattle.std.specs.Prelude.{◌≡◌, ℕ, ◌+◌, false, List, ◌++◌, So
 use Rattle.sc_node_table.specs.Values.{Draw, Base, Mail, Install, Node, Seat, Deliver}
 use Rattle.sc_actor.specs.Definitions.{mails, numbered, value}
 use Rattle.sc_live_orderly.specs.Definitions.{AreInTime}
-use Rattle.sc_scenario.specs.declared.scenarios.Scenario.{Scenario}
+use Rattle.sc_scenario.specs.declared.scenario.scenarios.Scenario.{Scenario}
 use Rattle.sc_node_table.specs.Definitions.{NodeState, replica_of, group_of_mail}
-use Rattle.sc_sound.specs.Definitions.{Player, births, as_nodes, player_table}
+use Rattle.sc_meaning.specs.sound.Definitions.{Player, births, as_nodes, player_table}
 use Rattle.sc_live_steps.specs.calm.Definitions.{players, Chart, IsCalmMailAt, Ways, Elsewhere, StandsOnce, Rows, led_elsewhere}
 use Rattle.sc_live_steps.specs.following.Definitions.{Course, Tellers}
 use Rattle.sc_live_journals.specs.rows.Definitions.{IsSeat, with_event}

@@ -10,7 +10,7 @@ use Rattle.sc_live_journals.specs.rows.Definitions.{view_at}
 use Rattle.sc_live_journals.specs.scenes.Definitions.{NodeFinds, IsThere, IsTaking, MayCreate}
 use Rattle.sc_live_steps.specs.following.Definitions.{Course, Sets, Tellers}
 use Rattle.sc_node_table.specs.Definitions.{NodeState, ReplicaState}
-use Rattle.sc_sound.specs.Definitions.{Player}
+use Rattle.sc_meaning.specs.sound.Definitions.{Player}
 
 -- a mail to a node without a replica of its group finds what an order needs, where a group of which a state comes is guided at the row and has a replica
 abbrev pub MissedAreFound : Type 0

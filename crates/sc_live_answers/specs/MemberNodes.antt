@@ -2,8 +2,8 @@
 use Rattle.std.specs.Prelude.{◌≡◌, ℕ, ◌≤◌, true}
 use Rattle.sc_node_table.specs.Values.{Base}
 use Rattle.sc_base.specs.Definitions.{is_member}
-use Rattle.sc_scenario.specs.declared.scenarios.Scenario.{Scenario}
-use Rattle.sc_sound.specs.Definitions.{Ahead}
+use Rattle.sc_scenario.specs.declared.scenario.scenarios.Scenario.{Scenario}
+use Rattle.sc_meaning.specs.sound.Definitions.{Ahead}
 use Rattle.sc_law_entries.specs.logs.Definitions.{Rows}
 use Rattle.sc_live_journals.specs.logs.Definitions.{logged_sets, IsGroupOf}
 

@@ -1,8 +1,8 @@
 -- Where a group goes that is merged, by the logs of a journal.
 use Rattle.std.specs.Prelude.{◌≡◌, ℕ, Some}
 use Rattle.sc_node_table.specs.Values.{Draw, Offer, Finish, Prepared, Base, Route, Merged}
-use Rattle.sc_scenario.specs.declared.scenarios.Scenario.{Scenario}
-use Rattle.sc_sound.specs.Definitions.{as_nodes}
+use Rattle.sc_scenario.specs.declared.scenario.scenarios.Scenario.{Scenario}
+use Rattle.sc_meaning.specs.sound.Definitions.{as_nodes}
 use Rattle.sc_live_steps.specs.calm.Definitions.{Rows}
 use Rattle.sc_live_journals.specs.logs.Definitions.{IsGroupOf}
 use Rattle.sc_live_answers.specs.AllowedCommands.{IsAllowedBy, sources_of}

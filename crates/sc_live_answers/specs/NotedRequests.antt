@@ -4,10 +4,10 @@ use Rattle.sc_base.specs.Definitions.{Among}
 use Rattle.sc_node_table.specs.Values.{Draw, Base}
 use Rattle.sc_actor.specs.Definitions.{value}
 use Rattle.sc_live_orderly.specs.Definitions.{AreInTime}
-use Rattle.sc_scenario.specs.Definitions.{IsValid}
-use Rattle.sc_scenario.specs.declared.scenarios.Asks.{Asks}
-use Rattle.sc_scenario.specs.declared.scenarios.Scenario.{Scenario}
-use Rattle.sc_sound.specs.Definitions.{births, as_nodes, player_table, client_seat, route_of, issue_row}
+use Rattle.sc_scenario.specs.scenario.Definitions.{IsValid}
+use Rattle.sc_scenario.specs.declared.scenario.scenarios.Asks.{Asks}
+use Rattle.sc_scenario.specs.declared.scenario.scenarios.Scenario.{Scenario}
+use Rattle.sc_meaning.specs.sound.Definitions.{births, as_nodes, player_table, client_seat, route_of, issue_row}
 use Rattle.sc_live_steps.specs.calm.Definitions.{players, StandsQuiet, Rows}
 use Rattle.sc_live_plain.specs.Definitions.{replicas_after, frame_at_rest, IsBegun, begun_of, IsPlainGroup}
 use Rattle.sc_live_answers.specs.QuietPrefixes.{IsQuietPrefix}

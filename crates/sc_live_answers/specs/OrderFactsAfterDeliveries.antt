@@ -1,8 +1,8 @@
 -- What `IsTrueSince` says of an order holds after one more delivery, and whom the order asks then.
 use Rattle.std.specs.Prelude.{◌≡◌, ℕ, ◌⊎◌}
 use Rattle.sc_node_table.specs.Values.{Seat, Deliver, Base}
-use Rattle.sc_scenario.specs.declared.scenarios.Scenario.{Scenario}
-use Rattle.sc_sound.specs.Definitions.{Player, as_nodes, births}
+use Rattle.sc_scenario.specs.declared.scenario.scenarios.Scenario.{Scenario}
+use Rattle.sc_meaning.specs.sound.Definitions.{Player, as_nodes, births}
 use Rattle.sc_live_steps.specs.calm.Definitions.{StandsQuiet, Rows}
 use Rattle.sc_live_steps.specs.orders.Definitions.{Asks, Deal, IsAt, Stage}
 use Rattle.sc_live_journals.specs.rows.Definitions.{with_event}

@@ -1,8 +1,8 @@
 -- What `IsTrueSince` says of an order holds from the row that gives it.
 use Rattle.sc_node_table.specs.Values.{Seat, Base, OrderLine}
 use Rattle.sc_actor.specs.declared.rows.Event.TheVariants.{Told}
-use Rattle.sc_scenario.specs.declared.scenarios.Scenario.{Scenario}
-use Rattle.sc_sound.specs.Definitions.{Player, as_nodes, births}
+use Rattle.sc_scenario.specs.declared.scenario.scenarios.Scenario.{Scenario}
+use Rattle.sc_meaning.specs.sound.Definitions.{Player, as_nodes, births}
 use Rattle.std.specs.Prelude.{ℕ}
 use Rattle.sc_live_steps.specs.calm.Definitions.{Rows}
 use Rattle.sc_live_steps.specs.orders.Definitions.{IsAt, Stage}

@@ -14,10 +14,10 @@ use Rattle.sc_live_journals.specs.rows.Definitions.{marks_at, view_at, IsSeat, w
 use Rattle.sc_live_journals.specs.scenes.Definitions.{FindsOrder, FindsReplica, NodeFinds, IsThere, GoesToActor, errand_taken, scene_at, IsTaking}
 use Rattle.sc_node_table.specs.Definitions.{NodeState, replica_of, ReplicaState, last_slot, next, mailed}
 use Rattle.sc_live_orderly.specs.Definitions.{is_born, AreInTime}
-use Rattle.sc_scenario.specs.Definitions.{IsBounded}
-use Rattle.sc_scenario.specs.declared.scenarios.Scenario.{Scenario}
-use Rattle.sc_sound.specs.Definitions.{Player, as_nodes, player_table, births}
-use Rattle.sc_client_table.specs.Definitions.{Client as ClientState}
+use Rattle.sc_scenario.specs.scenario.Definitions.{IsBounded}
+use Rattle.sc_scenario.specs.declared.scenario.scenarios.Scenario.{Scenario}
+use Rattle.sc_meaning.specs.sound.Definitions.{Player, as_nodes, player_table, births}
+use Rattle.sc_client_table.specs.table.Definitions.{Client as ClientState}
 
 -- what is known where an order is given: the journal is quiet, mail of transactions and of groups goes to players, and each leader has slots left and has no act or order waiting with nothing in flight
 pub record IsGivenCalmly (words : ℕ → ℕ → ℕ × ℕ) (births : List (Seat Player)) (rows : Rows) : Type 0 where

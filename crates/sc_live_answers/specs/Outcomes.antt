@@ -2,12 +2,12 @@
 use Rattle.std.specs.Prelude.{◌≡◌, ℕ, false, List, Some, None}
 use Rattle.std.specs.FinMap.{get}
 use Rattle.sc_node_table.specs.Values.{Draw, Offer, Finish, Prepared, RecordVote, Base, Frozen, Outcome}
-use Rattle.sc_cmd.specs.declared.votes.Vote.TheVariants as Vows
-use Rattle.sc_ideal.specs.Definitions.{holds_key}
-use Rattle.sc_machine_table.specs.Definitions.{participant_after, Group, frozen_of}
+use Rattle.sc_words.specs.declared.commands.votes.Vote.TheVariants as Vows
+use Rattle.sc_words.specs.ideal.Definitions.{holds_key}
+use Rattle.sc_group_table.specs.machine.Definitions.{participant_after, Group, frozen_of}
 use Rattle.sc_law_entries.specs.ring.Definitions.{unsigned}
-use Rattle.sc_scenario.specs.declared.scenarios.Scenario.{Scenario}
-use Rattle.sc_sound.specs.Definitions.{as_nodes}
+use Rattle.sc_scenario.specs.declared.scenario.scenarios.Scenario.{Scenario}
+use Rattle.sc_meaning.specs.sound.Definitions.{as_nodes}
 use Rattle.sc_live_steps.specs.calm.Definitions.{Rows}
 use Rattle.sc_live_journals.specs.logs.Definitions.{IsGroupOf}
 use Rattle.sc_live_answers.specs.AllowedCommands.{IsAllowedBy}

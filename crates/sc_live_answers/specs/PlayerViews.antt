@@ -1,9 +1,9 @@
 -- The replicas of players are those of the nodes.
 use Rattle.std.specs.Prelude.{◌≡◌, ℕ}
 use Rattle.sc_node_table.specs.Values.{Draw}
-use Rattle.sc_scenario.specs.Definitions.{IsBounded}
-use Rattle.sc_scenario.specs.declared.scenarios.Scenario.{Scenario}
-use Rattle.sc_sound.specs.Definitions.{births, as_nodes}
+use Rattle.sc_scenario.specs.scenario.Definitions.{IsBounded}
+use Rattle.sc_scenario.specs.declared.scenario.scenarios.Scenario.{Scenario}
+use Rattle.sc_meaning.specs.sound.Definitions.{births, as_nodes}
 use Rattle.sc_live_steps.specs.calm.Definitions.{Rows}
 use Rattle.sc_live_journals.specs.rows.Definitions.{view_at}
 use Rattle.sc_live_journals.specs.charts.Definitions.{replica_at as chart_replica}

@@ -4,9 +4,9 @@ use Rattle.sc_base.specs.Definitions.{Each, Among}
 use Rattle.sc_node_table.specs.Values.{Draw, Base}
 use Rattle.sc_actor.specs.Definitions.{mails}
 use Rattle.sc_live_orderly.specs.Definitions.{orders}
-use Rattle.sc_scenario.specs.declared.scenarios.Scenario.{Scenario}
+use Rattle.sc_scenario.specs.declared.scenario.scenarios.Scenario.{Scenario}
 use Rattle.sc_node_table.specs.Definitions.{ReplicaState}
-use Rattle.sc_sound.specs.Definitions.{births, as_nodes, groups_at}
+use Rattle.sc_meaning.specs.sound.Definitions.{births, as_nodes, groups_at}
 use Rattle.sc_live_steps.specs.calm.Definitions.{Rows}
 use Rattle.sc_live_journals.specs.rows.Definitions.{view_at}
 use Rattle.sc_live_journals.specs.scenes.Definitions.{GoesToActor}

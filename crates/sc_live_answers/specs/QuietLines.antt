@@ -2,9 +2,9 @@
 use Rattle.std.specs.Prelude.{◌≡◌, ℕ, true, false, List, [], ◌∷◌, ◌++◌, Some, None, ◌⊎◌}
 use Rattle.sc_node_table.specs.Values.{Draw, Base, OrderLine, Mail, Row}
 use Rattle.sc_node_table.specs.Definitions.{ReplicaState, next}
-use Rattle.sc_scenario.specs.declared.scenarios.Scenario.{Scenario}
-use Rattle.sc_scenario.specs.Definitions.{IsValid}
-use Rattle.sc_sound.specs.Definitions.{system_of, as_nodes}
+use Rattle.sc_scenario.specs.declared.scenario.scenarios.Scenario.{Scenario}
+use Rattle.sc_scenario.specs.scenario.Definitions.{IsValid}
+use Rattle.sc_meaning.specs.sound.Definitions.{system_of, as_nodes}
 use Rattle.sc_live_orderly.specs.Definitions.{rest, is_born}
 use Rattle.sc_live_steps.specs.calm.Definitions.{MayPump, Ways, View as Replicas, HasReplica, StandsQuiet, IsGoneQuiet, IsAtRest, RisesAt}
 use Rattle.sc_live_plain.specs.Definitions.{AreRequests, AreSeated, replicas_after, setting_at, AreFramesOf, DoHintsRise, IsQuietJournal, IsKept, IsLinkedSetting, Frame}

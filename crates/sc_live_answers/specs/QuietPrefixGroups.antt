@@ -2,9 +2,9 @@
 use Rattle.std.specs.Prelude.{◌≡◌, ℕ, ◌+◌, false, length, Some}
 use Rattle.sc_base.specs.Definitions.{Among}
 use Rattle.sc_node_table.specs.Values.{Base, Route}
-use Rattle.sc_scenario.specs.declared.scenarios.Scenario.{Scenario}
+use Rattle.sc_scenario.specs.declared.scenario.scenarios.Scenario.{Scenario}
 use Rattle.sc_node_table.specs.Definitions.{ReplicaState}
-use Rattle.sc_sound.specs.Definitions.{groups_at, decided_log, births, as_nodes}
+use Rattle.sc_meaning.specs.sound.Definitions.{groups_at, decided_log, births, as_nodes}
 use Rattle.sc_live_steps.specs.calm.Definitions.{IsLinked, Rows}
 use Rattle.sc_live_steps.specs.following.Definitions.{Course, Tellers}
 use Rattle.sc_live_steps.specs.orders.Definitions.{Still, IsAt}

@@ -4,9 +4,9 @@ use Rattle.sc_base.specs.Definitions.{Among}
 use Rattle.sc_node_table.specs.Values.{Draw, Base}
 use Rattle.sc_actor.specs.Definitions.{mails, is_quiet}
 use Rattle.sc_paxos_law.specs.Definitions.{IsLog}
-use Rattle.sc_scenario.specs.declared.scenarios.Scenario.{Scenario}
+use Rattle.sc_scenario.specs.declared.scenario.scenarios.Scenario.{Scenario}
 use Rattle.sc_node_table.specs.Definitions.{ReplicaState}
-use Rattle.sc_sound.specs.Definitions.{groups_at, accepts, rule_of, decided_log, Lawful, births, as_nodes, Continues, HasRun}
+use Rattle.sc_meaning.specs.sound.Definitions.{groups_at, accepts, rule_of, decided_log, Lawful, births, as_nodes, Continues, HasRun}
 use Rattle.sc_live_steps.specs.calm.Definitions.{players, Rows}
 use Rattle.sc_live_steps.specs.following.Definitions.{Course}
 use Rattle.sc_live_journals.specs.rows.Definitions.{view_at}

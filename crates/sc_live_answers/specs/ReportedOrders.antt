@@ -4,10 +4,10 @@ use Rattle.sc_base.specs.Definitions.{Among}
 use Rattle.sc_node_table.specs.Values.{Draw, OrderLine, OrderResult, Mail, Told, Row}
 use Rattle.sc_actor.specs.declared.rows.Event.TheVariants.{Told as GivesOrder}
 use Rattle.sc_actor.specs.Definitions.{mails, is_quiet, unsettled}
-use Rattle.sc_scenario.specs.Definitions.{IsValid}
-use Rattle.sc_scenario.specs.declared.scenarios.Scenario.{Scenario}
-use Rattle.sc_scenario.specs.declared.scenarios.SchedLine.TheVariants.{Told as OrderOf}
-use Rattle.sc_sound.specs.Definitions.{system_of, schedule, as_nodes, Lawful, Whole}
+use Rattle.sc_scenario.specs.scenario.Definitions.{IsValid}
+use Rattle.sc_scenario.specs.declared.scenario.scenarios.Scenario.{Scenario}
+use Rattle.sc_scenario.specs.declared.scenario.scenarios.SchedLine.TheVariants.{Told as OrderOf}
+use Rattle.sc_meaning.specs.sound.Definitions.{system_of, schedule, as_nodes, Lawful, Whole}
 use Rattle.sc_live_steps.specs.calm.Definitions.{Rows}
 use Rattle.sc_live_steps.specs.orders.Definitions.{Turn, Work, Asking, Here, Scene, IsOrder}
 use Rattle.sc_live_plain.specs.Definitions.{IsCalm}

@@ -5,8 +5,8 @@ use Rattle.sc_node_table.specs.Values.{Base, OrderLine, Seat, Event}
 use Rattle.sc_actor.specs.Definitions.{row_of}
 use Rattle.sc_live_orderly.specs.Definitions.{IsInOrder, is_born, orders}
 use Rattle.sc_law_entries.specs.logs.Definitions.{AreItsLogs}
-use Rattle.sc_sound.specs.Definitions.{IsOneMap, groups_at, world_at, Player, player_table, births, as_nodes}
-use Rattle.sc_scenario.specs.declared.scenarios.Scenario.{Scenario}
+use Rattle.sc_meaning.specs.sound.Definitions.{IsOneMap, groups_at, world_at, Player, player_table, births, as_nodes}
+use Rattle.sc_scenario.specs.declared.scenario.scenarios.Scenario.{Scenario}
 use Rattle.sc_live_steps.specs.calm.Definitions.{players, FindsCalm, Rows}
 use Rattle.sc_live_journals.specs.rows.Definitions.{IsSeat}
 use Rattle.sc_live_answers.specs.GroupMail.{IsQuietWhileYoung}

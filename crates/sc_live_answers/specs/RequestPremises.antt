@@ -3,7 +3,7 @@ use Rattle.std.specs.Prelude.{◌≡◌, ℕ, ◌+◌, ◌≤◌, List}
 use Rattle.sc_base.specs.Definitions.{Among, Each, client_actor}
 use Rattle.sc_node_table.specs.Values.{Draw, Op, Route, OrderLine, Mail, Node, Row}
 use Rattle.sc_node_table.specs.Definitions.{NodeState}
-use Rattle.sc_scenario.specs.declared.scenarios.Scenario.{Scenario}
+use Rattle.sc_scenario.specs.declared.scenario.scenarios.Scenario.{Scenario}
 use Rattle.sc_live_steps.specs.calm.Definitions.{Chart, AreBounded, IsCalmFor, MayPump, Elsewhere, StandsOnce}
 use Rattle.sc_live_plain.specs.Definitions.{Setting, IsHome, HasGoneTo, IsSetting, IsCalmNode, IsCalmMail, ComesInTime, Frame, IsBegun}
 

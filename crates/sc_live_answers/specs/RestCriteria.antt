@@ -4,11 +4,11 @@ use Rattle.sc_base.specs.Definitions.{Among, Each, client_actor, least_of}
 use Rattle.sc_node_table.specs.Values.{Draw, Base, Client}
 use Rattle.sc_actor.specs.Definitions.{value, has_started}
 use Rattle.sc_live_orderly.specs.Definitions.{orders}
-use Rattle.sc_client_table.specs.Definitions.{Client as ClientState}
-use Rattle.sc_scenario.specs.declared.scenarios.Asks.{Asks}
-use Rattle.sc_scenario.specs.declared.scenarios.Scenario.{Scenario}
+use Rattle.sc_client_table.specs.table.Definitions.{Client as ClientState}
+use Rattle.sc_scenario.specs.declared.scenario.scenarios.Asks.{Asks}
+use Rattle.sc_scenario.specs.declared.scenario.scenarios.Scenario.{Scenario}
 use Rattle.sc_node_table.specs.Definitions.{ReplicaState}
-use Rattle.sc_sound.specs.Definitions.{player_table, births, client_seat, route_of, as_nodes, groups_at}
+use Rattle.sc_meaning.specs.sound.Definitions.{player_table, births, client_seat, route_of, as_nodes, groups_at}
 use Rattle.sc_live_steps.specs.calm.Definitions.{HasReplica, IsAnswered, Rows}
 use Rattle.sc_live_journals.specs.rows.Definitions.{view_at}
 use Rattle.sc_live_steps.specs.orders.Definitions.{Still, IsAt}

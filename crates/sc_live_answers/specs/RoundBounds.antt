@@ -3,9 +3,9 @@ use Rattle.std.specs.Prelude.{◌≡◌, ℕ, ◌+◌, ◌≤◌, true, false, L
 use Rattle.sc_base.specs.Definitions.{Among, is_member}
 use Rattle.sc_node_table.specs.Values.{Ballot, Draw, Base, OrderLine, Seat, Event, Deliver}
 use Rattle.sc_live_orderly.specs.Definitions.{AreInTime}
-use Rattle.sc_scenario.specs.declared.scenarios.Scenario.{Scenario}
+use Rattle.sc_scenario.specs.declared.scenario.scenarios.Scenario.{Scenario}
 use Rattle.sc_node_table.specs.Definitions.{ReplicaState}
-use Rattle.sc_sound.specs.Definitions.{Player, births, as_nodes}
+use Rattle.sc_meaning.specs.sound.Definitions.{Player, births, as_nodes}
 use Rattle.sc_live_steps.specs.calm.Definitions.{players, HasReplica, Rows}
 use Rattle.sc_live_steps.specs.following.Definitions.{Course, Sets, Tellers}
 use Rattle.sc_live_steps.specs.orders.Definitions.{Deal, Stage, Still, Asks, leads_of, IsAt, works}

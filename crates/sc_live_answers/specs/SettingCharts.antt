@@ -2,9 +2,9 @@
 use Rattle.std.specs.Prelude.{◌≡◌, ℕ, List, ◌∷◌, Some}
 use Rattle.sc_node_table.specs.Values.{Draw, Base, Route, OrderLine, Mail, Row}
 use Rattle.sc_node_table.specs.Definitions.{ReplicaState}
-use Rattle.sc_scenario.specs.declared.scenarios.Scenario.{Scenario}
-use Rattle.sc_scenario.specs.Definitions.{IsValid}
-use Rattle.sc_sound.specs.Definitions.{as_nodes, births, Lawful}
+use Rattle.sc_scenario.specs.declared.scenario.scenarios.Scenario.{Scenario}
+use Rattle.sc_scenario.specs.scenario.Definitions.{IsValid}
+use Rattle.sc_meaning.specs.sound.Definitions.{as_nodes, births, Lawful}
 use Rattle.sc_live_steps.specs.calm.Definitions.{players, View as Replicas}
 use Rattle.sc_live_journals.specs.charts.Definitions.{all_replicas, names_at, chart_at, GoInTurn, quiet_prefix}
 use Rattle.sc_live_plain.specs.Definitions.{replicas_after, setting_at, AreFramesOf, IsQuietJournal, Frame}

@@ -2,9 +2,9 @@
 use Rattle.std.specs.Prelude.{ℕ, ◌+◌, ◌^◌, ◌≤◌, List, length}
 use Rattle.sc_node_table.specs.Values.{OrderLine, Mail, Row}
 use Rattle.sc_live_orderly.specs.Definitions.{deliveries, AreInTime}
-use Rattle.sc_scenario.specs.declared.scenarios.Scenario.{Scenario}
-use Rattle.sc_scenario.specs.Definitions.{IsValid}
-use Rattle.sc_sound.specs.Definitions.{births, as_nodes, Lawful}
+use Rattle.sc_scenario.specs.declared.scenario.scenarios.Scenario.{Scenario}
+use Rattle.sc_scenario.specs.scenario.Definitions.{IsValid}
+use Rattle.sc_meaning.specs.sound.Definitions.{births, as_nodes, Lawful}
 use Rattle.sc_live_steps.specs.calm.Definitions.{players}
 use Rattle.sc_live_plain.specs.Definitions.{orders_of, IsCalmAtBudget}
 use Rattle.sc_live_answers.specs.LineEnds.{calm_deliveries_of}

@@ -3,9 +3,9 @@ use Rattle.std.specs.Prelude.{◌≡◌, ℕ, ◌+◌, ◌-◌, ◌≤◌, ◌==
 use Rattle.sc_base.specs.Definitions.{client_actor}
 use Rattle.sc_node_table.specs.Values.{Op, Command, Noop, Call, Join, Leave, Split, Begin, Prepared, RecordVote, GiveUp, Finish, Watched, RecordWatch, Base, OrderLine, Mail, Node, Client, Row, MailBody, Request, Answer, Prepare, Promise, Accept, Accepted, Nack, Learn, Ask, Install, TxPrepare, TxVote, TxOutcome, TxElsewhere, TxWatch, TxWatched, Told, Flight}
 use Rattle.sc_actor.specs.Definitions.{value}
-use Rattle.sc_scenario.specs.declared.scenarios.Scenario.{Scenario}
-use Rattle.sc_scenario.specs.Definitions.{IsValid}
-use Rattle.sc_sound.specs.Definitions.{Player, player_table, node_seat, system_of, as_nodes}
+use Rattle.sc_scenario.specs.declared.scenario.scenarios.Scenario.{Scenario}
+use Rattle.sc_scenario.specs.scenario.Definitions.{IsValid}
+use Rattle.sc_meaning.specs.sound.Definitions.{Player, player_table, node_seat, system_of, as_nodes}
 use Rattle.sc_live_orderly.specs.Definitions.{IsTidy, IsOrderly, Owing, under_way, owed}
 use Rattle.sc_live_steps.specs.calm.Definitions.{waiting_one}
 use Rattle.sc_live_plain.specs.Definitions.{IsAsking, AreFarFromLast, IsLinkedSetting, Setting, IsSetting, Frame, IsFrame, IsBegun, IsPlainBody, IsPlainAt, IsDue}

@@ -5,8 +5,8 @@ use Rattle.sc_node_table.specs.Values.{Draw, Base, OrderLine, AnswerBody, Mail, 
 use Rattle.sc_actor.specs.Definitions.{mails, numbered, is_quiet}
 use Rattle.sc_actor.specs.declared.rows.Event.TheVariants.{Told}
 use Rattle.sc_live_orderly.specs.Definitions.{AreInTime}
-use Rattle.sc_scenario.specs.declared.scenarios.Scenario.{Scenario}
-use Rattle.sc_sound.specs.Definitions.{groups_at, Player, births, as_nodes}
+use Rattle.sc_scenario.specs.declared.scenario.scenarios.Scenario.{Scenario}
+use Rattle.sc_meaning.specs.sound.Definitions.{groups_at, Player, births, as_nodes}
 use Rattle.sc_live_steps.specs.calm.Definitions.{players, Rows}
 use Rattle.sc_live_journals.specs.rows.Definitions.{IsSeat, with_event}
 use Rattle.sc_live_steps.specs.orders.Definitions.{Stage}

@@ -5,10 +5,10 @@ use Rattle.std.specs.Option.{option_map}
 use Rattle.std.proofs.lemmas.Bool.{cond_both, cond-true, cond-false, eq-eqb, lt-leb, le-ltb, and_left, and_from, and_parts}
 use Rattle.sc_node_table.specs.Values.{Ballot, Draw, Op, Command, Call, Core, Mail, Accepted, AcceptAnswer, Flight, Report}
 use Rattle.sc_base.specs.Definitions.{is_majority, is_member}
-use Rattle.sc_paxos_words.specs.declared.answers.AcceptAnswer.TheVariants as Asked
-use Rattle.sc_paxos_words.specs.Definitions.{accepted as accepted_by, AcceptorState, may_accept, after_accept, below, IsAtLeast, flight_at, without_flight}
-use Rattle.sc_paxos_words.proofs.Lemmas.{at_least_itself}
-use Rattle.sc_machine_table.specs.Definitions.{applied}
+use Rattle.sc_words.specs.declared.paxos.answers.AcceptAnswer.TheVariants as Asked
+use Rattle.sc_words.specs.paxos.Definitions.{accepted as accepted_by, AcceptorState, may_accept, after_accept, below, IsAtLeast, flight_at, without_flight}
+use Rattle.sc_words.proofs.PaxosProofs.Lemmas.{at_least_itself}
+use Rattle.sc_group_table.specs.machine.Definitions.{applied}
 use Rattle.sc_node_table.specs.Definitions.{stopped, saw, entered, is_among, executed_one, executed_ready, all_ready, executed, install_to, pumped_from, pumped, ReplicaState, Place, Executed, childless, name_of, next, members, settled, flying, forgotten, last_slot, learn_row, without_slot, hinted, accepted_to, took, accept_row}
 use Rattle.sc_law_walks.proofs.Lemmas.{cleared, entered_next}
 use Rattle.sc_live_plain.specs.Definitions.{Frame, IsFrame, replica_owes, Requests, IsPlainCall, AreTaken, IsPlainLeader, IsPlainFollower, IsPlainVoter, IsPlainReplica, HasOffered}

@@ -5,10 +5,10 @@ use Rattle.std.proofs.lemmas.List.{length_push}
 use Rattle.sc_node_table.specs.Values.{OrderLine, Mail, Seat, Input, Row, Node, Client}
 use Rattle.sc_actor.specs.Definitions.{mails, value, acted, input_of}
 use Rattle.sc_actor.proofs.Lemmas.{value-snoc}
-use Rattle.sc_client_table.proofs.TurnLemmas.{sends_in_turn}
-use Rattle.sc_scenario.specs.declared.scenarios.SchedLine.{SchedLine}
-use Rattle.sc_scenario.specs.declared.scenarios.SchedLine.TheVariants.{Settle, Free}
-use Rattle.sc_sound.specs.Definitions.{Player, player_table, line_of, replies_of}
+use Rattle.sc_client_table.proofs.TableProofs.TurnLemmas.{sends_in_turn}
+use Rattle.sc_scenario.specs.declared.scenario.scenarios.SchedLine.{SchedLine}
+use Rattle.sc_scenario.specs.declared.scenario.scenarios.SchedLine.TheVariants.{Settle, Free}
+use Rattle.sc_meaning.specs.sound.Definitions.{Player, player_table, line_of, replies_of}
 use Rattle.sc_live_orderly.proofs.Lemmas.{IsManyLine}
 use Rattle.sc_live_plain.specs.Definitions.{delivers}
 use Rattle.sc_live_plain.proofs.RowViews.{Journal}

@@ -5,8 +5,8 @@ use Rattle.std.proofs.lemmas.Bool.{cond_both, cond-true, cond-false, cases_lt, c
 use Rattle.sc_base.specs.Definitions.{Among, Each, same_ballot, votes_of, is_majority, is_member}
 use Rattle.sc_base.proofs.Lemmas.{ballot_itself}
 use Rattle.sc_node_table.specs.Values.{Command, Call, Counted, Chosen, NotYet, Flight}
-use Rattle.sc_paxos_words.specs.Definitions.{LeaderState, flight_at, without_flight, without_flight_at, kept_voters, voters_after, with_voters, vote_at}
-use Rattle.sc_paxos_words.proofs.Lemmas.{find_found, Each-among}
+use Rattle.sc_words.specs.paxos.Definitions.{LeaderState, flight_at, without_flight, without_flight_at, kept_voters, voters_after, with_voters, vote_at}
+use Rattle.sc_words.proofs.PaxosProofs.Lemmas.{find_found, Each-among}
 use Rattle.sc_node_table.specs.Definitions.{has_room, executed, ReplicaState, Place, Executed, childless, next, set_at, last_slot, at_slot, with_slot, numbers_from, slots_ahead, leads, readied, vote_tallied, voted, accepted_row}
 use Rattle.sc_live_plain.specs.Definitions.{Frame, IsFrame, replica_owes, Requests, IsPlainCommand, takers, IsPlainFlight, IsPlainLeader, IsPlainReplica, HasOffered}
 use Rattle.sc_live_plain.proofs.LeaderRequests.{begins}

@@ -4,14 +4,14 @@ use Rattle.std.specs.Prelude.{true, false, length}
 use Rattle.std.specs.List.{list_any}
 use Rattle.sc_node_table.specs.Values.{Base, OrderLine, Call, LastMember, Refused, Value, Mail, Request, Answer, Accept, Accepted, Told as Tells, Row, Deliver, Go as Goes}
 use Rattle.sc_actor.specs.Definitions.{mails, value}
-use Rattle.sc_cmd.specs.declared.orders.Order.TheVariants.{Leave}
+use Rattle.sc_words.specs.declared.commands.orders.Order.TheVariants.{Leave}
 use Rattle.sc_actor.specs.declared.rows.Event.TheVariants.{Told as Ordered}
-use Rattle.sc_scenario.specs.Definitions.{lone_name}
-use Rattle.sc_scenario.specs.declared.scenarios.Asks.{Asks}
-use Rattle.sc_scenario.specs.declared.scenarios.Scenario.{Scenario}
-use Rattle.sc_scenario.specs.declared.scenarios.SchedLine.{SchedLine}
-use Rattle.sc_scenario.specs.declared.scenarios.SchedLine.TheVariants.{Go, Told, Settle}
-use Rattle.sc_sound.specs.Definitions.{kept_replies, alone, put_it, get_it, ballot, mail, row, example_rows, put_get_scenario, player_table, node_seat, client_seat, as_nodes, route_of, schedule}
+use Rattle.sc_scenario.specs.scenario.Definitions.{lone_name}
+use Rattle.sc_scenario.specs.declared.scenario.scenarios.Asks.{Asks}
+use Rattle.sc_scenario.specs.declared.scenario.scenarios.Scenario.{Scenario}
+use Rattle.sc_scenario.specs.declared.scenario.scenarios.SchedLine.{SchedLine}
+use Rattle.sc_scenario.specs.declared.scenario.scenarios.SchedLine.TheVariants.{Go, Told, Settle}
+use Rattle.sc_meaning.specs.sound.Definitions.{kept_replies, alone, put_it, get_it, ballot, mail, row, example_rows, put_get_scenario, player_table, node_seat, client_seat, as_nodes, route_of, schedule}
 use Rattle.sc_live_orderly.specs.Definitions.{AreSpaced, Nothing}
 use Rattle.sc_live_plain.specs.Definitions.{calm_budget_of, gives_order, are_parted, IsCalmAtBudget, requests_of, budget_of, delivers, IsAtBudget, IsServed, AreAnswered, mail_owes, player_owes, begun_of, EndsAtBudget}
 

@@ -7,23 +7,23 @@ use Rattle.sc_base.specs.Roster.{is_member}
 use Rattle.sc_base.specs.Same.{same_draw}
 use Rattle.sc_base.specs.declared.names.Draw.{Draw}
 use Rattle.sc_base.proofs.NameLemmas.{draw_is}
-use Rattle.sc_cmd.specs.declared.orders.OrderLine.{OrderLine}
-use Rattle.sc_cmd.specs.declared.orders.OrderRefusal.TheVariants.{LastMember}
-use Rattle.sc_cmd.specs.declared.orders.OrderResult.TheVariants.{Refused}
+use Rattle.sc_words.specs.declared.commands.orders.OrderLine.{OrderLine}
+use Rattle.sc_words.specs.declared.commands.orders.OrderRefusal.TheVariants.{LastMember}
+use Rattle.sc_words.specs.declared.commands.orders.OrderResult.TheVariants.{Refused}
 use Rattle.sc_mail.specs.declared.bodies.Mail.{Mail}
 use Rattle.sc_mail.specs.declared.bodies.MailBody.TheVariants.{Told as Tells}
 use Rattle.sc_actor.specs.declared.rows.Row.{Row}
 use Rattle.sc_actor.specs.declared.rows.Event.TheVariants.{Told as Ordered}
 use Rattle.sc_actor.specs.Replay.{value}
-use Rattle.sc_paxos_words.proofs.ListLemmas.{Each-among}
+use Rattle.sc_words.proofs.PaxosProofs.ListLemmas.{Each-among}
 use Rattle.sc_paxos_law.proofs.Among.{member-among}
-use Rattle.sc_client_table.specs.Client.{born_client}
+use Rattle.sc_client_table.specs.table.Client.{born_client}
 use Rattle.sc_node_table.specs.Node.{replica_of}
 use Rattle.sc_node_table.specs.Ordering.{ordered_row}
 use Rattle.sc_node_table.specs.Replica.{ReplicaState, next, born_replica}
-use Rattle.sc_scenario.specs.Groups.{lone_name}
-use Rattle.sc_sound.specs.Example.{alone, put_it, get_it, mail, row}
-use Rattle.sc_sound.specs.Players.{player_table, node_seat, as_nodes, route_of}
+use Rattle.sc_scenario.specs.scenario.Groups.{lone_name}
+use Rattle.sc_meaning.specs.sound.Example.{alone, put_it, get_it, mail, row}
+use Rattle.sc_meaning.specs.sound.Players.{player_table, node_seat, as_nodes, route_of}
 use Rattle.sc_live_steps.specs.calm.QuietJournals.{IsQuiet, StandsQuiet, IsNewest, IsAtRest, IsBelow, MayVote, IsUpToDate}
 use Rattle.sc_live_plain.specs.LeaderMailInJournals.{replicas_of}
 use Rattle.sc_live_plain.proofs.ExampleBudget.{leave_it}

@@ -5,7 +5,7 @@ use Rattle.std.proofs.lemmas.Bool.{cond_both, cond-true, cond-false, cases_Bool,
 use Rattle.sc_base.specs.Definitions.{Among, Each, votes_of, is_majority, is_member, with_member, IsRoster}
 use Rattle.sc_node_table.specs.Values.{Command, Flight}
 use Rattle.sc_base.proofs.Lemmas.{length_with as with_one}
-use Rattle.sc_paxos_words.specs.Definitions.{flight_at, without_flight, kept_voters, add_voter, voters_after, with_voters}
+use Rattle.sc_words.specs.paxos.Definitions.{flight_at, without_flight, kept_voters, add_voter, voters_after, with_voters}
 use Rattle.sc_node_table.specs.Definitions.{numbers_from}
 use Rattle.sc_paxos_law.proofs.Lemmas.{member-among}
 use Rattle.sc_live_plain.proofs.SlotCounts.{one_yes, one_no, count-cons}

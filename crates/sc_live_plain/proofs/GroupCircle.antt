@@ -5,9 +5,9 @@ use Rattle.std.proofs.lemmas.Bool.{cond-true, cond-false, cases_lt, eq-eqb, ne_e
 use Rattle.std.proofs.lemmas.List.{length-map}
 use Rattle.sc_base.specs.Definitions.{Each, least_of}
 use Rattle.sc_node_table.specs.Values.{Draw, Base}
-use Rattle.sc_scenario.specs.Definitions.{group_at, name_at, place_right, way, arc_at, base_at, bases_up_to, IsBounded}
-use Rattle.sc_scenario.specs.declared.drafts.GroupLine.{GroupLine}
-use Rattle.sc_scenario.specs.declared.scenarios.Scenario.{Scenario}
+use Rattle.sc_scenario.specs.scenario.Definitions.{group_at, name_at, place_right, way, arc_at, base_at, bases_up_to, IsBounded}
+use Rattle.sc_scenario.specs.declared.scenario.drafts.GroupLine.{GroupLine}
+use Rattle.sc_scenario.specs.declared.scenario.scenarios.Scenario.{Scenario}
 use Rattle.sc_live_plain.specs.Definitions.{Frame, frame_of}
 use Rattle.sc_live_plain.proofs.PlainBeginnings.{frames_of, stage, frame_is}
 use Rattle.sc_live_plain.proofs.PlainKnownGroups.{IsBefore, IsRound}

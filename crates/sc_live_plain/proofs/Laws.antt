@@ -1,6 +1,6 @@
 -- Laws that follow from lemmas of this crate and of those below.
 use Rattle.sc_live_plain.proofs.QuietLineEnds.{ends_quiet}
-use Rattle.sc_scenario.proofs.Lemmas.{valid_scenarios_are_bounded}
+use Rattle.sc_scenario.proofs.ScenarioProofs.Lemmas.{valid_scenarios_are_bounded}
 use Rattle.sc_live_plain.specs.Definitions.{PlainLinesEndQuiet, RequestsGoOn, QuietJournalsAsk}
 use Rattle.sc_live_plain.proofs.RequestPhaseClients.{go_on}
 use Rattle.sc_live_plain.proofs.RequestsAfterQuiet.{quiet_ask}

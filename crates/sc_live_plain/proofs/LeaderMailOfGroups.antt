@@ -6,8 +6,8 @@ use Rattle.sc_node_table.specs.Values.{Draw, OrderLine, Mail, MailBody, Request,
 use Rattle.sc_base.proofs.Lemmas.{draw_is, same_name}
 use Rattle.sc_actor.specs.Definitions.{is_delivery, value}
 use Rattle.sc_node_table.specs.Definitions.{NodeState, replica_of, is_node, ReplicaState, next, numbers_from}
-use Rattle.sc_scenario.specs.declared.scenarios.Scenario.{Scenario}
-use Rattle.sc_sound.specs.Definitions.{player_table, node_seat, system_of, as_nodes}
+use Rattle.sc_scenario.specs.declared.scenario.scenarios.Scenario.{Scenario}
+use Rattle.sc_meaning.specs.sound.Definitions.{player_table, node_seat, system_of, as_nodes}
 use Rattle.sc_live_orderly.specs.Definitions.{rest, mail_for, taken}
 use Rattle.sc_live_plain.specs.Definitions.{Frame, IsFrame, AreNamedApart, Mark, Asks, Votes, Tells, Other, mark_of, mark, told, AreInOrder, marks_for, replica_at, next_in, votes_in, view_at, marks_at, IsGroupAt, IsOther, How, IsTaken, Requests, IsPlainBody, AreTaken, IsPlainAt, IsPlainNode, IsDue}
 use Rattle.sc_live_plain.proofs.MailMarks.{does_moves}

@@ -7,8 +7,8 @@ use Rattle.std.proofs.lemmas.Bool.{cases_lt, cond_both, cond-true, cond-false, e
 use Rattle.sc_base.specs.Definitions.{Among, Each, same_draw, is_member}
 use Rattle.sc_node_table.specs.Values.{Draw, Command, Mail, MailBody, Answer, Accept, Accepted, Learn, Flight}
 use Rattle.sc_base.proofs.Lemmas.{same_name}
-use Rattle.sc_paxos_words.specs.Definitions.{flight_at, kept_voters}
-use Rattle.sc_paxos_words.proofs.Lemmas.{Each-among, find_found}
+use Rattle.sc_words.specs.paxos.Definitions.{flight_at, kept_voters}
+use Rattle.sc_words.proofs.PaxosProofs.Lemmas.{Each-among, find_found}
 use Rattle.sc_node_table.specs.Definitions.{Place, next, numbers_from}
 use Rattle.sc_paxos_law.proofs.Lemmas.{member-among}
 use Rattle.sc_live_plain.specs.Definitions.{Frame, Mark, Asks, Votes, Tells, Other, mark_of, mark, told, View, voters_in, marks_for, IsNew as IsNewMark, IsCount, IsElsewhere, Leads as LeadsTo, Requests, takers}

@@ -1,7 +1,7 @@
 -- Marks in order: the first is taken, and others come behind.
 use Rattle.std.proofs.Common.{◌≡◌, ℕ, zero, suc, ◌+◌, ◌≤◌, max, List, [], ◌∷◌, ◌++◌, inl, inr, refl, sym, ◌∙◌, ap, subst, arith}
 use Rattle.sc_base.specs.Definitions.{Among, Each}
-use Rattle.sc_paxos_words.proofs.Lemmas.{Each-append, Each-weaker}
+use Rattle.sc_words.proofs.PaxosProofs.Lemmas.{Each-append, Each-weaker}
 use Rattle.sc_node_table.specs.Definitions.{numbers_from}
 use Rattle.sc_live_plain.specs.Definitions.{Mark, Asks, Votes, Tells, Other, AreInOrder, IsBelow, told, IsNew, IsOther}
 

@@ -1,8 +1,8 @@
 -- As more requests are begun, what is plain stays so.
 use Rattle.std.proofs.Common.{ℕ, List, inl, inr}
 use Rattle.sc_node_table.specs.Values.{Op, Command, Call, AnswerBody, Value, NotLeader, NotMine, Gone, Stale, Mail, MailBody, Request, Answer, Accept, Accepted, Learn, Flight}
-use Rattle.sc_paxos_words.proofs.Lemmas.{Each-weaker}
-use Rattle.sc_machine_table.specs.Definitions.{Group}
+use Rattle.sc_words.proofs.PaxosProofs.Lemmas.{Each-weaker}
+use Rattle.sc_group_table.specs.machine.Definitions.{Group}
 use Rattle.sc_node_table.specs.Definitions.{NodeState, ReplicaState}
 use Rattle.sc_live_plain.specs.Definitions.{Frame, Requests, IsWrittenValue, IsPlainCall, IsPlainCommand, IsPlainAnswer, IsPlainBody, IsPlainMail, IsPlainGroup, IsPlainFlight, IsPlainLeader, IsPlainReplica, IsSettled, IsPlainAt, IsPlainNode}
 

@@ -9,10 +9,10 @@ use Rattle.sc_base.specs.Definitions.{Among, Each, Arc, client_actor, key_of, sa
 use Rattle.sc_node_table.specs.Values.{Draw, Op, Get, Reply, Got, Link, AnswerBody, Value, NotLeader, NotMine, Gone, Stale, Mail, MailBody, Request, Answer}
 use Rattle.sc_base.proofs.Lemmas.{draw_is, same_name}
 use Rattle.sc_actor.specs.declared.rows.Input.TheVariants.{Go}
-use Rattle.sc_ideal.specs.Definitions.{holds_key}
-use Rattle.sc_lookup.specs.Definitions.{KnownGroups, chosen, target_in, learnt_from_not_mine}
-use Rattle.sc_client_table.specs.Definitions.{Client, request_at, waiting_request, ClientStep, asked_of, sent_where, chosen_for, request_sent, started, waits_for, was_asked, answer_taken, got, table}
-use Rattle.sc_scenario.specs.declared.scenarios.Asks.{Asks}
+use Rattle.sc_words.specs.ideal.Definitions.{holds_key}
+use Rattle.sc_client_table.specs.lookup.Definitions.{KnownGroups, chosen, target_in, learnt_from_not_mine}
+use Rattle.sc_client_table.specs.table.Definitions.{Client, request_at, waiting_request, ClientStep, asked_of, sent_where, chosen_for, request_sent, started, waits_for, was_asked, answer_taken, got, table}
+use Rattle.sc_scenario.specs.declared.scenario.scenarios.Asks.{Asks}
 use Rattle.sc_live_plain.specs.Definitions.{Frame, body_owes, mail_owes, waiting_ones, begun_ones, client_owes, way_of, IsWaiting, IsResting, IsPlainClient, Requests, IsPlainBody, IsPlainMail}
 use Rattle.sc_live_plain.proofs.PlainKnownGroups.{IsRound, chosen_frame, target_leads, one_chosen, known_grows, prefix_frames}
 use Rattle.sc_live_plain.proofs.RepeatedMail.{mail_of}

@@ -3,7 +3,7 @@ use Rattle.std.proofs.Common.{◌≡◌, ℕ, ◌+◌, ◌≤◌, not, Bool, tru
 use Rattle.std.proofs.lemmas.Bool.{cond-true, cond-false}
 use Rattle.sc_base.specs.Definitions.{Among, is_member, least_of}
 use Rattle.sc_node_table.specs.Values.{Op, Command, Call, Core, Lock, Free, Effect, Route, AnswerBody, Mail, Learn}
-use Rattle.sc_machine_table.specs.Definitions.{applied}
+use Rattle.sc_group_table.specs.machine.Definitions.{applied}
 use Rattle.sc_node_table.specs.declared.Before.{Before}
 use Rattle.sc_node_table.specs.Definitions.{stopped, entered, answer_of, answered_or_put_back, effect_reported, announced, learnt_to, welcomed, slot_lost, landed, left_gone, left, is_among, looked_for, looked, executed_one, welcomed_all, answer_to, sent_others, ReplicaState, Place, name_of, next, members, flying, forgotten, waits_in, rest_of, numbers_from, slots_ahead, before_of, spoken, spoken_mails, begun_reported, went_on}
 use Rattle.sc_law_walks.proofs.Lemmas.{floor_under, entered_next, cleared}

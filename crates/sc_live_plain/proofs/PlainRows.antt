@@ -7,11 +7,11 @@ use Rattle.sc_node_table.specs.Values.{Op, OrderLine, Mail, Seat, Event, Deliver
 use Rattle.sc_actor.specs.declared.rows.Input.TheVariants.{Go as GoInput}
 use Rattle.sc_actor.specs.Definitions.{mails, value, acted, input_of, System, row_of, has_started, waiting, kth}
 use Rattle.sc_actor.proofs.Lemmas.{value-snoc}
-use Rattle.sc_paxos_words.proofs.Lemmas.{Each-weaker}
+use Rattle.sc_words.proofs.PaxosProofs.Lemmas.{Each-weaker}
 use Rattle.sc_node_table.specs.Definitions.{is_node, node_table, last_slot}
-use Rattle.sc_scenario.specs.declared.scenarios.Asks.{Asks}
-use Rattle.sc_scenario.specs.declared.scenarios.Scenario.{Scenario}
-use Rattle.sc_sound.specs.Definitions.{Player, player_table, node_seat, births, system_of, as_nodes}
+use Rattle.sc_scenario.specs.declared.scenario.scenarios.Asks.{Asks}
+use Rattle.sc_scenario.specs.declared.scenario.scenarios.Scenario.{Scenario}
+use Rattle.sc_meaning.specs.sound.Definitions.{Player, player_table, node_seat, births, system_of, as_nodes}
 use Rattle.sc_live_orderly.specs.Definitions.{IsTidy, IsOrderly, IsInOrder, rest, mail_for, taken, deliveries, owed, owed_at_birth, owed_by}
 use Rattle.sc_live_orderly.proofs.Lemmas.{IsPaid, pays, TakesFirst, takes_first, is_born-from, rest-row}
 use Rattle.sc_live_plain.specs.Definitions.{mark, marks_for, marks_at, next_in, replica_at, IsOther, player_owes, mail_owes, IsBegun, IsPlainMail}

@@ -5,9 +5,9 @@ use Rattle.std.proofs.lemmas.Bool.{cases_Bool, cases_eq, cases_lt, both_ways, an
 use Rattle.std.proofs.lemmas.Option.{slice_get_past}
 use Rattle.sc_base.specs.Definitions.{Among, Each, votes_of, is_majority, is_member}
 use Rattle.sc_node_table.specs.Values.{Draw, Command, Flight}
-use Rattle.sc_paxos_words.specs.Definitions.{below}
-use Rattle.sc_paxos_words.proofs.Lemmas.{Each-among}
-use Rattle.sc_machine_table.specs.Definitions.{Group}
+use Rattle.sc_words.specs.paxos.Definitions.{below}
+use Rattle.sc_words.proofs.PaxosProofs.Lemmas.{Each-among}
+use Rattle.sc_group_table.specs.machine.Definitions.{Group}
 use Rattle.sc_node_table.specs.Definitions.{ReplicaState, name_of, next, members, may_offer, numbers_from, slots_ahead}
 use Rattle.sc_paxos_law.proofs.Lemmas.{place_among, among-member}
 use Rattle.sc_live_steps.specs.calm.Definitions.{View as Replicas, IsAtRest, IsUpToDate, StandsQuiet}

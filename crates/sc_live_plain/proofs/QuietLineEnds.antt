@@ -3,13 +3,13 @@ use Rattle.std.proofs.Common.{ℕ, ◌+◌, ◌≤◌, List, [], ◌∷◌, map,
 use Rattle.sc_base.specs.Definitions.{Each}
 use Rattle.sc_node_table.specs.Values.{OrderLine, Value, NotLeader, NotMine, Gone, Stale, Mail, MailBody, Answer}
 use Rattle.sc_actor.specs.Definitions.{mails, System}
-use Rattle.sc_paxos_words.proofs.Lemmas.{Each-from}
+use Rattle.sc_words.proofs.PaxosProofs.Lemmas.{Each-from}
 use Rattle.sc_node_table.specs.Definitions.{last_slot}
-use Rattle.sc_scenario.specs.Definitions.{IsBounded, ValidScenariosAreBounded}
-use Rattle.sc_scenario.specs.declared.scenarios.Scenario.{Scenario}
-use Rattle.sc_scenario.specs.declared.scenarios.SchedLine.{SchedLine}
-use Rattle.sc_scenario.specs.declared.scenarios.SchedLine.TheVariants.{Go, Deliver, Drop, Again, Tick, Crash, Told, Settle, Free, Storm}
-use Rattle.sc_sound.specs.Definitions.{Player, line_of, schedule, system_of, as_nodes}
+use Rattle.sc_scenario.specs.scenario.Definitions.{IsBounded, ValidScenariosAreBounded}
+use Rattle.sc_scenario.specs.declared.scenario.scenarios.Scenario.{Scenario}
+use Rattle.sc_scenario.specs.declared.scenario.scenarios.SchedLine.{SchedLine}
+use Rattle.sc_scenario.specs.declared.scenario.scenarios.SchedLine.TheVariants.{Go, Deliver, Drop, Again, Tick, Crash, Told, Settle, Free, Storm}
+use Rattle.sc_meaning.specs.sound.Definitions.{Player, line_of, schedule, system_of, as_nodes}
 use Rattle.sc_live_orderly.specs.Definitions.{IsPlainLine, HasRoom, owed_at_birth}
 use Rattle.sc_live_orderly.proofs.Lemmas.{never_cut_by}
 use Rattle.sc_live_plain.specs.Definitions.{AllowsDeliveries, budget_of, body_owes, mail_owes, PlainLinesEndQuiet}

@@ -3,9 +3,9 @@ use Rattle.std.proofs.Common.{◌≡◌, ℕ, ◌+◌, ◌-◌, ◌<◌, ◌≤�
 use Rattle.std.proofs.lemmas.Bool.{cond_both, cond-true, cases_eq, eq-eqb, ne_eqb}
 use Rattle.sc_base.specs.Definitions.{Among, Each, client_actor, is_member, IsRoster}
 use Rattle.sc_node_table.specs.Values.{Op, Command, Call, Core, Mail, Answer, Learn, Flight}
-use Rattle.sc_paxos_words.specs.Definitions.{without_flight}
-use Rattle.sc_paxos_words.proofs.Lemmas.{Each-among, Each-push, Each-weaker}
-use Rattle.sc_machine_table.specs.Definitions.{applied}
+use Rattle.sc_words.specs.paxos.Definitions.{without_flight}
+use Rattle.sc_words.proofs.PaxosProofs.Lemmas.{Each-among, Each-push, Each-weaker}
+use Rattle.sc_group_table.specs.machine.Definitions.{applied}
 use Rattle.sc_node_table.specs.Definitions.{entered, executed_one, answer_to, sent_others, ReplicaState, Place, name_of, next, members, forgotten, at_slot, without_slot, numbers_from, slots_ahead}
 use Rattle.sc_law_walks.proofs.Lemmas.{cleared, entered_next}
 use Rattle.sc_paxos_law.proofs.Lemmas.{among-member}

@@ -5,7 +5,7 @@ use Rattle.std.proofs.lemmas.Bool.{cases_eq, cond-true, cond-false, eq-eqb, ne_e
 use Rattle.sc_base.specs.Definitions.{Each, same_draw, is_member}
 use Rattle.sc_base.proofs.Lemmas.{same_name}
 use Rattle.sc_node_table.specs.Values.{Command, Mail, Accepted, Flight}
-use Rattle.sc_paxos_words.specs.Definitions.{flight_at, kept_voters}
+use Rattle.sc_words.specs.paxos.Definitions.{flight_at, kept_voters}
 use Rattle.sc_node_table.specs.Definitions.{ReplicaState, Place, next}
 use Rattle.sc_live_plain.specs.Definitions.{Frame, Mark, Asks, Votes, Tells, Other, mark, voters_in, marks_for, IsOther, IsCount, MovesBy, Requests, AreTaken}
 use Rattle.sc_live_plain.proofs.LeaderMarks.{IsHeldOn, held_same, leads_moves}

@@ -4,12 +4,12 @@ use Rattle.std.proofs.lemmas.Bool.{both_ways}
 use Rattle.sc_base.specs.Definitions.{Among, client_actor, is_member}
 use Rattle.sc_node_table.specs.Values.{Base, OrderLine, Mail, Answer, Node, Client, Seat}
 use Rattle.sc_actor.specs.Definitions.{value, System, has_started}
-use Rattle.sc_client_table.specs.Definitions.{Client as ClientState}
+use Rattle.sc_client_table.specs.table.Definitions.{Client as ClientState}
 use Rattle.sc_node_table.specs.Definitions.{replica_of, ReplicaState, numbers_from, slots_ahead}
-use Rattle.sc_scenario.specs.declared.scenarios.Asks.{Asks}
-use Rattle.sc_scenario.specs.declared.scenarios.Scenario.{Scenario}
-use Rattle.sc_scenario.specs.Definitions.{ValidScenariosAreBounded}
-use Rattle.sc_sound.specs.Definitions.{Player, player_table, node_seat, client_seat, route_of, births, system_of, as_nodes}
+use Rattle.sc_scenario.specs.declared.scenario.scenarios.Asks.{Asks}
+use Rattle.sc_scenario.specs.declared.scenario.scenarios.Scenario.{Scenario}
+use Rattle.sc_scenario.specs.scenario.Definitions.{ValidScenariosAreBounded}
+use Rattle.sc_meaning.specs.sound.Definitions.{Player, player_table, node_seat, client_seat, route_of, births, system_of, as_nodes}
 use Rattle.sc_live_orderly.specs.Definitions.{rest, is_born}
 use Rattle.sc_live_orderly.proofs.Lemmas.{is_born-from, seat_found}
 use Rattle.sc_paxos_law.proofs.Lemmas.{Among-right}

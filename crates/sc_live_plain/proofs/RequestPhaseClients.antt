@@ -9,11 +9,11 @@ use Rattle.sc_node_table.specs.Values.{Draw, Op, Base, OrderLine, Mail, Seat, Ro
 use Rattle.sc_actor.specs.declared.rows.Input.TheVariants.{Go as GoInput}
 use Rattle.sc_actor.specs.Definitions.{mails, is_delivery, value, acted, input_of, System, row_of, has_started, is_go, waiting, kth}
 use Rattle.sc_node_table.specs.Definitions.{is_node}
-use Rattle.sc_client_table.specs.Definitions.{ClientStep, table}
-use Rattle.sc_scenario.specs.declared.scenarios.Asks.{Asks}
-use Rattle.sc_scenario.specs.declared.scenarios.Scenario.{Scenario}
-use Rattle.sc_scenario.specs.Definitions.{ValidScenariosAreBounded}
-use Rattle.sc_sound.specs.Definitions.{Player, player_table, node_seat, client_seat, route_of, births, system_of, as_nodes}
+use Rattle.sc_client_table.specs.table.Definitions.{ClientStep, table}
+use Rattle.sc_scenario.specs.declared.scenario.scenarios.Asks.{Asks}
+use Rattle.sc_scenario.specs.declared.scenario.scenarios.Scenario.{Scenario}
+use Rattle.sc_scenario.specs.scenario.Definitions.{ValidScenariosAreBounded}
+use Rattle.sc_meaning.specs.sound.Definitions.{Player, player_table, node_seat, client_seat, route_of, births, system_of, as_nodes}
 use Rattle.sc_live_orderly.specs.Definitions.{IsTidy, IsOrderly, IsInOrder, rest, mail_for, taken}
 use Rattle.sc_live_orderly.proofs.Lemmas.{TakesFirst, takes_first, is_born-from, rest-row}
 use Rattle.sc_live_plain.specs.Definitions.{IsAskingClient, IsAsking, AreFarFromLast, RequestsGoOn, Mark, Other, mark, marks_for, marks_at, IsOther, IsTaken, IsLinkedSetting, IsCalmClient, BeginsBy, StaysCalm, Setting, IsSetting, IsCalmMail, begun_ones, waiting_ones, begun_of, IsBegun}

@@ -6,8 +6,8 @@ use Rattle.sc_node_table.specs.Values.{Draw, OrderLine, Mail, Row}
 use Rattle.sc_actor.specs.Definitions.{mails, is_delivery, value, acted, input_of}
 use Rattle.sc_actor.proofs.Lemmas.{value-snoc}
 use Rattle.sc_node_table.specs.Definitions.{replica_of, is_node, next}
-use Rattle.sc_scenario.specs.declared.scenarios.Scenario.{Scenario}
-use Rattle.sc_sound.specs.Definitions.{Player, player_table, node_seat, system_of, as_nodes}
+use Rattle.sc_scenario.specs.declared.scenario.scenarios.Scenario.{Scenario}
+use Rattle.sc_meaning.specs.sound.Definitions.{Player, player_table, node_seat, system_of, as_nodes}
 use Rattle.sc_live_orderly.specs.Definitions.{rest, mail_for, taken}
 use Rattle.sc_live_plain.specs.Definitions.{Frame, Mark, mark, IsBetween, marks_for, replicas_of, replica_at, view_at, marks_at, Moves, IsTaken}
 use Rattle.sc_live_plain.proofs.LeaderMailRows.{between-row}

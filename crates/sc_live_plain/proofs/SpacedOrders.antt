@@ -3,10 +3,10 @@ use Rattle.std.proofs.Common.{◌≡◌, ℕ, List, [], ◌∷◌, ◌++◌, ◌
 use Rattle.std.specs.List.{list_any}
 use Rattle.sc_base.specs.Definitions.{Each}
 use Rattle.sc_node_table.specs.Values.{OrderLine}
-use Rattle.sc_scenario.specs.declared.scenarios.Scenario.{Scenario}
-use Rattle.sc_scenario.specs.declared.scenarios.SchedLine.{SchedLine}
-use Rattle.sc_scenario.specs.declared.scenarios.SchedLine.TheVariants.{Go, Deliver, Drop, Again, Tick, Crash, Told, Settle, Free, Storm}
-use Rattle.sc_sound.specs.Definitions.{line_of}
+use Rattle.sc_scenario.specs.declared.scenario.scenarios.Scenario.{Scenario}
+use Rattle.sc_scenario.specs.declared.scenario.scenarios.SchedLine.{SchedLine}
+use Rattle.sc_scenario.specs.declared.scenario.scenarios.SchedLine.TheVariants.{Go, Deliver, Drop, Again, Tick, Crash, Told, Settle, Free, Storm}
+use Rattle.sc_meaning.specs.sound.Definitions.{line_of}
 use Rattle.sc_live_orderly.specs.Definitions.{HasRoom, Said, Nothing, Goes, AnOrder, MayGo, MayOrder, AreSpaced}
 use Rattle.sc_live_plain.specs.Definitions.{delivers, budget_of, gives_order, starts, are_parted, AllowsDeliveries, AllowsCalmly, IsCalm, CalmLinesAreSpaced, RoomyScenariosAreCalm}
 

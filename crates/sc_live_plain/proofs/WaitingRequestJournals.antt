@@ -4,10 +4,10 @@ use Rattle.sc_base.specs.Definitions.{Among, client_actor}
 use Rattle.sc_node_table.specs.Values.{OrderLine, Mail, Seat, Event, Deliver, Got, Row, Client}
 use Rattle.sc_actor.specs.Definitions.{mails, value, acted, input_of, System, row_of, waiting, kth}
 use Rattle.sc_node_table.specs.Definitions.{last_slot}
-use Rattle.sc_client_table.specs.Definitions.{Client as ClientState, ClientStep, table}
-use Rattle.sc_scenario.specs.declared.scenarios.Asks.{Asks}
-use Rattle.sc_scenario.specs.declared.scenarios.Scenario.{Scenario}
-use Rattle.sc_sound.specs.Definitions.{Player, player_table, client_seat, route_of, births, system_of, as_nodes}
+use Rattle.sc_client_table.specs.table.Definitions.{Client as ClientState, ClientStep, table}
+use Rattle.sc_scenario.specs.declared.scenario.scenarios.Asks.{Asks}
+use Rattle.sc_scenario.specs.declared.scenario.scenarios.Scenario.{Scenario}
+use Rattle.sc_meaning.specs.sound.Definitions.{Player, player_table, client_seat, route_of, births, system_of, as_nodes}
 use Rattle.sc_live_orderly.specs.Definitions.{IsTidy, IsOrderly, IsInOrder, rest, mail_for, taken, owed_at_birth}
 use Rattle.sc_live_orderly.proofs.Lemmas.{TakesFirst, rest-row}
 use Rattle.sc_live_plain.specs.Definitions.{IsWaiting}

@@ -3,12 +3,12 @@ use Rattle.std.specs.Prelude.{◌≡◌, ℕ, ◌+◌, ◌*◌, ◌≤◌, Bool,
 use Rattle.std.specs.List.{list_any}
 use Rattle.sc_base.specs.Definitions.{Among, Each}
 use Rattle.sc_node_table.specs.Values.{Base, OrderLine, Mail, Row}
-use Rattle.sc_scenario.specs.Definitions.{most_deliveries}
-use Rattle.sc_scenario.specs.declared.scenarios.Asks.{Asks}
-use Rattle.sc_scenario.specs.declared.scenarios.Scenario.{Scenario}
-use Rattle.sc_scenario.specs.declared.scenarios.SchedLine.{SchedLine}
-use Rattle.sc_scenario.specs.declared.scenarios.SchedLine.TheVariants.{Go, Deliver, Drop, Again, Tick, Crash, Told, Settle, Free, Storm}
-use Rattle.sc_sound.specs.Definitions.{route_of, kept_replies}
+use Rattle.sc_scenario.specs.scenario.Definitions.{most_deliveries}
+use Rattle.sc_scenario.specs.declared.scenario.scenarios.Asks.{Asks}
+use Rattle.sc_scenario.specs.declared.scenario.scenarios.Scenario.{Scenario}
+use Rattle.sc_scenario.specs.declared.scenario.scenarios.SchedLine.{SchedLine}
+use Rattle.sc_scenario.specs.declared.scenario.scenarios.SchedLine.TheVariants.{Go, Deliver, Drop, Again, Tick, Crash, Told, Settle, Free, Storm}
+use Rattle.sc_meaning.specs.sound.Definitions.{route_of, kept_replies}
 
 -- the number of requests of all clients together
 abbrev pub requests_of : Scenario → ℕ

@@ -2,11 +2,11 @@
 use Rattle.std.specs.Prelude.{◌≡◌, ℕ, ◌+◌, ◌*◌, ◌≤◌, ◌&&◌, ◌||◌, Bool, true, false, List, ◌∷◌, ◌++◌, length, count_by}
 use Rattle.std.specs.List.{list_any}
 use Rattle.sc_base.specs.Definitions.{Each}
-use Rattle.sc_scenario.specs.Definitions.{most_deliveries}
-use Rattle.sc_scenario.specs.declared.scenarios.Scenario.{Scenario}
-use Rattle.sc_scenario.specs.declared.scenarios.SchedLine.{SchedLine}
-use Rattle.sc_scenario.specs.declared.scenarios.SchedLine.TheVariants.{Go, Deliver, Drop, Again, Tick, Crash, Told, Settle, Free, Storm}
-use Rattle.sc_sound.specs.Definitions.{schedule}
+use Rattle.sc_scenario.specs.scenario.Definitions.{most_deliveries}
+use Rattle.sc_scenario.specs.declared.scenario.scenarios.Scenario.{Scenario}
+use Rattle.sc_scenario.specs.declared.scenario.scenarios.SchedLine.{SchedLine}
+use Rattle.sc_scenario.specs.declared.scenario.scenarios.SchedLine.TheVariants.{Go, Deliver, Drop, Again, Tick, Crash, Told, Settle, Free, Storm}
+use Rattle.sc_meaning.specs.sound.Definitions.{schedule}
 use Rattle.sc_live_orderly.specs.Definitions.{HasRoom, AreSpaced, Nothing}
 use Rattle.sc_live_plain.specs.Budget.{requests_of, delivers, IsAtBudget}
 

@@ -3,7 +3,7 @@ use Rattle.std.specs.Prelude.{◌≡◌, ℕ, ◌+◌, ◌≤◌, true, false, L
 use Rattle.sc_base.specs.Definitions.{Among, Each, client_actor}
 use Rattle.sc_node_table.specs.Values.{Draw, Op, Got, Row, Route, OrderLine, AnswerBody, Value, NotLeader, NotMine, Gone, Stale, Mail, MailBody, Request, Answer, Prepare, Promise, Accept, Accepted, Nack, Learn, Ask, Install, TxPrepare, TxVote, TxOutcome, TxElsewhere, TxWatch, TxWatched, Told}
 use Rattle.sc_node_table.specs.Definitions.{NodeState, replica_of, node_table, ReplicaState, next, last_slot, slots_ahead}
-use Rattle.sc_scenario.specs.declared.scenarios.Scenario.{Scenario}
+use Rattle.sc_scenario.specs.declared.scenario.scenarios.Scenario.{Scenario}
 use Rattle.sc_live_steps.specs.calm.Definitions.{Ways, View as Replicas}
 use Rattle.sc_live_plain.specs.Frames.{Frame, IsFrame, AreNamedApart}
 use Rattle.sc_live_plain.specs.PlainClients.{IsBegun}

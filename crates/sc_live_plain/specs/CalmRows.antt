@@ -1,7 +1,7 @@
 -- The mail of clients' requests lowers the potential of a calm journal, between two orders.
 use Rattle.std.specs.Prelude.{◌≡◌, ℕ, false, List, []}
 use Rattle.sc_node_table.specs.Values.{Op, OrderLine, Mail, Row, MailBody, Request}
-use Rattle.sc_scenario.specs.declared.scenarios.Scenario.{Scenario}
+use Rattle.sc_scenario.specs.declared.scenario.scenarios.Scenario.{Scenario}
 use Rattle.sc_node_table.specs.Definitions.{ReplicaState, name_of}
 use Rattle.sc_live_steps.specs.calm.Definitions.{AreBounded, Lowers, Points, Ways}
 use Rattle.sc_live_plain.specs.Frames.{Frame, IsFrame}

@@ -2,8 +2,8 @@
 use Rattle.std.specs.Prelude.{◌≡◌, ℕ, ◌+◌, ◌^◌, ◌<◌, ◌≤◌, false, List, [], ◌∷◌, ◌++◌, length, map, take, Some, None}
 use Rattle.sc_base.specs.Definitions.{Among, Each, IsArc, end_of, holds}
 use Rattle.sc_node_table.specs.Values.{Draw}
-use Rattle.sc_lookup.specs.declared.ways.Way.{Way}
-use Rattle.sc_lookup.specs.Definitions.{KnownGroups, way_to, chosen, preferring, learnt_from_not_mine}
+use Rattle.sc_client_table.specs.declared.lookup.ways.Way.{Way}
+use Rattle.sc_client_table.specs.lookup.Definitions.{KnownGroups, way_to, chosen, preferring, learnt_from_not_mine}
 use Rattle.sc_live_plain.specs.Frames.{Frame}
 
 -- the group's successor is the other group, whose arc starts where this group's arc ends

@@ -1,8 +1,8 @@
 -- What the derived `==` of the types of this crate decides.
 use Rattle.sc_base.proofs.Lemmas.{Exact, lists, options, numbers, struct, last, ◌and◌, enum, ◌or◌, no_variant, arc, draw, ballot, op, reply, bytes as members}
-use Rattle.sc_cmd.proofs.Exact.{link, route, offer, watch, vote, past, outcome, base, command, result_reported}
-use Rattle.sc_cmd.specs.contracts.commands.Command as command_type
-use Rattle.sc_paxos_words.specs.contracts.reports.Report as report_type
+use Rattle.sc_words.proofs.CommandsProofs.Exact.{link, route, offer, watch, vote, past, outcome, base, command, result_reported}
+use Rattle.sc_words.specs.contracts.commands.commands.Command as command_type
+use Rattle.sc_words.specs.contracts.paxos.reports.Report as report_type
 use Rattle.sc_mail.specs.contracts.bodies.AnswerBody as answer_type
 use Rattle.sc_mail.specs.contracts.bodies.AnswerBodyPartialEq.TheImpl as answer_eq
 use Rattle.sc_mail.specs.contracts.bodies.Mail as mail_type

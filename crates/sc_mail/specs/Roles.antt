@@ -1,5 +1,5 @@
 -- The transition table of a node or a client.
-use Rattle.sc_cmd.specs.declared.orders.OrderLine.{OrderLine}
+use Rattle.sc_words.specs.declared.commands.orders.OrderLine.{OrderLine}
 use Rattle.sc_mail.specs.declared.bodies.Mail.{Mail}
 use Rattle.sc_actor.specs.Definitions.{Table}
 use Rattle.sc_mail.specs.declared.roles.Role.{Role}

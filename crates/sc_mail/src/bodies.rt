@@ -5,10 +5,9 @@ ghost use Rattle.sc_base.specs.Limits.{client_actor};
 use sc_base::{
     Ballot, Boxed, Draw, Dup, MOST_NODES, Op, OutOfMemory, Reply, RingArc, Same, Sequence,
 };
-use sc_cmd::{
-    Base, Command, Link, MemberSets, Offer, Outcome, Past, Route, OrderResult, Vote, Watch,
+use sc_words::{
+    Base, Command, Link, MemberSets, Offer, OrderResult, Outcome, Past, Report, Route, Vote, Watch,
 };
-use sc_paxos_words::Report;
 use std::alloc::Global;
 
 /// The actor number of the desk, the outside, to which the results of orders are sent. It is no

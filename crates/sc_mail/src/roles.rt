@@ -5,7 +5,7 @@ ghost use Rattle.sc_mail.specs.Roles.{role_table};
 use crate::bodies::Mail;
 use sc_actor::{Actor, Input};
 use sc_base::{OutOfMemory, Sequence};
-use sc_cmd::OrderLine;
+use sc_words::OrderLine;
 use std::alloc::Global;
 
 /// A node or a client, generic in what each is: two state machines, or the values of their tables

@@ -1,12 +1,12 @@
 //! The weight of a mail in counted bytes.
 ghost use Rattle.std.specs.Prelude.{◌≡◌};
 ghost use Rattle.std.specs.List.{sum_by};
-ghost use Rattle.sc_cmd.specs.Weight.{capped};
+ghost use Rattle.sc_words.specs.commands.Weight.{capped};
 ghost use Rattle.sc_mail.specs.Weight.{answer_weight, report_weight, body_weight};
 
 use crate::bodies::{AnswerBody, Mail, MailBody, Reports};
 use sc_actor::Parcel;
-use sc_cmd::{base_weight, command_weight, op_weight, outcome_weight, reply_weight, vote_weight};
+use sc_words::{base_weight, command_weight, op_weight, outcome_weight, reply_weight, vote_weight};
 
 fn answer_weight(answer: &AnswerBody) -> u64
     ensures { result ≡ answer_weight answer.now }

@@ -1,7 +1,7 @@
 -- The replicas of groups: one of each of which the node is a member.
 use Rattle.std.proofs.Common.{◌≡◌, ℕ, zero, suc, ◌<◌, Bool, true, false, cond, List, [], ◌∷◌, length, get_or, map, sym, ap, ◌∙◌, arith}
 use Rattle.sc_base.specs.Roster.{is_member}
-use Rattle.sc_cmd.specs.declared.cores.Base.{Base}
+use Rattle.sc_words.specs.declared.commands.cores.Base.{Base}
 use Rattle.sc_node_table.specs.Replica.{ReplicaState}
 use Rattle.sc_node_table.specs.Node.{born_replicas}
 

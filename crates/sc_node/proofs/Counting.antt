@@ -1,14 +1,14 @@
 -- The count of a vote, by its two cases.
 use Rattle.std.proofs.Common.{◌≡◌, ◌++◌, ℕ, List, sym, append-nil}
-use Rattle.sc_cmd.specs.declared.commands.Command.{Command}
-use Rattle.sc_cmd.specs.declared.cores.Base.{Base}
+use Rattle.sc_words.specs.declared.commands.commands.Command.{Command}
+use Rattle.sc_words.specs.declared.commands.cores.Base.{Base}
 use Rattle.sc_mail.specs.declared.bodies.Mail.{Mail}
-use Rattle.sc_paxos_words.specs.declared.answers.Counted.{Counted}
-use Rattle.sc_paxos_words.specs.declared.answers.Counted.TheVariants.{Chosen, NotYet}
-use Rattle.sc_paxos_words.specs.Leaders.{LeaderState}
+use Rattle.sc_words.specs.declared.paxos.answers.Counted.{Counted}
+use Rattle.sc_words.specs.declared.paxos.answers.Counted.TheVariants.{Chosen, NotYet}
+use Rattle.sc_words.specs.paxos.Leaders.{LeaderState}
 use Rattle.sc_node_table.specs.Replica.{ReplicaState}
 use Rattle.sc_node_table.specs.Voting.{readied, vote_tallied}
-use Rattle.sc_replica.specs.Steps.{with_leader}
+use Rattle.sc_node_replica.specs.Steps.{with_leader}
 
 -- a majority was counted
 pub chosen_row : (slot : ℕ) (p : Counted Command × LeaderState Command) (c : Command) (r : ReplicaState) (mails : List Mail) → Chosen c ≡ p.0

@@ -1,13 +1,13 @@
 -- A tick of a settled replica that has nothing to say.
 use Rattle.std.proofs.Common.{◌≡◌, Bool, true, false, List, [], refl}
 use Rattle.sc_base.specs.Drawing.{Drawer}
-use Rattle.sc_cmd.specs.declared.cores.Lock.{Lock}
-use Rattle.sc_cmd.specs.declared.cores.Lock.TheVariants.{Free, Coordinating, Promised, Watching}
+use Rattle.sc_words.specs.declared.commands.cores.Lock.{Lock}
+use Rattle.sc_words.specs.declared.commands.cores.Lock.TheVariants.{Free, Coordinating, Promised, Watching}
 use Rattle.sc_mail.specs.declared.bodies.Mail.{Mail}
 use Rattle.sc_node_table.specs.Policy.{wishing}
 use Rattle.sc_node_table.specs.Reminders.{waited_in, reminders, reminded}
 use Rattle.sc_node_table.specs.Replica.{ReplicaState}
-use Rattle.sc_replica_transactions.specs.Quiet.{coordinates}
+use Rattle.sc_node_parts.specs.transactions.Quiet.{coordinates}
 
 -- a group that coordinates nothing waits no longer
 waits_alike : (lock : Lock) (r : ReplicaState) → coordinates lock ≡ false → waited_in lock r ≡ r

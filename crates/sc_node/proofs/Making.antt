@@ -1,6 +1,6 @@
 -- Children appended to those that are there.
 use Rattle.std.proofs.Common.{◌≡◌, ◌++◌, List, [], sym, append-nil, append_assoc}
-use Rattle.sc_cmd.specs.declared.cores.Base.{Base}
+use Rattle.sc_words.specs.declared.commands.cores.Base.{Base}
 
 -- none more
 pub none_more : (made : List Base) → made ≡ made ++ []

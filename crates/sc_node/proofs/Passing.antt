@@ -3,14 +3,14 @@ use Rattle.std.proofs.Common.{◌≡◌, ℕ, ◌<◌, Bool, true, false, ◌&&�
 use Rattle.std.proofs.lemmas.Bool.{ltb-true, ne_eqb}
 use Rattle.sc_base.specs.declared.names.Ballot.{Ballot}
 use Rattle.sc_base.specs.declared.names.Draw.{Draw}
-use Rattle.sc_cmd.specs.declared.commands.Command.{Command}
+use Rattle.sc_words.specs.declared.commands.commands.Command.{Command}
 use Rattle.sc_mail.specs.declared.bodies.Mail.{Mail}
 use Rattle.sc_mail.specs.declared.bodies.MailBody.{MailBody}
 use Rattle.sc_mail.specs.declared.bodies.MailBody.TheVariants.{Request, Prepare, Promise, Accept, Accepted, Nack, Learn, Ask, Install, Answer, TxPrepare, TxVote, TxOutcome, TxElsewhere, TxWatch, TxWatched, Told}
-use Rattle.sc_paxos_words.specs.declared.answers.Counted.{Counted}
-use Rattle.sc_paxos_words.specs.declared.answers.Counted.TheVariants.{Chosen, NotYet}
-use Rattle.sc_paxos_words.specs.Leaders.{LeaderState}
-use Rattle.sc_paxos_words.specs.Votes.{counted}
+use Rattle.sc_words.specs.declared.paxos.answers.Counted.{Counted}
+use Rattle.sc_words.specs.declared.paxos.answers.Counted.TheVariants.{Chosen, NotYet}
+use Rattle.sc_words.specs.paxos.Leaders.{LeaderState}
+use Rattle.sc_words.specs.paxos.Votes.{counted}
 use Rattle.sc_node_table.specs.Replica.{ReplicaState, Executed, next, set_at, last_slot}
 use Rattle.sc_node_table.specs.Rows.{learn_row, mailed}
 use Rattle.sc_node_table.specs.Voting.{leads, vote_tallied, voted, accepted_row}

@@ -1,16 +1,16 @@
 -- What is said of calls, and of all other commands.
 use Rattle.std.proofs.Common.{◌≡◌, ℕ, Bool, true, false, [], Option, Some, None, refl, sym, ap, ◌∙◌, if◌then◌else◌}
-use Rattle.sc_cmd.specs.declared.commands.Command.{Command}
-use Rattle.sc_cmd.specs.declared.commands.Command.TheVariants.{Noop, Call, Join, Leave, Split, Begin, Prepared, RecordVote, GiveUp, Finish, Watched, RecordWatch}
-use Rattle.sc_cmd.specs.Definitions.{result_of}
-use Rattle.sc_cmd.specs.declared.effects.Effect.{Effect}
-use Rattle.sc_cmd.specs.declared.orders.OrderResult.{OrderResult}
+use Rattle.sc_words.specs.declared.commands.commands.Command.{Command}
+use Rattle.sc_words.specs.declared.commands.commands.Command.TheVariants.{Noop, Call, Join, Leave, Split, Begin, Prepared, RecordVote, GiveUp, Finish, Watched, RecordWatch}
+use Rattle.sc_words.specs.commands.Definitions.{result_of}
+use Rattle.sc_words.specs.declared.commands.effects.Effect.{Effect}
+use Rattle.sc_words.specs.declared.commands.orders.OrderResult.{OrderResult}
 use Rattle.sc_mail.specs.declared.bodies.AnswerBody.{AnswerBody}
 use Rattle.sc_node_table.specs.declared.Before.{Before}
 use Rattle.sc_node_table.specs.Replica.{ReplicaState, Place}
 use Rattle.sc_node_table.specs.Spoken.{begun_reported, went_on, spoken_mails, spoken}
 use Rattle.sc_node_table.specs.Execute.{answer_of, answered_or_put_back, effect_reported, order_result, announced}
-use Rattle.sc_replica_parts.specs.Requests.{is_request}
+use Rattle.sc_node_parts.specs.replica.Requests.{is_request}
 
 -- of a call nothing is said but its answer
 pub nothing_of_requests : (counted : Bool) (before : Before) (effect : Effect) (c : Command) (place : Place) → is_request c ≡ true

@@ -10,10 +10,10 @@ ghost use Rattle.sc_node_table.specs.Node.{is_before, replica_of, with_new, with
 use crate::absent::absent;
 use crate::node::NodeCore;
 use sc_base::{Draw, Dup, OutOfMemory, Sequence};
-use sc_cmd::{Base, MemberSets};
 use sc_mail::{Mail, MailBody};
+use sc_node_replica::{LAST_SLOT, Replica};
 use sc_node_table::OPEN_SLOTS;
-use sc_replica::{LAST_SLOT, Replica};
+use sc_words::{Base, MemberSets};
 use std::alloc::Global;
 
 /// Returns whether a name is ordered before another.

@@ -1,11 +1,11 @@
 //! The child groups that a step creates.
 ghost use Rattle.std.specs.Prelude.{◌≡◌, ◌++◌, [], None, OnOk, IsOk};
-ghost use Rattle.sc_machine_table.specs.Children.{child_by};
+ghost use Rattle.sc_group_table.specs.machine.Children.{child_by};
 ghost use Rattle.sc_node_table.specs.Execute.{child_at, next_child};
 
 use sc_base::{OutOfMemory, Sequence};
-use sc_cmd::{Base, Command};
-use sc_replica::Replica;
+use sc_node_replica::Replica;
+use sc_words::{Base, Command};
 
 /// Appends a child group, if there is one and the node is one of its members.
 #[tactic(auto, using(crate::proofs::Making::making))]

@@ -9,10 +9,10 @@ ghost use Rattle.sc_node.specs.Idle.{readies_none, is_learnt};
 
 use crate::execute::execute;
 use sc_base::{Ballot, Members, OutOfMemory, Sequence};
-use sc_cmd::{Base, Command};
 use sc_mail::Mail;
+use sc_node_replica::{LAST_SLOT, Replica};
 use sc_paxos::Counted;
-use sc_replica::{LAST_SLOT, Replica};
+use sc_words::{Base, Command};
 
 /// Makes a command ready, and executes it where its slot is the next one.
 #[tactic(auto, unfolding(sc_node_table::specs::Voting::readied), using(crate::proofs::Making::making))]

@@ -7,10 +7,10 @@ ghost use Rattle.sc_node_table.specs.Execute.{next_ready, executed_one, executed
 use crate::births::bear;
 use crate::speech::announce;
 use sc_base::{OutOfMemory, Sequence};
-use sc_cmd::{Base, Command};
 use sc_mail::Mail;
-use sc_replica::Replica;
-use sc_replica_transactions::before_of;
+use sc_node_parts::before_of;
+use sc_node_replica::Replica;
+use sc_words::{Base, Command};
 
 /// Executes the command of the next slot, without the child and the ready commands behind it.
 #[tactic(auto, unfolding(sc_node_table::specs::Execute::executed_one))]

@@ -1,7 +1,7 @@
 //! The node.
 ghost use Rattle.std.specs.Prelude.{◌≡◌, ◌<◌, [], length, true, false, None, IfOk, OnOk, IsOk};
 ghost use Rattle.std.specs.List.{list_all};
-ghost use Rattle.sc_cmd.specs.declared.cores.Base.{Base};
+ghost use Rattle.sc_words.specs.declared.commands.cores.Base.{Base};
 ghost use Rattle.sc_node_table.specs.Slots.{slots_ahead};
 ghost use Rattle.sc_node_table.specs.Replica.{ReplicaState, name_of};
 ghost use Rattle.sc_node_table.specs.Node.{is_before, are_in_order, born_replicas, born_node, replica_of, taken_by, routed, on_mail, with_children, on_tick, node_table, may_come};
@@ -15,9 +15,9 @@ use crate::rows::take_mail;
 use crate::ticks::on_tick;
 use sc_actor::{Actor, Input};
 use sc_base::{Draw, Draws, Dup, OutOfMemory, Sequence};
-use sc_cmd::{Base, OrderLine};
 use sc_mail::{Mail, MailBody};
-use sc_replica::Replica;
+use sc_node_replica::Replica;
+use sc_words::{Base, OrderLine};
 use std::alloc::Global;
 use std::marker::Model;
 
@@ -35,9 +35,9 @@ pub struct NodeCore {
 impl Model for NodeCore {
     ghost use Rattle.std.specs.FinMap as map;
     ghost use Rattle.std.specs.Coded.{Coded, codes, coded_ℕ, coded_list};
-    ghost use Rattle.sc_ideal.specs.IdealStore.{Contents};
-    ghost use Rattle.sc_ideal.specs.Clients.{ClientTable};
-    ghost use Rattle.sc_machine_table.specs.Group.{Group};
+    ghost use Rattle.sc_words.specs.ideal.IdealStore.{Contents};
+    ghost use Rattle.sc_words.specs.ideal.Clients.{ClientTable};
+    ghost use Rattle.sc_group_table.specs.machine.Group.{Group};
     ghost use Rattle.sc_node_table.specs.Replica.{ReplicaState};
     ghost use Rattle.sc_node_table.specs.Node.{NodeState};
 

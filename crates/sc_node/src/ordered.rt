@@ -2,16 +2,16 @@
 ghost use Rattle.std.specs.Prelude.{◌≡◌, [], None, IfOk};
 ghost use Rattle.sc_node_table.specs.Mails.{result_sent};
 ghost use Rattle.sc_node_table.specs.Node.{group_of_order, on_order};
-ghost use Rattle.sc_cmd.specs.declared.orders.OrderResult.TheVariants.{Refused};
-ghost use Rattle.sc_cmd.specs.declared.orders.OrderRefusal.TheVariants.{NotLeader};
+ghost use Rattle.sc_words.specs.declared.commands.orders.OrderResult.TheVariants.{Refused};
+ghost use Rattle.sc_words.specs.declared.commands.orders.OrderRefusal.TheVariants.{NotLeader};
 ghost use Rattle.sc_node.specs.Places.{StandsAt};
 
 use crate::absent::alone;
 use crate::node::NodeCore;
 use crate::orders::on_order;
 use sc_base::{Draw, OutOfMemory, Sequence};
-use sc_cmd::{Order, OrderLine, OrderRefusal, OrderResult};
 use sc_mail::{DESK, Mail, MailBody};
+use sc_words::{Order, OrderLine, OrderRefusal, OrderResult};
 use std::alloc::Global;
 
 /// Returns the group of an order.

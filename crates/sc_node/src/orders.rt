@@ -1,19 +1,19 @@
 //! Orders: which are taken, and the names that they take of the node.
 ghost use Rattle.std.specs.Prelude.{◌≡◌, ◌≤◌, ◌-◌, ◌^◌, ◌||◌, ◌&&◌, not, true, false, OnOk, IsOk, Some, None, is_some, if◌then◌else◌};
 ghost use Rattle.sc_base.specs.Drawing.{next_name, drawn_on};
-ghost use Rattle.sc_txn.specs.Checked.{is_checked};
-ghost use Rattle.sc_machine_table.specs.Orders.{refusal_of};
+ghost use Rattle.sc_group_parts.specs.transactions.Checked.{is_checked};
+ghost use Rattle.sc_group_table.specs.machine.Orders.{refusal_of};
 ghost use Rattle.sc_node_table.specs.Replica.{settled};
 ghost use Rattle.sc_node_table.specs.Queues.{with_order_queued};
 ghost use Rattle.sc_node_table.specs.Policy.{with_line};
 ghost use Rattle.sc_node_table.specs.Ordering.{ordered_command, takes_name, has_drawn_all, named_refused, first_of_both, untaken, queued_or_refused, ordered_row, names_after};
 
 use sc_base::{Draw, Draws, OutOfMemory, Sequence};
-use sc_cmd::{Body, Command, Core, Order, OrderLine, OrderRefusal, OrderResult};
+use sc_group_parts::check;
 use sc_mail::Mail;
-use sc_replica::Replica;
-use sc_replica_parts::send_result;
-use sc_txn::check;
+use sc_node_parts::send_result;
+use sc_node_replica::Replica;
+use sc_words::{Body, Command, Core, Order, OrderLine, OrderRefusal, OrderResult};
 
 /// Returns why the command of an order is refused. None where it is not.
 fn refusal_of(core: &Core, command: &Command) -> Option<OrderRefusal>

@@ -5,7 +5,7 @@ ghost use Rattle.sc_node.specs.Places.{place_from, IsPlaceOf};
 
 use crate::node::NodeCore;
 use sc_base::{Draw, same_draw};
-use sc_replica::Replica;
+use sc_node_replica::Replica;
 
 /// Returns the first place with a replica of a group, if there is one.
 fn first_at(replicas: &[Replica], group: Draw) -> Option<usize>

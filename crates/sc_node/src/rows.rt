@@ -12,10 +12,10 @@ use crate::transactions::{
     on_elsewhere, on_offer, on_outcome, on_party_vote, on_watch, on_watched,
 };
 use sc_base::{Draws, MOST_NODES, OutOfMemory, Sequence};
-use sc_cmd::Base;
 use sc_mail::{Mail, MailBody};
+use sc_node_replica::Replica;
 use sc_node_table::{Made, ReplicaInput};
-use sc_replica::Replica;
+use sc_words::Base;
 
 /// Handles a mail of a transaction. Mails of no row change nothing.
 #[tactic(auto, unfolding(sc_node_table::specs::Rows::mailed))]

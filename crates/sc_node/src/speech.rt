@@ -3,14 +3,14 @@
 ghost use Rattle.std.specs.Prelude.{◌≡◌, [], true, false, OnOk, IsOk};
 ghost use Rattle.sc_node_table.specs.Execute.{order_result, effect_reported, announced};
 ghost use Rattle.sc_node_table.specs.Spoken.{spoken};
-ghost use Rattle.sc_replica_parts.specs.Requests.{is_request};
+ghost use Rattle.sc_node_parts.specs.replica.Requests.{is_request};
 
 use sc_base::{OutOfMemory, Sequence};
-use sc_cmd::{Command, Effect, OrderResult};
 use sc_mail::Mail;
+use sc_node_parts::transactions;
+use sc_node_replica::Replica;
 use sc_node_table::Before;
-use sc_replica::Replica;
-use sc_replica_transactions as transactions;
+use sc_words::{Command, Effect, OrderResult};
 
 /// Returns whether a command is a request.
 fn is_request(command: &Command) -> bool

@@ -3,21 +3,20 @@ ghost use Rattle.std.specs.Prelude.{◌≡◌, [], true, false, nat_le, not, ◌
 ghost use Rattle.sc_node_table.specs.Reminders.{one_tick_more, patience, impatient, waited_in, reminded};
 ghost use Rattle.sc_node_table.specs.Policy.{wished_line, names_with, wishing, names_after_tick};
 ghost use Rattle.sc_base.specs.Roster.{is_member};
-ghost use Rattle.sc_cmd.specs.declared.commands.Command.TheVariants.{GiveUp};
+ghost use Rattle.sc_words.specs.declared.commands.commands.Command.TheVariants.{GiveUp};
 ghost use Rattle.sc_node_table.specs.Acts.{has_act};
 ghost use Rattle.sc_node_table.specs.Election.{elected};
 ghost use Rattle.sc_node_table.specs.Replica.{members, settled};
-ghost use Rattle.sc_replica_transactions.specs.Quiet.{coordinates};
+ghost use Rattle.sc_node_parts.specs.transactions.Quiet.{coordinates};
 ghost use Rattle.sc_node.specs.Idle.{IsIdleTick};
 ghost use Rattle.sc_node_table.specs.Rows.{tick_row};
 
 use crate::wishes::wish;
 use sc_base::{Draw, Draws, OutOfMemory, Sequence};
-use sc_cmd::{Command, Lock};
 use sc_mail::Mail;
-use sc_replica::Replica;
-use sc_replica_transactions as transactions;
-use sc_replica_transactions::{has_waited, one_tick_more};
+use sc_node_parts::{has_waited, one_tick_more, transactions};
+use sc_node_replica::Replica;
+use sc_words::{Command, Lock};
 
 /// Queues the give-up of a transaction whose coordinator has waited long enough.
 fn lose_patience(replica: &mut Replica, tx: Draw) -> Result<(), OutOfMemory>

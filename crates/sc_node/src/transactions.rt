@@ -1,19 +1,19 @@
 //! The rows of TxPrepare, TxVote, TxOutcome, TxElsewhere, TxWatch and TxWatched (Scatter, SOSP
 //! 2011, multi-group operations).
 ghost use Rattle.std.specs.Prelude.{◌≡◌, [], ◌&&◌, ◌||◌, false, OnOk, IsOk, Some, None};
-ghost use Rattle.sc_cmd.specs.declared.votes.Past.TheVariants.{Yes, Ended};
+ghost use Rattle.sc_words.specs.declared.commands.votes.Past.TheVariants.{Yes, Ended};
 ghost use Rattle.sc_node_table.specs.Transactions.{offered_by, offer_row, watched_by, watch_row, vote_queued, vote_row, watch_queued, watch_met, watched_row, elsewhere_row, outcome_row, standing_vote, awaits_vote, awaits_watch, is_bound, noted_outcome};
 ghost use Rattle.sc_node.specs.Idle.{asks_outcome, watcher_asks};
 
 use sc_base::{Boxed, Draw, Dup, OutOfMemory, Sequence};
-use sc_cmd::{Command, Offer, Outcome, Past, Vote, Watch};
 use sc_mail::Mail;
-use sc_replica::Replica;
-use sc_replica_choices::record_of;
-use sc_replica_transactions::{
-    ask_next, awaits_vote, awaits_watch, is_bound, noted_outcome, pass_on, standing_vote,
-    send_outcome, report_vote, report_watch,
+use sc_node_choices::record_of;
+use sc_node_parts::{
+    ask_next, awaits_vote, awaits_watch, is_bound, noted_outcome, pass_on, report_vote,
+    report_watch, send_outcome, standing_vote,
 };
+use sc_node_replica::Replica;
+use sc_words::{Command, Offer, Outcome, Past, Vote, Watch};
 
 /// Queues the vote on an offer where the replica runs, and names the leader that it knows
 /// otherwise. No vote on it stands yet.

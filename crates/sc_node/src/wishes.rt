@@ -4,9 +4,9 @@ ghost use Rattle.sc_node_table.specs.Policy.{is_at_rest, wished_line, with_line,
 
 use crate::orders::put_unreported;
 use sc_base::{Draws, OutOfMemory};
-use sc_cmd::OrderLine;
-use sc_policy::wished_order;
-use sc_replica::Replica;
+use sc_group_table::wished_order;
+use sc_node_replica::Replica;
+use sc_words::OrderLine;
 
 /// Returns what a policy, if it is on, orders of a group that is at rest. Its orders have the
 /// number 0.

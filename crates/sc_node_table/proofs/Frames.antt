@@ -1,10 +1,10 @@
 -- What the pump leaves as it is: all but what is in flight and the queues. So a replica that is settled stays settled, and to test it once is to test it before each slot.
 use Rattle.std.proofs.Common.{◌≡◌, ℕ, ◌+◌, Bool, true, false, List, [], ◌∷◌, Option, Some, None, is_some, refl, ◌∙◌, ap, if◌then◌else◌}
 use Rattle.std.specs.List.{list_any}
-use Rattle.sc_cmd.specs.declared.commands.Command.{Command}
-use Rattle.sc_paxos_words.specs.declared.answers.Must.{Must}
-use Rattle.sc_paxos_words.specs.declared.answers.Must.TheVariants.{Value, Gap, Free}
-use Rattle.sc_paxos_words.specs.Definitions.{must}
+use Rattle.sc_words.specs.declared.commands.commands.Command.{Command}
+use Rattle.sc_words.specs.declared.paxos.answers.Must.{Must}
+use Rattle.sc_words.specs.declared.paxos.answers.Must.TheVariants.{Value, Gap, Free}
+use Rattle.sc_words.specs.paxos.Definitions.{must}
 use Rattle.sc_node_table.specs.Definitions.{ReplicaState, Place, next, settled, may_offer, taken_at, under_way, is_idle, Found, is_act, from_backlog, from_acts, from_queues, found_by, found_for, offered, pumped_from, StaysSettled}
 
 -- a replica but for what is in flight and the queues

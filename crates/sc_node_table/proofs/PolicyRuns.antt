@@ -1,10 +1,10 @@
 -- Small runs of a policy, computed: what a node whose policy is on orders at a tick, and when it orders nothing.
 use Rattle.std.proofs.Common.{◌≡◌, ℕ, ◌+◌, ◌^◌, ◌-◌, Bool, true, false, List, [], ◌∷◌, refl}
 use Rattle.sc_base.specs.Definitions.{Drawer}
-use Rattle.sc_cmd.specs.declared.bodies.Body.TheVariants.{Merge}
-use Rattle.sc_cmd.specs.declared.commands.Command.TheVariants.{Split, Begin}
-use Rattle.sc_cmd.specs.declared.cores.Base.{Base}
-use Rattle.sc_cmd.specs.declared.cores.Lock.TheVariants.{Free, Watching}
+use Rattle.sc_words.specs.declared.commands.bodies.Body.TheVariants.{Merge}
+use Rattle.sc_words.specs.declared.commands.commands.Command.TheVariants.{Split, Begin}
+use Rattle.sc_words.specs.declared.commands.cores.Base.{Base}
+use Rattle.sc_words.specs.declared.commands.cores.Lock.TheVariants.{Free, Watching}
 use Rattle.sc_mail.specs.declared.bodies.MailBody.TheVariants.{Accept}
 use Rattle.sc_mail.specs.declared.bodies.Mail.{Mail}
 use Rattle.sc_node_table.specs.Definitions.{sent_all, sent_others, answered, next_queued, from_backlog, from_queues, found_for, offered, pumped_from, pumped, reminded, wishing, asked_again, last_entry_sent, tick_row, NodeState, born_node, ticked, names_after_ticks, on_tick}

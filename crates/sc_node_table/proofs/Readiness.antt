@@ -1,14 +1,14 @@
 -- What is ready grows shorter with each execution.
 use Rattle.std.proofs.Common.{◌≡◌, ℕ, ◌<◌, ◌≤◌, ◌==◌, Bool, true, false, List, [], ◌∷◌, length, Option, Some, None, arith, refl, ap, sym, ◌∙◌, if◌then◌else◌, ◌&&◌, ◌||◌, ◌^◌, ◌-◌, filter, not}
-use Rattle.sc_cmd.specs.declared.links.Route.{Route}
-use Rattle.sc_cmd.specs.declared.commands.Command.{Command}
-use Rattle.sc_cmd.specs.declared.commands.Command.TheVariants.{Noop, Call, Join, Leave, Split, Begin, Prepared, RecordVote, GiveUp, Finish, Watched, RecordWatch}
-use Rattle.sc_cmd.specs.declared.effects.Effect.{Effect}
-use Rattle.sc_cmd.specs.declared.orders.OrderResult.{OrderResult}
+use Rattle.sc_words.specs.declared.commands.links.Route.{Route}
+use Rattle.sc_words.specs.declared.commands.commands.Command.{Command}
+use Rattle.sc_words.specs.declared.commands.commands.Command.TheVariants.{Noop, Call, Join, Leave, Split, Begin, Prepared, RecordVote, GiveUp, Finish, Watched, RecordWatch}
+use Rattle.sc_words.specs.declared.commands.effects.Effect.{Effect}
+use Rattle.sc_words.specs.declared.commands.orders.OrderResult.{OrderResult}
 use Rattle.sc_mail.specs.declared.bodies.AnswerBody.{AnswerBody}
 use Rattle.sc_mail.specs.declared.bodies.Mail.{Mail}
 use Rattle.sc_base.specs.Definitions.{is_member, least_of}
-use Rattle.sc_machine_table.specs.Definitions.{applied}
+use Rattle.sc_group_table.specs.machine.Definitions.{applied}
 use Rattle.sc_node_table.specs.Definitions.{at_slot, without_slot, ReplicaState, Place, childless, next, members, flying, forgotten, install_to, asked_to_promise, welcomed_all, put_back, same_command, elected, ended, before_of, spoken, entered, answer_of, announced, answered_or_put_back, effect_reported, order_result, learnt_to, welcomed, slot_lost, landed, left, left_gone, is_among, looked, looked_for, executed_one, next_child, has_room, next_ready, ending, executed_ready}
 use Rattle.sc_node_table.specs.declared.Before.{Before}
 

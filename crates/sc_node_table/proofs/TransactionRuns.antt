@@ -2,32 +2,32 @@
 use Rattle.std.proofs.Common.{◌≡◌, ℕ, ◌^◌, ◌-◌, true, false, List, [], ◌∷◌, Some, None, refl}
 use Rattle.sc_base.specs.declared.names.Draw.{Draw}
 use Rattle.sc_base.specs.Definitions.{Drawer}
-use Rattle.sc_cmd.specs.declared.bodies.Body.TheVariants.{Merge, Split as Divide}
-use Rattle.sc_cmd.specs.declared.bodies.Offer.{Offer}
-use Rattle.sc_cmd.specs.declared.bodies.Watch.{Watch}
-use Rattle.sc_cmd.specs.declared.commands.Command.TheVariants.{Split, Begin, Prepared, RecordVote, GiveUp, Finish, RecordWatch}
-use Rattle.sc_cmd.specs.declared.cores.Base.{Base}
-use Rattle.sc_cmd.specs.declared.cores.Core.{Core}
-use Rattle.sc_cmd.specs.declared.cores.Lock.{Lock}
-use Rattle.sc_cmd.specs.declared.cores.Lock.TheVariants.{Free, Coordinating, Promised, Watching}
-use Rattle.sc_cmd.specs.declared.effects.Effect.TheVariants.{Changed, Decided}
-use Rattle.sc_cmd.specs.declared.links.Link.{Link}
-use Rattle.sc_cmd.specs.declared.links.Route.{Route}
-use Rattle.sc_cmd.specs.declared.orders.Order.{Order}
-use Rattle.sc_cmd.specs.declared.orders.Order.TheVariants as An
-use Rattle.sc_cmd.specs.declared.orders.OrderLine.{OrderLine}
-use Rattle.sc_cmd.specs.declared.orders.OrderRefusal.TheVariants.{NotLeader, LastMember}
-use Rattle.sc_cmd.specs.declared.orders.OrderResult.TheVariants.{Committed, Aborted, Refused}
-use Rattle.sc_cmd.specs.declared.votes.Frozen.{Frozen}
-use Rattle.sc_cmd.specs.declared.votes.Heard.{Heard}
-use Rattle.sc_cmd.specs.declared.votes.No.TheVariants as Why
-use Rattle.sc_cmd.specs.declared.votes.Outcome.{Outcome}
-use Rattle.sc_cmd.specs.declared.votes.Outcome.TheVariants.{Abort, Merged}
-use Rattle.sc_cmd.specs.declared.votes.Past.{Past}
-use Rattle.sc_cmd.specs.declared.votes.Past.TheVariants as Cast
-use Rattle.sc_cmd.specs.declared.votes.Vote.TheVariants as Says
+use Rattle.sc_words.specs.declared.commands.bodies.Body.TheVariants.{Merge, Split as Divide}
+use Rattle.sc_words.specs.declared.commands.bodies.Offer.{Offer}
+use Rattle.sc_words.specs.declared.commands.bodies.Watch.{Watch}
+use Rattle.sc_words.specs.declared.commands.commands.Command.TheVariants.{Split, Begin, Prepared, RecordVote, GiveUp, Finish, RecordWatch}
+use Rattle.sc_words.specs.declared.commands.cores.Base.{Base}
+use Rattle.sc_words.specs.declared.commands.cores.Core.{Core}
+use Rattle.sc_words.specs.declared.commands.cores.Lock.{Lock}
+use Rattle.sc_words.specs.declared.commands.cores.Lock.TheVariants.{Free, Coordinating, Promised, Watching}
+use Rattle.sc_words.specs.declared.commands.effects.Effect.TheVariants.{Changed, Decided}
+use Rattle.sc_words.specs.declared.commands.links.Link.{Link}
+use Rattle.sc_words.specs.declared.commands.links.Route.{Route}
+use Rattle.sc_words.specs.declared.commands.orders.Order.{Order}
+use Rattle.sc_words.specs.declared.commands.orders.Order.TheVariants as An
+use Rattle.sc_words.specs.declared.commands.orders.OrderLine.{OrderLine}
+use Rattle.sc_words.specs.declared.commands.orders.OrderRefusal.TheVariants.{NotLeader, LastMember}
+use Rattle.sc_words.specs.declared.commands.orders.OrderResult.TheVariants.{Committed, Aborted, Refused}
+use Rattle.sc_words.specs.declared.commands.votes.Frozen.{Frozen}
+use Rattle.sc_words.specs.declared.commands.votes.Heard.{Heard}
+use Rattle.sc_words.specs.declared.commands.votes.No.TheVariants as Why
+use Rattle.sc_words.specs.declared.commands.votes.Outcome.{Outcome}
+use Rattle.sc_words.specs.declared.commands.votes.Outcome.TheVariants.{Abort, Merged}
+use Rattle.sc_words.specs.declared.commands.votes.Past.{Past}
+use Rattle.sc_words.specs.declared.commands.votes.Past.TheVariants as Cast
+use Rattle.sc_words.specs.declared.commands.votes.Vote.TheVariants as Says
 use Rattle.sc_mail.specs.declared.bodies.MailBody.TheVariants.{Accept, TxPrepare, TxVote, TxOutcome, TxElsewhere, TxWatch, TxWatched, Told}
-use Rattle.sc_machine_table.specs.Definitions.{group_of, frozen_of}
+use Rattle.sc_group_table.specs.machine.Definitions.{group_of, frozen_of}
 use Rattle.sc_node_table.specs.Definitions.{Place, born_replica, sent_all, answered, order_reported, next_queued, from_backlog, from_queues, found_for, offered, pumped_from, pumped, act_queued, offer_row, vote_row, watched_row, elsewhere_row, outcome_row, reminded, ordered_row, names_after, before_of, begun_reported, went_on, spoken_mails, spoken}
 use Rattle.sc_node_table.proofs.Runs.{g, b, mail}
 

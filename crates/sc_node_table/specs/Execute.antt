@@ -1,19 +1,19 @@
 -- Execute: what a replica does with the command of its next slot, which it has counted as leader or has learnt (Paxos Made Simple, sections 2.3 and 3).
 use Rattle.std.specs.Prelude.{ℕ, ◌+◌, ◌==◌, ◌&&◌, ◌||◌, not, filter, nat_lt, Bool, true, false, List, [], ◌∷◌, ◌++◌, length, if◌then◌else◌, Option, Some, None}
-use Rattle.sc_cmd.specs.declared.links.Route.{Route}
-use Rattle.sc_cmd.specs.declared.commands.Command.{Command}
-use Rattle.sc_cmd.specs.declared.commands.Command.TheVariants.{Noop, Call, Join, Leave, Split, Begin, Prepared, RecordVote, GiveUp, Finish, Watched, RecordWatch}
-use Rattle.sc_cmd.specs.declared.cores.Base.{Base}
-use Rattle.sc_cmd.specs.declared.effects.Effect.{Effect}
-use Rattle.sc_cmd.specs.declared.effects.Effect.TheVariants as Was
+use Rattle.sc_words.specs.declared.commands.links.Route.{Route}
+use Rattle.sc_words.specs.declared.commands.commands.Command.{Command}
+use Rattle.sc_words.specs.declared.commands.commands.Command.TheVariants.{Noop, Call, Join, Leave, Split, Begin, Prepared, RecordVote, GiveUp, Finish, Watched, RecordWatch}
+use Rattle.sc_words.specs.declared.commands.cores.Base.{Base}
+use Rattle.sc_words.specs.declared.commands.effects.Effect.{Effect}
+use Rattle.sc_words.specs.declared.commands.effects.Effect.TheVariants as Was
 use Rattle.sc_mail.specs.declared.bodies.AnswerBody.{AnswerBody}
 use Rattle.sc_mail.specs.declared.bodies.AnswerBody.TheVariants as Says
 use Rattle.sc_mail.specs.declared.bodies.MailBody.TheVariants.{Learn}
-use Rattle.sc_cmd.specs.declared.orders.OrderResult.{OrderResult}
-use Rattle.sc_cmd.specs.Definitions.{result_of}
+use Rattle.sc_words.specs.declared.commands.orders.OrderResult.{OrderResult}
+use Rattle.sc_words.specs.commands.Definitions.{result_of}
 use Rattle.sc_base.specs.Definitions.{is_member, least_of}
-use Rattle.sc_paxos_words.specs.Definitions.{LogState, learnt, next_of, without_flight_at}
-use Rattle.sc_machine_table.specs.Definitions.{child_by, applied}
+use Rattle.sc_words.specs.paxos.Definitions.{LogState, learnt, next_of, without_flight_at}
+use Rattle.sc_group_table.specs.machine.Definitions.{child_by, applied}
 use Rattle.sc_node_table.specs.Slots.{rest_of, at_slot, without_slot}
 use Rattle.sc_node_table.specs.Replica.{ReplicaState, Place, Executed, childless, name_of, next, members, flying, last_slot, forgotten, waits_in}
 use Rattle.sc_node_table.specs.Mails.{answer_to, sent_others, order_number, order_reported}

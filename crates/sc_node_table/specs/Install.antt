@@ -1,10 +1,10 @@
 -- Install: the executed state is sent, and a replica that has executed less takes it over.
 use Rattle.std.specs.Prelude.{ℕ, ◌-◌, List, [], ◌∷◌, if◌then◌else◌}
 use Rattle.sc_base.specs.declared.names.Draw.{Draw}
-use Rattle.sc_cmd.specs.declared.cores.Base.{Base}
+use Rattle.sc_words.specs.declared.commands.cores.Base.{Base}
 use Rattle.sc_mail.specs.declared.bodies.MailBody.TheVariants.{Prepare, Install}
-use Rattle.sc_paxos_words.specs.Definitions.{installed}
-use Rattle.sc_machine_table.specs.Definitions.{group_of, base_of}
+use Rattle.sc_words.specs.paxos.Definitions.{installed}
+use Rattle.sc_group_table.specs.machine.Definitions.{group_of, base_of}
 use Rattle.sc_node_table.specs.Replica.{ReplicaState, Place, name_of, next, forgotten, waits_in}
 use Rattle.sc_node_table.specs.Mails.{sent}
 

@@ -5,12 +5,12 @@ use Rattle.sc_base.specs.Definitions.{most_nodes, Drawer, same_draw, is_member}
 use Rattle.sc_base.specs.declared.names.Draw.{Draw}
 use Rattle.sc_actor.specs.declared.rows.Input.{Input}
 use Rattle.sc_actor.specs.declared.rows.Input.TheVariants.{Got, Tick, Go, Told}
-use Rattle.sc_cmd.specs.declared.cores.Base.{Base}
-use Rattle.sc_cmd.specs.declared.orders.Order.{Order}
-use Rattle.sc_cmd.specs.declared.orders.Order.TheVariants as An
-use Rattle.sc_cmd.specs.declared.orders.OrderLine.{OrderLine}
-use Rattle.sc_cmd.specs.declared.orders.OrderRefusal.TheVariants.{NotLeader}
-use Rattle.sc_cmd.specs.declared.orders.OrderResult.TheVariants.{Refused}
+use Rattle.sc_words.specs.declared.commands.cores.Base.{Base}
+use Rattle.sc_words.specs.declared.commands.orders.Order.{Order}
+use Rattle.sc_words.specs.declared.commands.orders.Order.TheVariants as An
+use Rattle.sc_words.specs.declared.commands.orders.OrderLine.{OrderLine}
+use Rattle.sc_words.specs.declared.commands.orders.OrderRefusal.TheVariants.{NotLeader}
+use Rattle.sc_words.specs.declared.commands.orders.OrderResult.TheVariants.{Refused}
 use Rattle.sc_mail.specs.declared.bodies.AnswerBody.TheVariants as Says
 use Rattle.sc_mail.specs.declared.bodies.MailBody.{MailBody}
 use Rattle.sc_mail.specs.declared.bodies.MailBody.TheVariants.{Request, Answer, Prepare, Promise, Accept, Accepted, Nack, Learn, Ask, Install, TxPrepare, TxVote, TxOutcome, TxElsewhere, TxWatch, TxWatched, Told as ToldMail}

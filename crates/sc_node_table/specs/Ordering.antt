@@ -2,16 +2,16 @@
 use Rattle.std.specs.Prelude.{ℕ, Bool, true, false, ◌-◌, ◌^◌, ◌==◌, ◌&&◌, ◌||◌, not, if◌then◌else◌, Option, Some, None, is_some, is_none}
 use Rattle.sc_base.specs.Definitions.{Drawer, next_name, drawn_on}
 use Rattle.sc_base.specs.declared.names.Draw.{Draw}
-use Rattle.sc_cmd.specs.declared.bodies.Body.TheVariants as To
-use Rattle.sc_cmd.specs.declared.commands.Command.{Command}
-use Rattle.sc_cmd.specs.declared.commands.Command.TheVariants.{Join, Leave, Split, Begin}
-use Rattle.sc_cmd.specs.declared.orders.Order.{Order}
-use Rattle.sc_cmd.specs.declared.orders.Order.TheVariants as An
-use Rattle.sc_cmd.specs.declared.orders.OrderLine.{OrderLine}
-use Rattle.sc_cmd.specs.declared.orders.OrderRefusal.{OrderRefusal}
-use Rattle.sc_cmd.specs.declared.orders.OrderRefusal.TheVariants.{NotLeader}
-use Rattle.sc_cmd.specs.declared.orders.OrderResult.TheVariants.{Refused}
-use Rattle.sc_machine_table.specs.Definitions.{refusal_of}
+use Rattle.sc_words.specs.declared.commands.bodies.Body.TheVariants as To
+use Rattle.sc_words.specs.declared.commands.commands.Command.{Command}
+use Rattle.sc_words.specs.declared.commands.commands.Command.TheVariants.{Join, Leave, Split, Begin}
+use Rattle.sc_words.specs.declared.commands.orders.Order.{Order}
+use Rattle.sc_words.specs.declared.commands.orders.Order.TheVariants as An
+use Rattle.sc_words.specs.declared.commands.orders.OrderLine.{OrderLine}
+use Rattle.sc_words.specs.declared.commands.orders.OrderRefusal.{OrderRefusal}
+use Rattle.sc_words.specs.declared.commands.orders.OrderRefusal.TheVariants.{NotLeader}
+use Rattle.sc_words.specs.declared.commands.orders.OrderResult.TheVariants.{Refused}
+use Rattle.sc_group_table.specs.machine.Definitions.{refusal_of}
 use Rattle.sc_node_table.specs.Replica.{ReplicaState, Place, settled}
 use Rattle.sc_node_table.specs.Mails.{result_sent}
 use Rattle.sc_node_table.specs.Queues.{with_order_queued}

@@ -2,31 +2,31 @@
 use Rattle.std.specs.Prelude.{ℕ, Bool, true, false, List, if◌then◌else◌, Option, Some, None}
 use Rattle.std.specs.Option.{option_map}
 use Rattle.sc_base.specs.declared.names.Draw.{Draw}
-use Rattle.sc_cmd.specs.declared.bodies.Body.{Body}
-use Rattle.sc_cmd.specs.declared.bodies.Body.TheVariants as At
-use Rattle.sc_cmd.specs.declared.bodies.Offer.{Offer}
-use Rattle.sc_cmd.specs.declared.bodies.Watch.{Watch}
-use Rattle.sc_cmd.specs.declared.commands.Command.{Command}
-use Rattle.sc_cmd.specs.declared.commands.Command.TheVariants.{Noop, Call, Join, Leave, Split, Begin, Prepared, RecordVote, GiveUp, Finish, Watched, RecordWatch}
-use Rattle.sc_cmd.specs.declared.cores.Core.{Core}
-use Rattle.sc_cmd.specs.declared.cores.Lock.{Lock}
-use Rattle.sc_cmd.specs.declared.cores.Lock.TheVariants.{Free, Coordinating, Promised, Watching}
-use Rattle.sc_cmd.specs.declared.effects.Effect.{Effect}
-use Rattle.sc_cmd.specs.Definitions.{result_of, refused_result, decided_in, cast_in, is_changed, is_alone}
-use Rattle.sc_cmd.specs.declared.links.Link.{Link}
-use Rattle.sc_cmd.specs.declared.orders.OrderResult.{OrderResult}
-use Rattle.sc_cmd.specs.declared.orders.OrderResult.TheVariants as Tells
-use Rattle.sc_cmd.specs.declared.votes.Heard.{Heard}
-use Rattle.sc_cmd.specs.declared.votes.Outcome.{Outcome}
-use Rattle.sc_cmd.specs.declared.votes.Outcome.TheVariants as Is
-use Rattle.sc_cmd.specs.declared.votes.Past.{Past}
-use Rattle.sc_cmd.specs.declared.votes.Past.TheVariants as Cast
-use Rattle.sc_cmd.specs.declared.votes.Vote.{Vote}
-use Rattle.sc_cmd.specs.declared.votes.Vote.TheVariants as Says
+use Rattle.sc_words.specs.declared.commands.bodies.Body.{Body}
+use Rattle.sc_words.specs.declared.commands.bodies.Body.TheVariants as At
+use Rattle.sc_words.specs.declared.commands.bodies.Offer.{Offer}
+use Rattle.sc_words.specs.declared.commands.bodies.Watch.{Watch}
+use Rattle.sc_words.specs.declared.commands.commands.Command.{Command}
+use Rattle.sc_words.specs.declared.commands.commands.Command.TheVariants.{Noop, Call, Join, Leave, Split, Begin, Prepared, RecordVote, GiveUp, Finish, Watched, RecordWatch}
+use Rattle.sc_words.specs.declared.commands.cores.Core.{Core}
+use Rattle.sc_words.specs.declared.commands.cores.Lock.{Lock}
+use Rattle.sc_words.specs.declared.commands.cores.Lock.TheVariants.{Free, Coordinating, Promised, Watching}
+use Rattle.sc_words.specs.declared.commands.effects.Effect.{Effect}
+use Rattle.sc_words.specs.commands.Definitions.{result_of, refused_result, decided_in, cast_in, is_changed, is_alone}
+use Rattle.sc_words.specs.declared.commands.links.Link.{Link}
+use Rattle.sc_words.specs.declared.commands.orders.OrderResult.{OrderResult}
+use Rattle.sc_words.specs.declared.commands.orders.OrderResult.TheVariants as Tells
+use Rattle.sc_words.specs.declared.commands.votes.Heard.{Heard}
+use Rattle.sc_words.specs.declared.commands.votes.Outcome.{Outcome}
+use Rattle.sc_words.specs.declared.commands.votes.Outcome.TheVariants as Is
+use Rattle.sc_words.specs.declared.commands.votes.Past.{Past}
+use Rattle.sc_words.specs.declared.commands.votes.Past.TheVariants as Cast
+use Rattle.sc_words.specs.declared.commands.votes.Vote.{Vote}
+use Rattle.sc_words.specs.declared.commands.votes.Vote.TheVariants as Says
 use Rattle.sc_mail.specs.declared.bodies.Mail.{Mail}
 use Rattle.sc_mail.specs.declared.bodies.MailBody.TheVariants.{TxPrepare, TxOutcome}
 use Rattle.sc_base.specs.Definitions.{least_of}
-use Rattle.sc_machine_table.specs.Definitions.{Group}
+use Rattle.sc_group_table.specs.machine.Definitions.{Group}
 use Rattle.sc_node_table.specs.Replica.{Place}
 use Rattle.sc_node_table.specs.Mails.{sent, sent_all, order_reported}
 use Rattle.sc_node_table.specs.declared.Before.{Before}

@@ -2,16 +2,16 @@
 use Rattle.std.specs.Prelude.{ℕ, ◌==◌, ◌&&◌, nat_le, Bool, true, List, if◌then◌else◌, Option, Some, None}
 use Rattle.sc_base.specs.declared.names.Ballot.{Ballot}
 use Rattle.sc_base.specs.Definitions.{same_ballot}
-use Rattle.sc_cmd.specs.declared.commands.Command.{Command}
+use Rattle.sc_words.specs.declared.commands.commands.Command.{Command}
 use Rattle.sc_mail.specs.declared.bodies.MailBody.TheVariants.{Promise, Accepted, Nack}
-use Rattle.sc_paxos_words.specs.declared.reports.Report.{Report}
-use Rattle.sc_paxos_words.specs.declared.answers.PrepareAnswer.{PrepareAnswer}
-use Rattle.sc_paxos_words.specs.declared.answers.PrepareAnswer.TheVariants as Prepared
-use Rattle.sc_paxos_words.specs.declared.answers.AcceptAnswer.{AcceptAnswer}
-use Rattle.sc_paxos_words.specs.declared.answers.AcceptAnswer.TheVariants as Asked
-use Rattle.sc_paxos_words.specs.declared.answers.Counted.{Counted}
-use Rattle.sc_paxos_words.specs.declared.answers.Counted.TheVariants.{Chosen, NotYet}
-use Rattle.sc_paxos_words.specs.Definitions.{prepared, accepted as accepted_by, AcceptorState, LeaderState, promise_counted, counted}
+use Rattle.sc_words.specs.declared.paxos.reports.Report.{Report}
+use Rattle.sc_words.specs.declared.paxos.answers.PrepareAnswer.{PrepareAnswer}
+use Rattle.sc_words.specs.declared.paxos.answers.PrepareAnswer.TheVariants as Prepared
+use Rattle.sc_words.specs.declared.paxos.answers.AcceptAnswer.{AcceptAnswer}
+use Rattle.sc_words.specs.declared.paxos.answers.AcceptAnswer.TheVariants as Asked
+use Rattle.sc_words.specs.declared.paxos.answers.Counted.{Counted}
+use Rattle.sc_words.specs.declared.paxos.answers.Counted.TheVariants.{Chosen, NotYet}
+use Rattle.sc_words.specs.paxos.Definitions.{prepared, accepted as accepted_by, AcceptorState, LeaderState, promise_counted, counted}
 use Rattle.sc_node_table.specs.Slots.{with_slot}
 use Rattle.sc_node_table.specs.Replica.{ReplicaState, Place, Executed, childless, name_of, next, set_at}
 use Rattle.sc_node_table.specs.Mails.{sent}

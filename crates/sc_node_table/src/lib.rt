@@ -7,8 +7,8 @@ ghost use Rattle.sc_node_table.specs.Pump.{StaysSettled};
 ghost use Rattle.sc_node_table.specs.Sameness.{TellsCommands};
 
 use sc_base::Sequence;
-use sc_cmd::{Base, Link, OrderLine};
 use sc_mail::Mail;
+use sc_words::{Base, Link, OrderLine};
 
 /// How many slots of a log are open at a time: the members of each slot are those of the state 4
 /// entries before it (Paxos Made Simple, section 3).

@@ -1,10 +1,10 @@
 -- At most one flight a slot.
 use Rattle.std.proofs.Common.{◌≡◌, ◌≢◌, ℕ, eqb, List, [], ◌∷◌, ◌++◌, Option, Some, None, inl, inr, refl, sym, ◌∙◌, ap, subst}
 use Rattle.std.proofs.lemmas.Bool.{cases_Bool, cond-true, cond-false, eqb-true, eqb-false, ne_eqb}
-use Rattle.sc_paxos_words.specs.declared.flights.Flight.{Flight}
+use Rattle.sc_words.specs.declared.paxos.flights.Flight.{Flight}
 use Rattle.sc_base.specs.Definitions.{Each}
-use Rattle.sc_paxos_words.specs.Definitions.{flight_at, without_flight, with_voters}
-use Rattle.sc_paxos_words.proofs.Lemmas.{Each-append}
+use Rattle.sc_words.specs.paxos.Definitions.{flight_at, without_flight, with_voters}
+use Rattle.sc_words.proofs.PaxosProofs.Lemmas.{Each-append}
 use Rattle.sc_paxos.specs.Definitions.{IsOneEach}
 use Rattle.sc_paxos.proofs.Places.{changed}
 

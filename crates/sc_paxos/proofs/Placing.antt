@@ -4,10 +4,10 @@ use Rattle.std.specs.List.{insert}
 use Rattle.std.proofs.lemmas.Bool.{cond-true, cond-false, lt-ltb, le-ltb, ltb-true, cases_order}
 use Rattle.std.proofs.lemmas.List.{set_at, take_at, drop_at, get_or_at, append-nil, length-append}
 use Rattle.std.proofs.lemmas.List.Sums.{length-filter}
-use Rattle.sc_paxos_words.specs.declared.reports.Report.{Report}
+use Rattle.sc_words.specs.declared.paxos.reports.Report.{Report}
 use Rattle.sc_base.specs.Definitions.{Each}
-use Rattle.sc_paxos_words.proofs.Lemmas.{Each-weaker, Each-passes}
-use Rattle.sc_paxos_words.specs.Definitions.{IsBySlot, with_report}
+use Rattle.sc_words.proofs.PaxosProofs.Lemmas.{Each-weaker, Each-passes}
+use Rattle.sc_words.specs.paxos.Definitions.{IsBySlot, with_report}
 
 abbrev low_of : {V : Type 0} → ℕ → List (Report V) → List (Report V)
 low_of slot xs = filter (λ r. ltb r.slot slot) xs

@@ -1,6 +1,6 @@
 -- What a leader has in flight.
 use Rattle.std.specs.Prelude.{◌≢◌, List, [], ◌∷◌}
-use Rattle.sc_paxos_words.specs.declared.flights.Flight.{Flight}
+use Rattle.sc_words.specs.declared.paxos.flights.Flight.{Flight}
 use Rattle.sc_base.specs.Definitions.{Each}
 
 -- there is at most one proposal in flight for each slot

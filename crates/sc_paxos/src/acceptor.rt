@@ -1,12 +1,12 @@
 //! The acceptor.
 ghost use Rattle.std.specs.Prelude.{◌≡◌, ◌≢◌, ◌+◌, ◌-◌, ◌<◌, ◌≤◌, OnOk, OnErr, IfOk, vec_len, count_by, filter, nat_lt};
 ghost use Rattle.std.specs.Vec.{vec_capacity};
-ghost use Rattle.sc_paxos_words.specs.Acceptors.{IsBySlot, IsWholeAcceptor, born_acceptor, after_cut, reports_from, with_report};
-ghost use Rattle.sc_paxos_words.specs.Preparing.{prepared};
-ghost use Rattle.sc_paxos_words.specs.Accepting.{accepted};
+ghost use Rattle.sc_words.specs.paxos.Acceptors.{IsBySlot, IsWholeAcceptor, born_acceptor, after_cut, reports_from, with_report};
+ghost use Rattle.sc_words.specs.paxos.Preparing.{prepared};
+ghost use Rattle.sc_words.specs.paxos.Accepting.{accepted};
 
 use sc_base::{Ballot, Dup, OutOfMemory, Sequence};
-use sc_paxos_words::{AcceptAnswer, PrepareAnswer, Report};
+use sc_words::{AcceptAnswer, PrepareAnswer, Report};
 use std::alloc::Global;
 use std::marker::Model;
 
@@ -23,7 +23,7 @@ pub struct Acceptor<V> {
 impl<V> Model for Acceptor<V> {
     ghost use Rattle.std.specs.Prelude.{◌-◌, vec_len};
     ghost use Rattle.std.specs.Vec.{vec_capacity};
-    ghost use Rattle.sc_paxos_words.specs.Acceptors.{IsWholeAcceptor};
+    ghost use Rattle.sc_words.specs.paxos.Acceptors.{IsWholeAcceptor};
     ghost use Rattle.sc_paxos.specs.Roomy.{Roomy};
 
     ghost Value = { Roomy V };

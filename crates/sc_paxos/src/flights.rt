@@ -1,11 +1,11 @@
 //! The proposals in flight.
 ghost use Rattle.std.specs.Prelude.{◌≡◌, ◌<◌, Some, None, MatchOption, find, length, position, ◌==◌, slice_get, vec_len};
 ghost use Rattle.std.specs.Option.{option_copied};
-ghost use Rattle.sc_paxos_words.specs.Leaders.{flight_at, without_flight};
-ghost use Rattle.sc_paxos_words.specs.Votes.{with_voters};
+ghost use Rattle.sc_words.specs.paxos.Leaders.{flight_at, without_flight};
+ghost use Rattle.sc_words.specs.paxos.Votes.{with_voters};
 
 use sc_base::Members;
-use sc_paxos_words::Flight;
+use sc_words::Flight;
 
 /// Returns the index of the proposal in flight at a slot, if there is one.
 pub(crate) fn place_of<V>(flights: &[Flight<V>], slot: u32) -> Option<usize>

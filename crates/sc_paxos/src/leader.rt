@@ -2,15 +2,15 @@
 ghost use Rattle.std.specs.Prelude.{◌≡◌, IfOk, IsOk, OnOk, OnErr, None, false};
 ghost use Rattle.std.specs.Option.{option_copied, option_map};
 ghost use Rattle.sc_base.specs.Roster.{is_member};
-ghost use Rattle.sc_paxos_words.specs.Choice.{chosen_value, names_above};
-ghost use Rattle.sc_paxos_words.specs.Leaders.{Obeys, first_leader, new_leader, promise_counted, is_settled, must, flight_at, with_flight_at, without_flight_at};
-ghost use Rattle.sc_paxos_words.specs.Votes.{counted, has_counted};
+ghost use Rattle.sc_words.specs.paxos.Choice.{chosen_value, names_above};
+ghost use Rattle.sc_words.specs.paxos.Leaders.{Obeys, first_leader, new_leader, promise_counted, is_settled, must, flight_at, with_flight_at, without_flight_at};
+ghost use Rattle.sc_words.specs.paxos.Votes.{counted, has_counted};
 
 use crate::flights::{flight_at, set_voters, take_out};
 use crate::picking::pick;
 use crate::voters::{are_majority, count_of, voters_after};
 use sc_base::{Ballot, Dup, Members, OutOfMemory};
-use sc_paxos_words::{Counted, Flight, Must, Report};
+use sc_words::{Counted, Flight, Must, Report};
 use std::alloc::Global;
 use std::marker::Model;
 
@@ -29,7 +29,7 @@ pub struct Leader<V> {
 }
 
 impl<V> Model for Leader<V> {
-    ghost use Rattle.sc_paxos_words.specs.Leaders.{LeaderState};
+    ghost use Rattle.sc_words.specs.paxos.Leaders.{LeaderState};
     ghost use Rattle.sc_paxos.specs.OneEach.{IsOneEach};
 
     ghost Value = { LeaderState V };

@@ -13,4 +13,4 @@ pub use acceptor::Acceptor;
 pub use leader::Leader;
 pub use log::Glog;
 pub use picking::pick;
-pub use sc_paxos_words::{AcceptAnswer, Counted, Learnt, Must, PrepareAnswer};
+pub use sc_words::{AcceptAnswer, Counted, Learnt, Must, PrepareAnswer};

@@ -1,10 +1,10 @@
 //! The log.
 ghost use Rattle.std.specs.Prelude.{◌≡◌, ◌-◌, ◌<◌, ◌≤◌, ◌^◌, ◌⊎◌, IfOk, IsOk, OnErr, drop, slice_get};
 ghost use Rattle.std.specs.Option.{option_copied};
-ghost use Rattle.sc_paxos_words.specs.Logs.{next_of, empty_log, learnt, installed, entry_at, log_cut};
+ghost use Rattle.sc_words.specs.paxos.Logs.{next_of, empty_log, learnt, installed, entry_at, log_cut};
 
 use sc_base::OutOfMemory;
-use sc_paxos_words::Learnt;
+use sc_words::Learnt;
 use std::alloc::Global;
 use std::collections::VecDeque;
 use std::marker::Model;
@@ -19,7 +19,7 @@ pub struct Glog<V> {
 
 impl<V> Model for Glog<V> {
     ghost use Rattle.std.specs.Prelude.{◌+◌, ◌-◌, ◌<◌, ◌^◌, length};
-    ghost use Rattle.sc_paxos_words.specs.Logs.{LogState};
+    ghost use Rattle.sc_words.specs.paxos.Logs.{LogState};
 
     ghost Value = { LogState V };
 

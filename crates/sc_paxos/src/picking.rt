@@ -1,10 +1,10 @@
 //! The choice of a value from the reports of acceptors.
 ghost use Rattle.std.specs.Prelude.{◌≡◌, IfOk, IsOk, None};
 ghost use Rattle.std.specs.Option.{option_copied};
-ghost use Rattle.sc_paxos_words.specs.Choice.{choice, chosen_value, is_better};
+ghost use Rattle.sc_words.specs.paxos.Choice.{choice, chosen_value, is_better};
 
 use sc_base::{Dup, OutOfMemory};
-use sc_paxos_words::Report;
+use sc_words::Report;
 use std::alloc::Global;
 
 /// Returns the value of the highest ballot among the reports of a slot, and of several with that

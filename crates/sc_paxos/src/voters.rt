@@ -1,7 +1,7 @@
 //! The kept votes of a proposal in flight.
 ghost use Rattle.std.specs.Prelude.{◌≡◌, Some, length};
 ghost use Rattle.sc_base.specs.Majority.{is_majority};
-ghost use Rattle.sc_paxos_words.specs.Votes.{kept_voters, add_voter, voters_after};
+ghost use Rattle.sc_words.specs.paxos.Votes.{kept_voters, add_voter, voters_after};
 
 use sc_base::Members;
 

@@ -1,6 +1,6 @@
 -- A lawful history with a lost message and an election, so that the law is not about nothing.
 use Rattle.std.proofs.Common.{ℕ, List, [], ◌∷◌, inl, inr, refl, ap, arith, lit<, lit≤}
-use Rattle.sc_paxos_words.specs.declared.reports.Report.{Report}
+use Rattle.sc_words.specs.declared.paxos.reports.Report.{Report}
 use Rattle.sc_base.specs.Definitions.{Among}
 use Rattle.sc_paxos_law.specs.Definitions.{Step, Prepared, Promised, Offered, Accepted, IsLog, CountedPromise, MayOffer, IsLawfulHistory, three, first, second, example_steps}
 

@@ -2,10 +2,10 @@
 use Rattle.std.proofs.Common.{◌≡◌, ◌≢◌, ℕ, ◌<◌, ◌≤◌, true, cond, eqb, leb, ltb, List, [], ◌∷◌, filter, ◌⊎◌, inl, inr, refl, sym, ◌∙◌, ap, subst, arith}
 use Rattle.std.proofs.lemmas.Bool.{cases_order, eqb-true, eq-eqb, cond-true, cond_both, lt-ltb, le-leb}
 use Rattle.sc_base.specs.declared.names.Ballot.{Ballot}
-use Rattle.sc_paxos_words.specs.declared.reports.Report.{Report}
+use Rattle.sc_words.specs.declared.paxos.reports.Report.{Report}
 use Rattle.sc_base.specs.Definitions.{Among}
-use Rattle.sc_paxos_words.specs.Definitions.{below, IsAtLeast, AcceptorState, with_report, may_promise, may_accept, after_promise, after_accept, after_cut}
-use Rattle.sc_paxos_words.proofs.Lemmas.{at_least_trans, at_least_itself, at_least_from_below, at_least_below, not_both, Among-filter, from_filter, may_is}
+use Rattle.sc_words.specs.paxos.Definitions.{below, IsAtLeast, AcceptorState, with_report, may_promise, may_accept, after_promise, after_accept, after_cut}
+use Rattle.sc_words.proofs.PaxosProofs.Lemmas.{at_least_trans, at_least_itself, at_least_from_below, at_least_below, not_both, Among-filter, from_filter, may_is}
 use Rattle.sc_paxos_law.specs.Definitions.{Step, Prepared, Promised, Offered, Accepted, Cut, state_of, Rule, IsLawfulStep, IsLawfulHistory}
 use Rattle.sc_paxos_law.proofs.Among.{Among-left, Among-right, Among-either}
 

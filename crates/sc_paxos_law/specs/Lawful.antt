@@ -3,8 +3,8 @@ use Rattle.std.specs.Prelude.{◌≡◌, ℕ, ◌<◌, ◌≤◌, true, List, []
 use Rattle.std.specs.List.{flat_map}
 use Rattle.sc_base.specs.declared.names.Ballot.{Ballot}
 use Rattle.sc_base.specs.Definitions.{IsMajority, Among, Each}
-use Rattle.sc_paxos_words.specs.declared.reports.Report.{Report}
-use Rattle.sc_paxos_words.specs.Definitions.{choice, may_promise, may_accept, reports_from}
+use Rattle.sc_words.specs.declared.paxos.reports.Report.{Report}
+use Rattle.sc_words.specs.paxos.Definitions.{choice, may_promise, may_accept, reports_from}
 use Rattle.sc_paxos_law.specs.Steps.{Step, Prepared, Promised, Offered, Accepted, Cut, state_of}
 use Rattle.sc_paxos_law.specs.Chosen.{Rule, needed, members_of, IsLog}
 

@@ -3,10 +3,10 @@ use Rattle.std.specs.Prelude.{◌≡◌, ℕ, ◌+◌, ◌<◌, ◌≤◌, true,
 use Rattle.std.specs.List.{flat_map}
 use Rattle.sc_base.specs.Definitions.{is_member, IsMajority, is_majority, Among, Each}
 use Rattle.sc_base.specs.declared.names.Ballot.{Ballot}
-use Rattle.sc_paxos_words.specs.declared.reports.Report.{Report}
-use Rattle.sc_paxos_words.specs.declared.answers.PrepareAnswer.TheVariants.{Promise}
-use Rattle.sc_paxos_words.specs.declared.answers.AcceptAnswer.TheVariants.{Accepted as Yes}
-use Rattle.sc_paxos_words.specs.Definitions.{IsAtLeast, AcceptorState, after_cut, prepared, accepted, LeaderState, Obeys, must}
+use Rattle.sc_words.specs.declared.paxos.reports.Report.{Report}
+use Rattle.sc_words.specs.declared.paxos.answers.PrepareAnswer.TheVariants.{Promise}
+use Rattle.sc_words.specs.declared.paxos.answers.AcceptAnswer.TheVariants.{Accepted as Yes}
+use Rattle.sc_words.specs.paxos.Definitions.{IsAtLeast, AcceptorState, after_cut, prepared, accepted, LeaderState, Obeys, must}
 use Rattle.sc_paxos_law.specs.Steps.{Step, Promised, Offered, Accepted, Cut, state_of}
 use Rattle.sc_paxos_law.specs.Chosen.{Rule, IsChosen, IsChosenAfter, IsLog}
 use Rattle.sc_paxos_law.specs.Lawful.{CountedPromise, IsElected, IsLawfulStep, IsLawfulHistory}

@@ -1,7 +1,7 @@
 -- What a driver's answer says of a scenario.
 use Rattle.std.proofs.Common.{◌≡◌, ◌≢◌, ◌<◌, ◌≤◌, ◌^◌, ℕ, List, [], ◌∷◌, ◌++◌, length, map, Bool, true, false, Some, inl, inr, refl, sym, ◌∙◌, ap, subst, arith}
 use Rattle.std.specs.Prelude.{⊤}
-use Rattle.sc_cmd.specs.declared.orders.OrderLine.{OrderLine}
+use Rattle.sc_words.specs.declared.commands.orders.OrderLine.{OrderLine}
 use Rattle.sc_mail.specs.declared.bodies.Mail.{Mail}
 use Rattle.sc_actor.specs.declared.rows.Row.{Row}
 use Rattle.sc_actor.specs.declared.actors.Actor.{Ghosts}
@@ -11,20 +11,20 @@ use Rattle.sc_actor.specs.Counted.{journal_bytes}
 use Rattle.sc_actor.specs.Mail.{mails}
 use Rattle.sc_actor.proofs.BoundLemmas.{journal_counts}
 use Rattle.sc_actor.proofs.WalkLemmas.{lawful-snoc}
-use Rattle.sc_chance.specs.Words.{two_words}
+use Rattle.sc_texts.specs.chance.Words.{two_words}
 use Rattle.sc_actor.specs.Walk.{IsLawful, IsWhole, skipped, unsettled, is_quiet}
 use Rattle.sc_actor.specs.Counted.{IsFull}
-use Rattle.sc_shell.specs.declared.shells.Shell.{Shell}
-use Rattle.sc_drive.specs.Companies.{seats}
+use Rattle.sc_thread_work.specs.declared.shell.shells.Shell.{Shell}
+use Rattle.sc_thread_drive.specs.Companies.{seats}
 use Rattle.sc_actor.specs.declared.schedules.Played.{Played}
 use Rattle.sc_actor.specs.declared.schedules.Played.TheVariants.{Ended, Full, OutOfMemory}
-use Rattle.sc_scenario.specs.Valid.{IsValid}
-use Rattle.sc_scenario.specs.declared.scenarios.Scenario.{Scenario}
-use Rattle.sc_sound.specs.Players.{schedule, system_of, Lawful, Whole, parties, Player, as_nodes}
+use Rattle.sc_scenario.specs.scenario.Valid.{IsValid}
+use Rattle.sc_scenario.specs.declared.scenario.scenarios.Scenario.{Scenario}
+use Rattle.sc_meaning.specs.sound.Players.{schedule, system_of, Lawful, Whole, parties, Player, as_nodes}
 use Rattle.sc_law_refusal.specs.refusal.Journals.{ValidJournalsRefuseWithCause}
 use Rattle.sc_law_groups.specs.whole.Valid.{ValidJournalsAreSound}
-use Rattle.sc_command_line.specs.Causes.{said_of}
-use Rattle.sc_command_line.specs.declared.said.Said.TheVariants.{Ended as HasEnded, Filled}
+use Rattle.sc_cli.specs.Causes.{said_of}
+use Rattle.sc_cli.specs.declared.said.Said.TheVariants.{Ended as HasEnded, Filled}
 use Rattle.sc_run.specs.Budgets.{BudgetsSuffice}
 use Rattle.sc_run.specs.declared.done.Text.{Text}
 use Rattle.sc_run.specs.Played.{mail_weight, HasPlayedToEnd, HasFilled}

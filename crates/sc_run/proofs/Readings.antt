@@ -1,22 +1,22 @@
 -- What comes of what an input is, said of the source that it was read from.
 use Rattle.std.proofs.Common.{ℕ, List, inl, inr}
 use Rattle.sc_actor.specs.declared.rows.Row.{Row}
-use Rattle.sc_cmd.specs.declared.orders.OrderLine.{OrderLine}
-use Rattle.sc_edges.specs.Uses.{SourceUse}
-use Rattle.sc_journal_file.specs.Stored.{IsBadFile}
-use Rattle.sc_lines.specs.declared.reasons.Reason.{Reason}
+use Rattle.sc_words.specs.declared.commands.orders.OrderLine.{OrderLine}
+use Rattle.sc_texts.specs.edges.Uses.{SourceUse}
+use Rattle.sc_json_journal.specs.file.Stored.{IsBadFile}
+use Rattle.sc_texts.specs.declared.lines.reasons.Reason.{Reason}
 use Rattle.sc_mail.specs.declared.bodies.Mail.{Mail}
-use Rattle.sc_scenario.specs.declared.scenarios.Scenario.{Scenario}
-use Rattle.sc_command_line.specs.declared.said.Said.{Said}
-use Rattle.sc_command_line.specs.Errors.{HasError, IsBadText}
-use Rattle.sc_command_line.specs.Inputs.{ReadsFile, ReadsScenario, ReadsText}
-use Rattle.sc_command_line.specs.declared.errors.InputError.{InputError}
-use Rattle.sc_command_line.specs.declared.errors.InputError.TheVariants.{Failed, Bad, OutOfMemory}
+use Rattle.sc_scenario.specs.declared.scenario.scenarios.Scenario.{Scenario}
+use Rattle.sc_cli.specs.declared.said.Said.{Said}
+use Rattle.sc_cli.specs.Errors.{HasError, IsBadText}
+use Rattle.sc_cli.specs.Inputs.{ReadsFile, ReadsScenario, ReadsText}
+use Rattle.sc_cli.specs.declared.errors.InputError.{InputError}
+use Rattle.sc_cli.specs.declared.errors.InputError.TheVariants.{Failed, Bad, OutOfMemory}
 use Rattle.sc_run.specs.declared.done.Text.{Text}
 use Rattle.sc_run.specs.Refusals.{IsErrorText}
 use Rattle.sc_run.specs.Run.{AuditsAs, Audits, Comes, Explains, ExplainsAs, Keeps, Reads, Refuses, Scans, ShowsFile, ShowsReport}
 use Rattle.sc_run.specs.Shown.{ShowsScan}
-use Rattle.sc_command_line.specs.declared.subcommands.Sight.{Sight}
+use Rattle.sc_cli.specs.declared.subcommands.Sight.{Sight}
 
 -- a text about the fault that an input has refuses the input
 refuses : (IsBad : List ℕ → ℕ → Reason → Type 0) (source : SourceUse) (error : InputError) (said : Said) (text : Text) → HasError IsBad source error → IsErrorText error said text → Refuses IsBad source said text

@@ -4,19 +4,19 @@ use Rattle.sc_actor.proofs.WalkLemmas.{lawful-prefix}
 use Rattle.sc_actor.specs.Walk.{IsLawful}
 use Rattle.sc_actor.specs.declared.rows.Row.{Row}
 use Rattle.sc_base.specs.Arc.{IsArc}
-use Rattle.sc_chance.specs.Words.{two_words}
-use Rattle.sc_cmd.specs.declared.orders.OrderLine.{OrderLine}
+use Rattle.sc_texts.specs.chance.Words.{two_words}
+use Rattle.sc_words.specs.declared.commands.orders.OrderLine.{OrderLine}
 use Rattle.sc_mail.specs.declared.bodies.Mail.{Mail}
-use Rattle.sc_scan.specs.Laws.{EntriesCountLogs, ScansShow}
-use Rattle.sc_scan.specs.Scan.{entries_in, scan_of}
-use Rattle.sc_scan.specs.Text.{scan_lines}
-use Rattle.sc_scenario.specs.Valid.{IsValid}
-use Rattle.sc_scenario.specs.declared.scenarios.Scenario.{Scenario}
-use Rattle.sc_sound.specs.GroupsOf.{entries_at, world_at}
-use Rattle.sc_sound.specs.Players.{system_of, schedule, Lawful, as_nodes}
-use Rattle.sc_sound.specs.Soundness.{IsSoundThroughout}
+use Rattle.sc_world_entries.specs.scan.Laws.{EntriesCountLogs, ScansShow}
+use Rattle.sc_world_entries.specs.scan.Scan.{entries_in, scan_of}
+use Rattle.sc_world_entries.specs.scan.Text.{scan_lines}
+use Rattle.sc_scenario.specs.scenario.Valid.{IsValid}
+use Rattle.sc_scenario.specs.declared.scenario.scenarios.Scenario.{Scenario}
+use Rattle.sc_meaning.specs.sound.GroupsOf.{entries_at, world_at}
+use Rattle.sc_meaning.specs.sound.Players.{system_of, schedule, Lawful, as_nodes}
+use Rattle.sc_meaning.specs.sound.Soundness.{IsSoundThroughout}
 use Rattle.sc_law_groups.specs.whole.Valid.{ValidEntriesAreLogs}
-use Rattle.sc_command_line.specs.declared.subcommands.Sight.{Sight}
+use Rattle.sc_cli.specs.declared.subcommands.Sight.{Sight}
 use Rattle.sc_run.specs.Shown.{ShowsScan}
 
 module _ (tell : ScansShow) (count : EntriesCountLogs) (logs : ValidEntriesAreLogs) (scenario : Scenario) (valid : IsValid scenario) (journal : List (Row Mail OrderLine)) (lawful : Lawful as_nodes two_words scenario journal) (sound : IsSoundThroughout as_nodes scenario journal) where

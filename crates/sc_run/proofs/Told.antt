@@ -5,18 +5,18 @@ use Rattle.std.specs.List.{concat}
 use Rattle.sc_actor.specs.Walk.{IsLawful}
 use Rattle.sc_actor.specs.declared.rows.Row.{Row}
 use Rattle.sc_actor.proofs.WalkLemmas.{lawful-prefix}
-use Rattle.sc_chance.specs.Words.{two_words}
-use Rattle.sc_cmd.specs.declared.orders.OrderLine.{OrderLine}
+use Rattle.sc_texts.specs.chance.Words.{two_words}
+use Rattle.sc_words.specs.declared.commands.orders.OrderLine.{OrderLine}
 use Rattle.sc_mail.specs.declared.bodies.Mail.{Mail}
-use Rattle.sc_scenario.specs.declared.scenarios.Scenario.{Scenario}
-use Rattle.sc_journal_file.specs.Laws.{FilesHaveOneVerdict, PrintedFilesAreFiles}
-use Rattle.sc_edges.specs.Uses.{SourceUse}
-use Rattle.sc_journal_file.specs.Stored.{most_file_bytes, file_text, IsFile, IsBadFile}
-use Rattle.sc_sound.specs.Players.{system_of, schedule, Lawful, as_nodes}
-use Rattle.sc_command_line.specs.declared.said.Said.{Said}
+use Rattle.sc_scenario.specs.declared.scenario.scenarios.Scenario.{Scenario}
+use Rattle.sc_json_journal.specs.file.Laws.{FilesHaveOneVerdict, PrintedFilesAreFiles}
+use Rattle.sc_texts.specs.edges.Uses.{SourceUse}
+use Rattle.sc_json_journal.specs.file.Stored.{most_file_bytes, file_text, IsFile, IsBadFile}
+use Rattle.sc_meaning.specs.sound.Players.{system_of, schedule, Lawful, as_nodes}
+use Rattle.sc_cli.specs.declared.said.Said.{Said}
 use Rattle.sc_run.specs.declared.done.Text.{Text}
 use Rattle.sc_run.specs.Audited.{SaysYes, LawfulFilesAreConfirmed, PrintedJournalsAreConfirmed}
-use Rattle.sc_command_line.specs.Inputs.{ReadsFile}
+use Rattle.sc_cli.specs.Inputs.{ReadsFile}
 use Rattle.sc_run.specs.Run.{HoldsUnlawful, NamesBadLine}
 
 -- a prefix of a lawful journal is lawful

@@ -1,21 +1,21 @@
 -- A run of a plain scenario at its budget answers every request, and so does one of a calm scenario, unless its journal is full.
 use Rattle.std.proofs.Common.{◌≡◌, ◌⊎◌, ℕ, List, Bool, true, false, Option, None, Some, Ok, inl, inr, refl, sym, ◌∙◌, ap, subst, arith}
 use Rattle.std.specs.Prelude.{IfSome}
-use Rattle.sc_edges.specs.Causes.{Rose}
-use Rattle.sc_edges.specs.Uses.{SourceUse, SinkUse}
-use Rattle.sc_cmd.specs.declared.orders.OrderLine.{OrderLine}
+use Rattle.sc_texts.specs.edges.Causes.{Rose}
+use Rattle.sc_texts.specs.edges.Uses.{SourceUse, SinkUse}
+use Rattle.sc_words.specs.declared.commands.orders.OrderLine.{OrderLine}
 use Rattle.sc_mail.specs.declared.bodies.Mail.{Mail}
 use Rattle.sc_actor.specs.declared.rows.Row.{Row}
 use Rattle.sc_actor.specs.Walk.{unsettled}
-use Rattle.sc_chance.specs.Words.{two_words}
-use Rattle.sc_sound.specs.Players.{system_of, schedule, as_nodes}
-use Rattle.sc_scenario.specs.Grammar.{verdict_of}
-use Rattle.sc_scenario.specs.Made.{made_scenario}
-use Rattle.sc_scenario.specs.declared.scenarios.Scenario.{Scenario}
-use Rattle.sc_command_line.specs.Causes.{status_of, said_of}
-use Rattle.sc_command_line.specs.declared.said.Said.{Said}
-use Rattle.sc_command_line.specs.declared.said.Said.TheVariants.{Ended}
-use Rattle.sc_command_line.specs.Errors.{IsBadText}
+use Rattle.sc_texts.specs.chance.Words.{two_words}
+use Rattle.sc_meaning.specs.sound.Players.{system_of, schedule, as_nodes}
+use Rattle.sc_scenario.specs.scenario.Grammar.{verdict_of}
+use Rattle.sc_scenario.specs.scenario.Made.{made_scenario}
+use Rattle.sc_scenario.specs.declared.scenario.scenarios.Scenario.{Scenario}
+use Rattle.sc_cli.specs.Causes.{status_of, said_of}
+use Rattle.sc_cli.specs.declared.said.Said.{Said}
+use Rattle.sc_cli.specs.declared.said.Said.TheVariants.{Ended}
+use Rattle.sc_cli.specs.Errors.{IsBadText}
 use Rattle.sc_live_plain.specs.Budget.{IsAtBudget, AreAnswered}
 use Rattle.sc_live_plain.specs.CalmBudget.{calm_budget_of, IsCalm, IsCalmAtBudget}
 use Rattle.sc_live_plain.proofs.Lemmas.{roomy_scenarios_are_calm}
@@ -23,9 +23,9 @@ use Rattle.sc_live_plain.specs.LastLine.{LastLinesAnswer}
 use Rattle.sc_live_plain.specs.Laws.{PlainLinesEndQuiet, PlainRequestsAreAnswered, PlainJournalsAreLight}
 use Rattle.sc_live_answers.specs.AnsweredRequests.{CalmLinesSettle, CalmRequestsAreAnswered, SettledRequestsAreAnswered}
 use Rattle.sc_live_answers.specs.ReportedOrders.{AreOrdersReported, SettledOrdersAreReported}
-use Rattle.sc_command_line.specs.Subcommands.{subcommand_by}
-use Rattle.sc_command_line.specs.declared.subcommands.Subcommand.{Subcommand}
-use Rattle.sc_command_line.specs.declared.subcommands.Subcommand.TheVariants as ask
+use Rattle.sc_cli.specs.Subcommands.{subcommand_by}
+use Rattle.sc_cli.specs.declared.subcommands.Subcommand.{Subcommand}
+use Rattle.sc_cli.specs.declared.subcommands.Subcommand.TheVariants as ask
 use Rattle.sc_run.specs.declared.done.Text.{Text}
 use Rattle.sc_run.specs.declared.done.Done.{Done}
 use Rattle.sc_run.specs.Answers.{IsText, IsAskedFor, AnswersWhere, AnswersOnStatusZero, Runs}

@@ -1,19 +1,19 @@
 -- What a run does. Where no read or write error comes and memory suffices, it answers a plain scenario at its budget, and a calm one; and with status 0 it answers any calm one.
 use Rattle.std.specs.Prelude.{◌≡◌, ◌⊎◌, ℕ, List, Option, None, Some, Ok}
-use Rattle.sc_edges.specs.Causes.{Rose}
-use Rattle.sc_edges.specs.Uses.{SourceUse, SinkUse}
-use Rattle.sc_cmd.specs.declared.orders.OrderLine.{OrderLine}
+use Rattle.sc_texts.specs.edges.Causes.{Rose}
+use Rattle.sc_texts.specs.edges.Uses.{SourceUse, SinkUse}
+use Rattle.sc_words.specs.declared.commands.orders.OrderLine.{OrderLine}
 use Rattle.sc_mail.specs.declared.bodies.Mail.{Mail}
 use Rattle.sc_actor.specs.declared.rows.Row.{Row}
-use Rattle.sc_scenario.specs.Grammar.{verdict_of}
-use Rattle.sc_scenario.specs.Made.{made_scenario}
-use Rattle.sc_scenario.specs.declared.scenarios.Scenario.{Scenario}
+use Rattle.sc_scenario.specs.scenario.Grammar.{verdict_of}
+use Rattle.sc_scenario.specs.scenario.Made.{made_scenario}
+use Rattle.sc_scenario.specs.declared.scenario.scenarios.Scenario.{Scenario}
 use Rattle.sc_live_plain.specs.Budget.{IsAtBudget, AreAnswered}
 use Rattle.sc_live_plain.specs.CalmBudget.{IsCalm, IsCalmAtBudget}
 use Rattle.sc_live_answers.specs.ReportedOrders.{AreOrdersReported}
-use Rattle.sc_command_line.specs.Subcommands.{subcommand_by}
-use Rattle.sc_command_line.specs.declared.subcommands.Subcommand.{Subcommand}
-use Rattle.sc_command_line.specs.declared.subcommands.Subcommand.TheVariants as ask
+use Rattle.sc_cli.specs.Subcommands.{subcommand_by}
+use Rattle.sc_cli.specs.declared.subcommands.Subcommand.{Subcommand}
+use Rattle.sc_cli.specs.declared.subcommands.Subcommand.TheVariants as ask
 use Rattle.sc_run.specs.declared.done.Done.{Done}
 use Rattle.sc_run.specs.Run.{Ends}
 

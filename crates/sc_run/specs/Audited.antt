@@ -1,17 +1,17 @@
 -- What an audit answers of files that store lawful journals.
 use Rattle.std.specs.Prelude.{◌≡◌, ◌⊎◌, ◌≤◌, ℕ, List, length, Some, Ok}
 use Rattle.std.specs.List.{concat}
-use Rattle.sc_cmd.specs.declared.orders.OrderLine.{OrderLine}
+use Rattle.sc_words.specs.declared.commands.orders.OrderLine.{OrderLine}
 use Rattle.sc_mail.specs.declared.bodies.Mail.{Mail}
 use Rattle.sc_actor.specs.declared.rows.Row.{Row}
-use Rattle.sc_chance.specs.Words.{two_words}
-use Rattle.sc_edges.specs.Uses.{SourceUse}
-use Rattle.sc_scenario.specs.Grammar.{verdict_of}
-use Rattle.sc_scenario.specs.declared.scenarios.Scenario.{Scenario}
-use Rattle.sc_journal_file.specs.Stored.{most_file_bytes, IsFile}
-use Rattle.sc_sound.specs.Players.{Lawful, as_nodes}
-use Rattle.sc_command_line.specs.declared.said.Said.{Said}
-use Rattle.sc_command_line.specs.declared.said.Said.TheVariants as said
+use Rattle.sc_texts.specs.chance.Words.{two_words}
+use Rattle.sc_texts.specs.edges.Uses.{SourceUse}
+use Rattle.sc_scenario.specs.scenario.Grammar.{verdict_of}
+use Rattle.sc_scenario.specs.declared.scenario.scenarios.Scenario.{Scenario}
+use Rattle.sc_json_journal.specs.file.Stored.{most_file_bytes, IsFile}
+use Rattle.sc_meaning.specs.sound.Players.{Lawful, as_nodes}
+use Rattle.sc_cli.specs.declared.said.Said.{Said}
+use Rattle.sc_cli.specs.declared.said.Said.TheVariants as said
 use Rattle.sc_run.specs.declared.done.Text.{Text}
 use Rattle.sc_run.specs.Run.{Audits, ReportsJournal, ShowsFile}
 

@@ -1,12 +1,12 @@
 -- Scenarios within their budget, plain or calm, and what holds of the journals of each.
 use Rattle.std.specs.Prelude.{◌≡◌, ◌⊎◌, ℕ, List, false}
-use Rattle.sc_cmd.specs.declared.orders.OrderLine.{OrderLine}
+use Rattle.sc_words.specs.declared.commands.orders.OrderLine.{OrderLine}
 use Rattle.sc_mail.specs.declared.bodies.Mail.{Mail}
 use Rattle.sc_actor.specs.declared.rows.Row.{Row}
 use Rattle.sc_actor.specs.Walk.{unsettled}
-use Rattle.sc_scenario.specs.Valid.{IsValid}
-use Rattle.sc_scenario.specs.declared.scenarios.Scenario.{Scenario}
-use Rattle.sc_sound.specs.Players.{system_of, schedule, Lawful, Whole, as_nodes}
+use Rattle.sc_scenario.specs.scenario.Valid.{IsValid}
+use Rattle.sc_scenario.specs.declared.scenario.scenarios.Scenario.{Scenario}
+use Rattle.sc_meaning.specs.sound.Players.{system_of, schedule, Lawful, Whole, as_nodes}
 use Rattle.sc_live_plain.specs.Budget.{IsAtBudget, AreAnswered}
 use Rattle.sc_live_plain.specs.CalmBudget.{IsCalmAtBudget}
 use Rattle.sc_live_plain.specs.LastLine.{LastLinesAnswer}

@@ -1,19 +1,19 @@
 -- What the answer of a play says.
 use Rattle.std.specs.Prelude.{◌≡◌, ℕ, ◌<◌, ◌≤◌, ◌^◌, List, length, Bool, false, ⊤}
-use Rattle.sc_cmd.specs.declared.orders.OrderLine.{OrderLine}
+use Rattle.sc_words.specs.declared.commands.orders.OrderLine.{OrderLine}
 use Rattle.sc_mail.specs.declared.bodies.Mail.{Mail}
 use Rattle.sc_mail.specs.Weight.{body_weight}
 use Rattle.sc_actor.specs.declared.rows.Row.{Row}
 use Rattle.sc_actor.specs.Counted.{journal_bytes}
 use Rattle.sc_actor.specs.Walk.{skipped, unsettled, is_quiet}
 use Rattle.sc_actor.specs.Counted.{IsFull}
-use Rattle.sc_scenario.specs.declared.scenarios.Scenario.{Scenario}
-use Rattle.sc_sound.specs.Soundness.{IsSoundThroughout}
+use Rattle.sc_scenario.specs.declared.scenario.scenarios.Scenario.{Scenario}
+use Rattle.sc_meaning.specs.sound.Soundness.{IsSoundThroughout}
 use Rattle.sc_law_refusal.specs.refusal.Journals.{RefusesWithCause}
-use Rattle.sc_sound.specs.Players.{system_of, schedule, Lawful, Whole, parties, Player, as_nodes}
+use Rattle.sc_meaning.specs.sound.Players.{system_of, schedule, Lawful, Whole, parties, Player, as_nodes}
 use Rattle.sc_actor.specs.declared.schedules.Played.{Played}
 use Rattle.sc_actor.specs.declared.schedules.Played.TheVariants.{Ended, Full, OutOfMemory}
-use Rattle.sc_chance.specs.Words.{two_words}
+use Rattle.sc_texts.specs.chance.Words.{two_words}
 use Rattle.sc_live_plain.specs.Budget.{IsAtBudget, AreAnswered}
 use Rattle.sc_live_plain.specs.CalmBudget.{IsCalm}
 use Rattle.sc_live_plain.specs.LastLine.{EndsAtBudget}

@@ -1,10 +1,10 @@
 -- The text about an input that is not what was asked for.
 use Rattle.std.specs.Prelude.{◌≡◌, codes}
-use Rattle.sc_command_line.specs.declared.said.Said.{Said}
-use Rattle.sc_command_line.specs.declared.said.Said.TheVariants.{BadScenario, ReadError}
-use Rattle.sc_command_line.specs.Errors.{error_text}
-use Rattle.sc_command_line.specs.declared.errors.InputError.{InputError}
-use Rattle.sc_command_line.specs.declared.errors.InputError.TheVariants.{Failed, Bad, OutOfMemory}
+use Rattle.sc_cli.specs.declared.said.Said.{Said}
+use Rattle.sc_cli.specs.declared.said.Said.TheVariants.{BadScenario, ReadError}
+use Rattle.sc_cli.specs.Errors.{error_text}
+use Rattle.sc_cli.specs.declared.errors.InputError.{InputError}
+use Rattle.sc_cli.specs.declared.errors.InputError.TheVariants.{Failed, Bad, OutOfMemory}
 use Rattle.sc_run.specs.declared.done.Text.{Text}
 use Rattle.sc_run.specs.Run.{IsLineText}
 

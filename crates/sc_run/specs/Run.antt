@@ -2,23 +2,23 @@
 use Rattle.std.specs.Prelude.{◌≡◌, ◌⊎◌, ◌≤◌, ◌+◌, ◌^◌, ℕ, List, [], ◌∷◌, ◌++◌, length, Option, None, Some, IfSome, codes}
 use Rattle.std.specs.Fmt.{decimal}
 use Rattle.sc_base.specs.Among.{Each}
-use Rattle.sc_edges.specs.Causes.{Rose}
-use Rattle.sc_edges.specs.Uses.{SourceUse, SinkUse}
-use Rattle.sc_cmd.specs.declared.orders.OrderLine.{OrderLine}
+use Rattle.sc_texts.specs.edges.Causes.{Rose}
+use Rattle.sc_texts.specs.edges.Uses.{SourceUse, SinkUse}
+use Rattle.sc_words.specs.declared.commands.orders.OrderLine.{OrderLine}
 use Rattle.sc_mail.specs.declared.bodies.Mail.{Mail}
 use Rattle.sc_actor.specs.declared.rows.Row.{Row}
 use Rattle.sc_actor.specs.Walk.{unsettled}
-use Rattle.sc_scenario.specs.Made.{made_scenario}
-use Rattle.sc_scenario.specs.Valid.{IsValid}
+use Rattle.sc_scenario.specs.scenario.Made.{made_scenario}
+use Rattle.sc_scenario.specs.scenario.Valid.{IsValid}
 use Rattle.sc_actor.specs.Counted.{journal_bytes}
-use Rattle.sc_scenario.specs.declared.scenarios.Scenario.{Scenario}
-use Rattle.sc_explain.specs.Explained.{explained}
-use Rattle.sc_report.specs.Report.{report_lines}
-use Rattle.sc_row_text.specs.RowText.{IsHeld}
-use Rattle.sc_journal_file.specs.Stored.{file_lines, IsBadFile}
-use Rattle.sc_sound.specs.Soundness.{IsSoundThroughout}
+use Rattle.sc_scenario.specs.declared.scenario.scenarios.Scenario.{Scenario}
+use Rattle.sc_explain.specs.rows.Explained.{explained}
+use Rattle.sc_scenario.specs.report.Report.{report_lines}
+use Rattle.sc_json_text.specs.rows.RowText.{IsHeld}
+use Rattle.sc_json_journal.specs.file.Stored.{file_lines, IsBadFile}
+use Rattle.sc_meaning.specs.sound.Soundness.{IsSoundThroughout}
 use Rattle.sc_law_refusal.specs.refusal.Journals.{RefusesWithCause}
-use Rattle.sc_sound.specs.Players.{system_of, schedule, Lawful, Whole, parties, as_nodes}
+use Rattle.sc_meaning.specs.sound.Players.{system_of, schedule, Lawful, Whole, parties, as_nodes}
 use Rattle.sc_world.specs.Replays.{IsBadRow}
 use Rattle.sc_world.specs.Summary.{summary_of}
 use Rattle.sc_live_plain.specs.Budget.{IsAtBudget, AreAnswered}
@@ -30,17 +30,17 @@ use Rattle.sc_run.specs.Played.{mail_weight, HasFilled}
 use Rattle.sc_run.specs.Shown.{ShowsScan}
 use Rattle.sc_run.specs.declared.done.Text.{Text}
 use Rattle.sc_run.specs.declared.done.Done.{Done}
-use Rattle.sc_command_line.specs.Causes.{Prints, said_of}
-use Rattle.sc_command_line.specs.Subcommands.{subcommand_by}
-use Rattle.sc_command_line.specs.declared.subcommands.Sight.{Sight}
-use Rattle.sc_command_line.specs.declared.subcommands.Subcommand.{Subcommand}
-use Rattle.sc_command_line.specs.declared.subcommands.Subcommand.TheVariants as ask
-use Rattle.sc_command_line.specs.Errors.{error_text, IsBadText}
-use Rattle.sc_command_line.specs.Inputs.{ReadsFile, ReadsScenario, ReadsText}
-use Rattle.sc_command_line.specs.declared.said.Said.{Said}
-use Rattle.sc_command_line.specs.declared.said.Said.TheVariants.{Ended, Filled, Usage, BadScenario, ReadError, Lawful as Yes, Unlawful as No}
-use Rattle.sc_chance.specs.Words.{two_words}
-use Rattle.sc_lines.specs.declared.reasons.Reason.{Reason}
+use Rattle.sc_cli.specs.Causes.{Prints, said_of}
+use Rattle.sc_cli.specs.Subcommands.{subcommand_by}
+use Rattle.sc_cli.specs.declared.subcommands.Sight.{Sight}
+use Rattle.sc_cli.specs.declared.subcommands.Subcommand.{Subcommand}
+use Rattle.sc_cli.specs.declared.subcommands.Subcommand.TheVariants as ask
+use Rattle.sc_cli.specs.Errors.{error_text, IsBadText}
+use Rattle.sc_cli.specs.Inputs.{ReadsFile, ReadsScenario, ReadsText}
+use Rattle.sc_cli.specs.declared.said.Said.{Said}
+use Rattle.sc_cli.specs.declared.said.Said.TheVariants.{Ended, Filled, Usage, BadScenario, ReadError, Lawful as Yes, Unlawful as No}
+use Rattle.sc_texts.specs.chance.Words.{two_words}
+use Rattle.sc_texts.specs.declared.lines.reasons.Reason.{Reason}
 
 -- the usage line, the text for arguments outside their grammar
 abbrev pub usage : List ℕ

@@ -1,14 +1,14 @@
 -- What is shown of a scenario and a journal of it after `scan`.
 use Rattle.std.specs.Prelude.{◌≡◌, ℕ, List, length, take}
 use Rattle.sc_actor.specs.declared.rows.Row.{Row}
-use Rattle.sc_cmd.specs.declared.orders.OrderLine.{OrderLine}
+use Rattle.sc_words.specs.declared.commands.orders.OrderLine.{OrderLine}
 use Rattle.sc_mail.specs.declared.bodies.Mail.{Mail}
-use Rattle.sc_scan.specs.Laws.{ShowsStore}
-use Rattle.sc_scan.specs.Scan.{scan_at}
-use Rattle.sc_scan.specs.Text.{scan_lines}
-use Rattle.sc_scenario.specs.declared.scenarios.Scenario.{Scenario}
-use Rattle.sc_sound.specs.Players.{as_nodes}
-use Rattle.sc_command_line.specs.declared.subcommands.Sight.{Sight}
+use Rattle.sc_world_entries.specs.scan.Laws.{ShowsStore}
+use Rattle.sc_world_entries.specs.scan.Scan.{scan_at}
+use Rattle.sc_world_entries.specs.scan.Text.{scan_lines}
+use Rattle.sc_scenario.specs.declared.scenario.scenarios.Scenario.{Scenario}
+use Rattle.sc_meaning.specs.sound.Players.{as_nodes}
+use Rattle.sc_cli.specs.declared.subcommands.Sight.{Sight}
 
 -- The lines are the text of a scan after the number of rows that is asked for, or after all where there are fewer; and the scan says what the arc holds after them.
 pub record ShowsScan (scenario : Scenario) (sight : Sight) (journal : List (Row Mail OrderLine)) (lines : List (List ℕ)) : Type 0 where

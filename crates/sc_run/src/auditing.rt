@@ -1,11 +1,11 @@
 //! Whether stored rows are a lawful journal.
 ghost use Rattle.std.specs.Prelude.{◌<◌, ◌^◌, length, IfOk, MatchOption};
 ghost use Rattle.sc_actor.specs.Mail.{mails};
-ghost use Rattle.sc_chance.specs.Words.{two_words};
-ghost use Rattle.sc_sound.specs.Players.{Lawful, as_nodes};
+ghost use Rattle.sc_texts.specs.chance.Words.{two_words};
+ghost use Rattle.sc_meaning.specs.sound.Players.{Lawful, as_nodes};
 ghost use Rattle.sc_world.specs.Replays.{IsBadRow};
-ghost use Rattle.sc_scenario.specs.Valid.{IsValid};
-ghost use Rattle.sc_sound.specs.Soundness.{IsSoundThroughout};
+ghost use Rattle.sc_scenario.specs.scenario.Valid.{IsValid};
+ghost use Rattle.sc_meaning.specs.sound.Soundness.{IsSoundThroughout};
 ghost use Rattle.sc_law_refusal.specs.refusal.Journals.{RefusesWithCause};
 ghost use Rattle.sc_run.specs.Audited.{LawfulFilesAreConfirmed, PrintedJournalsAreConfirmed};
 ghost use Rattle.sc_run.specs.Run.{AuditsAs};
@@ -14,11 +14,11 @@ use crate::done::Text;
 use crate::texts::{lawful_line, text_of_rows, unlawful_line};
 use sc_actor::Journal;
 use sc_base::OutOfMemory;
-use sc_cmd::OrderLine;
-use sc_command_line::Said;
-use sc_journal_file::{files_have_one_verdict, printed_files_are_files};
+use sc_cli::Said;
+use sc_json_journal::{files_have_one_verdict, printed_files_are_files};
 use sc_mail::Mail;
 use sc_scenario::Scenario;
+use sc_words::OrderLine;
 use sc_world::{ReplayError, replay_rows};
 use std::alloc::Global;
 

@@ -1,13 +1,13 @@
 //! The beginning of a run.
 ghost use Rattle.std.specs.Prelude.{◌≡◌, ◌≤◌, ◌^◌, [], IfOk};
-ghost use Rattle.sc_exchange.specs.Ports.{joined_ports};
-ghost use Rattle.sc_drive.specs.Working.{HasOpened};
-ghost use Rattle.sc_scenario.specs.Valid.{IsValid};
-ghost use Rattle.sc_sound.specs.Players.{births, as_nodes};
+ghost use Rattle.sc_thread_ports.specs.exchange.Ports.{joined_ports};
+ghost use Rattle.sc_thread_drive.specs.Working.{HasOpened};
+ghost use Rattle.sc_scenario.specs.scenario.Valid.{IsValid};
+ghost use Rattle.sc_meaning.specs.sound.Players.{births, as_nodes};
 
 use sc_base::OutOfMemory;
-use sc_drive::{Company, open};
 use sc_scenario::Scenario;
+use sc_thread_drive::{Company, open};
 use sc_world::{MOST_ACTOR, Party, births, valid_scenarios_can_play};
 use std::alloc::Global;
 

@@ -1,9 +1,9 @@
 //! What a run answers.
 use sc_actor::Journal;
 use sc_base::Sequence;
-use sc_cmd::OrderLine;
 use sc_mail::Mail;
-use sc_report::ReportLine;
+use sc_scenario::ReportLine;
+use sc_words::OrderLine;
 use sc_world::Party;
 
 /// A text to be printed, and the journal and the parties that it is about.

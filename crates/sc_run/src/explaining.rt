@@ -1,7 +1,7 @@
 //! What the rows of a stored journal decided.
 ghost use Rattle.std.specs.Prelude.{◌<◌, ◌^◌, length, IfOk};
 ghost use Rattle.sc_actor.specs.Mail.{mails};
-ghost use Rattle.sc_scenario.specs.Valid.{IsValid};
+ghost use Rattle.sc_scenario.specs.scenario.Valid.{IsValid};
 ghost use Rattle.sc_run.specs.Run.{ExplainsAs};
 
 use crate::auditing::bad_row;
@@ -9,11 +9,11 @@ use crate::done::Text;
 use crate::texts::{text_of_rows, unlawful_line};
 use sc_actor::Journal;
 use sc_base::{OutOfMemory, Sequence};
-use sc_cmd::OrderLine;
-use sc_command_line::Said;
+use sc_cli::Said;
 use sc_explain::explain;
 use sc_mail::Mail;
 use sc_scenario::Scenario;
+use sc_words::OrderLine;
 use std::alloc::Global;
 
 /// Returns the text of what each row decided, line by line, where rows are a lawful journal of a

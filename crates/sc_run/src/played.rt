@@ -1,19 +1,19 @@
 //! A scenario played to its end, through the shells of its actors.
 ghost use Rattle.std.specs.Prelude.{◌≢◌, map};
 ghost use Rattle.sc_actor.specs.declared.schedules.Played.TheVariants.{OutOfMemory};
-ghost use Rattle.sc_exchange.specs.Ports.{seen};
-ghost use Rattle.sc_drive.specs.Working.{HasOpened, StaysWhole};
-ghost use Rattle.sc_scenario.specs.Valid.{IsValid};
-ghost use Rattle.sc_sound.specs.Players.{births, as_nodes};
+ghost use Rattle.sc_thread_ports.specs.exchange.Ports.{seen};
+ghost use Rattle.sc_thread_drive.specs.Working.{HasOpened, StaysWhole};
+ghost use Rattle.sc_scenario.specs.scenario.Valid.{IsValid};
+ghost use Rattle.sc_meaning.specs.sound.Players.{births, as_nodes};
 ghost use Rattle.sc_run.specs.Played.{IsPlayed};
 
 use crate::answering::budgets_suffice;
 use sc_actor::{Gate, Played};
-use sc_drive::{Company, drive};
 use sc_law_groups::valid_journals_are_sound;
 use sc_law_refusal::valid_journals_refuse_with_cause;
 use sc_scenario::Scenario;
-use sc_workers::Way;
+use sc_thread_drive::{Company, drive};
+use sc_thread_workers::Way;
 use sc_world::{Party, schedule, valid_scenarios_can_play};
 use std::alloc::Global;
 use std::sync::Wait;

@@ -1,6 +1,6 @@
 //! A scenario played whole, and its report.
 ghost use Rattle.std.specs.Prelude.{◌≤◌, ◌^◌, IfOk};
-ghost use Rattle.sc_scenario.specs.Valid.{IsValid};
+ghost use Rattle.sc_scenario.specs.scenario.Valid.{IsValid};
 ghost use Rattle.sc_run.specs.Played.{IsPlayed};
 ghost use Rattle.sc_run.specs.Run.{Comes, ShowsFile, ShowsReport};
 
@@ -10,14 +10,13 @@ use crate::played::play_in;
 use crate::texts::full_text;
 use sc_actor::{Gate, Journal, Played};
 use sc_base::{OutOfMemory, Sequence};
-use sc_cmd::OrderLine;
-use sc_command_line::{Said, said_by};
-use sc_drive::close;
-use sc_journal_file::file_lines;
+use sc_cli::{Said, said_by};
+use sc_json_journal::file_lines;
 use sc_mail::Mail;
-use sc_report::lines;
-use sc_scenario::Scenario;
-use sc_workers::Way;
+use sc_scenario::{Scenario, lines};
+use sc_thread_drive::close;
+use sc_thread_workers::Way;
+use sc_words::OrderLine;
 use sc_world::{Party, sum_up};
 use std::alloc::Global;
 use std::sync::Wait;

@@ -1,7 +1,7 @@
 //! From the arguments and bytes that come in to the bytes that go out.
 ghost use Rattle.std.specs.Prelude.{◌≡◌, ◌≤◌, ◌+◌, map, false, string_bytes};
-ghost use Rattle.sc_command_line.specs.Subcommands.{reads_input};
-ghost use Rattle.sc_command_line.specs.Inputs.{most_takes};
+ghost use Rattle.sc_cli.specs.Subcommands.{reads_input};
+ghost use Rattle.sc_cli.specs.Inputs.{most_takes};
 ghost use Rattle.sc_run.specs.Answers.{Runs};
 ghost use Rattle.sc_run.specs.Run.{Ends};
 
@@ -9,8 +9,8 @@ use crate::done::{Done, Text};
 use crate::saying::say;
 use sc_actor::Gate;
 use sc_base::{OutOfMemory, Sequence};
-use sc_command_line::print;
-use sc_edges::{Sink, Source};
+use sc_cli::print;
+use sc_texts::{Sink, Source};
 use std::alloc::Global;
 use std::sync::Wait;
 use std::thread::Threads;

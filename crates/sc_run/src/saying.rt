@@ -1,11 +1,11 @@
 //! Which text is begun, by what the arguments ask for and what the input is.
 ghost use Rattle.std.specs.Prelude.{◌≡◌, ◌≤◌, ◌+◌, false, map, string_bytes, IfOk};
-ghost use Rattle.sc_journal_file.specs.Stored.{most_file_bytes};
-ghost use Rattle.sc_lines.specs.Lines.{most_bytes};
-ghost use Rattle.sc_scenario.specs.Made.{made_scenario};
-ghost use Rattle.sc_command_line.specs.Inputs.{most_takes};
-ghost use Rattle.sc_command_line.specs.Subcommands.{reads_input};
-ghost use Rattle.sc_command_line.specs.declared.said.Said.TheVariants.{Usage};
+ghost use Rattle.sc_json_journal.specs.file.Stored.{most_file_bytes};
+ghost use Rattle.sc_texts.specs.lines.Lines.{most_bytes};
+ghost use Rattle.sc_scenario.specs.scenario.Made.{made_scenario};
+ghost use Rattle.sc_cli.specs.Inputs.{most_takes};
+ghost use Rattle.sc_cli.specs.Subcommands.{reads_input};
+ghost use Rattle.sc_cli.specs.declared.said.Said.TheVariants.{Usage};
 ghost use Rattle.sc_run.specs.Run.{usage, Audits, Explains, Keeps, PlaysMade, Reads, Says, Scans, IsLineText};
 ghost use Rattle.sc_run.specs.Refusals.{IsErrorText};
 
@@ -17,13 +17,13 @@ use crate::showing::show;
 use crate::texts::line_text;
 use sc_actor::Gate;
 use sc_base::OutOfMemory;
-use sc_command_line::{
+use sc_cli::{
     InputError, Said, Sight, Subcommand, error_text, file_in, scenario_in, subcommand_by, text_in,
 };
-use sc_edges::Source;
 use sc_live_plain::made_scenarios_are_at_budget;
-use sc_make::made_scenario;
-use sc_workers::Way;
+use sc_scenario_make::made_scenario;
+use sc_texts::Source;
+use sc_thread_workers::Way;
 use std::alloc::Global;
 use std::sync::Wait;
 use std::thread::Threads;

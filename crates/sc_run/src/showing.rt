@@ -1,12 +1,12 @@
 //! A scenario played whole, and a scan of its journal.
 ghost use Rattle.std.specs.Prelude.{◌≡◌, ◌≤◌, ◌<◌, ◌^◌, length, take, IfOk};
 ghost use Rattle.sc_base.specs.Arc.{IsArc};
-ghost use Rattle.sc_scan.specs.Scan.{entries_in, scan_of};
-ghost use Rattle.sc_scan.specs.Text.{scan_lines};
-ghost use Rattle.sc_scenario.specs.Valid.{IsValid};
-ghost use Rattle.sc_sound.specs.GroupsOf.{entries_at, world_at};
-ghost use Rattle.sc_sound.specs.Players.{as_nodes};
-ghost use Rattle.sc_sound.specs.Soundness.{IsSoundThroughout};
+ghost use Rattle.sc_world_entries.specs.scan.Scan.{entries_in, scan_of};
+ghost use Rattle.sc_world_entries.specs.scan.Text.{scan_lines};
+ghost use Rattle.sc_scenario.specs.scenario.Valid.{IsValid};
+ghost use Rattle.sc_meaning.specs.sound.GroupsOf.{entries_at, world_at};
+ghost use Rattle.sc_meaning.specs.sound.Players.{as_nodes};
+ghost use Rattle.sc_meaning.specs.sound.Soundness.{IsSoundThroughout};
 ghost use Rattle.sc_run.specs.Run.{Comes};
 ghost use Rattle.sc_run.specs.Shown.{ShowsScan};
 
@@ -15,14 +15,13 @@ use crate::reporting::{Left, play_whole};
 use crate::texts::full_text;
 use sc_actor::{Gate, Played, Row};
 use sc_base::{OutOfMemory, Sequence};
-use sc_cmd::OrderLine;
-use sc_command_line::{Said, Sight, said_by};
+use sc_cli::{Said, Sight, said_by};
 use sc_law_groups::valid_entries_are_logs;
 use sc_mail::Mail;
-use sc_report::ReportLine;
-use sc_scan::{entries_count_logs, scan, scan_lines, scans_show};
-use sc_scenario::Scenario;
-use sc_workers::Way;
+use sc_scenario::{ReportLine, Scenario};
+use sc_thread_workers::Way;
+use sc_words::OrderLine;
+use sc_world_entries::{entries_count_logs, scan, scan_lines, scans_show};
 use std::alloc::Global;
 use std::sync::Wait;
 use std::thread::Threads;

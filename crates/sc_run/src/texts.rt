@@ -5,9 +5,9 @@ ghost use Rattle.sc_run.specs.Run.{IsLineText, IsFullText, IsRowsText, full_line
 use crate::done::Text;
 use sc_actor::Journal;
 use sc_base::{OutOfMemory, Sequence};
-use sc_cmd::OrderLine;
 use sc_mail::Mail;
-use sc_report::ReportLine;
+use sc_scenario::ReportLine;
+use sc_words::OrderLine;
 use std::alloc::Global;
 
 /// Returns a text of one line, about no journal.

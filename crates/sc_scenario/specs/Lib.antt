@@ -1,10 +1,2 @@
-pub mod Orders
-pub mod Schedules
-pub mod Groups
-pub mod Statements
-pub mod Places
-pub mod Taking
-pub mod Grammar
-pub mod Made
-pub mod Valid
-pub mod Definitions
+pub mod scenario
+pub mod report

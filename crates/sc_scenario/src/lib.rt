@@ -1,21 +1,13 @@
-//! Scenarios: the runs to be made, and the parser of their texts.
+//! Scenarios, with the parser of their texts (`scenario`), and what a report says, with its text
+//! (`report`).
 #![tactic(auto)]
 
-mod drafts;
-mod groups;
-mod orders;
-mod places;
-mod reading;
-mod scenarios;
-mod schedules;
-mod statements;
-mod taking;
+pub mod report;
+pub mod scenario;
 
-pub use drafts::GroupLine;
-pub use groups::bases_of;
-pub use reading::{
-    INPUT_LIMIT, LINE_LIMIT, ScenarioError, first_bytes_decide, read_scenario,
+pub use report::{Asked, Progress, ReportLine, Summary, lines};
+pub use scenario::{
+    Asks, ClientList, GroupLine, GroupList, INPUT_LIMIT, LINE_LIMIT, Reason, Scenario,
+    ScenarioError, SchedLine, Schedule, bases_of, first_bytes_decide, read_scenario,
     valid_scenarios_are_bounded,
 };
-pub use sc_lines::Reason;
-pub use scenarios::{Asks, ClientList, GroupList, Scenario, SchedLine, Schedule};

@@ -1,15 +1,15 @@
 -- What a replay leaves is what a world holds.
 use Rattle.std.proofs.Common.{◌≡◌, ◌<◌, ◌^◌, List, length, map, ◌∙◌, ap}
-use Rattle.sc_cmd.specs.declared.orders.OrderLine.{OrderLine}
+use Rattle.sc_words.specs.declared.commands.orders.OrderLine.{OrderLine}
 use Rattle.sc_mail.specs.declared.bodies.Mail.{Mail}
 use Rattle.sc_actor.specs.declared.rows.Row.{Row}
 use Rattle.sc_actor.specs.Mail.{mails}
-use Rattle.sc_chance.specs.Words.{two_words}
-use Rattle.sc_replay.specs.declared.judging.Replayed.{Replayed}
-use Rattle.sc_replay.specs.Replays.{Leaves}
-use Rattle.sc_scenario.specs.declared.scenarios.Scenario.{Scenario}
-use Rattle.sc_sound.specs.Players.{system_of, schedule, Player, as_nodes}
-use Rattle.sc_sound.specs.Soundness.{IsSoundThroughout}
+use Rattle.sc_texts.specs.chance.Words.{two_words}
+use Rattle.sc_world_replay.specs.declared.judging.Replayed.{Replayed}
+use Rattle.sc_world_replay.specs.Replays.{Leaves}
+use Rattle.sc_scenario.specs.declared.scenario.scenarios.Scenario.{Scenario}
+use Rattle.sc_meaning.specs.sound.Players.{system_of, schedule, Player, as_nodes}
+use Rattle.sc_meaning.specs.sound.Soundness.{IsSoundThroughout}
 use Rattle.sc_law_refusal.specs.refusal.Journals.{RefusesWithCause}
 use Rattle.sc_world.specs.Worlds.{WorldHolds}
 

@@ -1,14 +1,14 @@
 -- What the entries of a world's rows make of its groups is one map.
 use Rattle.std.proofs.Common.{◌≡◌, List, [], sym, ◌∙◌, ap, subst, append-nil}
 use Rattle.sc_actor.specs.declared.rows.Row.{Row}
-use Rattle.sc_cmd.specs.declared.cores.Base.{Base}
-use Rattle.sc_cmd.specs.declared.orders.OrderLine.{OrderLine}
-use Rattle.sc_log_entries.specs.Worlds.{StoreWorld, CoverThroughout}
+use Rattle.sc_words.specs.declared.commands.cores.Base.{Base}
+use Rattle.sc_words.specs.declared.commands.orders.OrderLine.{OrderLine}
+use Rattle.sc_meaning.specs.entries.Worlds.{StoreWorld, CoverThroughout}
 use Rattle.sc_mail.specs.declared.bodies.Mail.{Mail}
-use Rattle.sc_scenario.specs.declared.scenarios.Scenario.{Scenario}
-use Rattle.sc_sound.specs.GroupsOf.{entries_at, world_at}
-use Rattle.sc_sound.specs.Players.{as_nodes}
-use Rattle.sc_sound.specs.Soundness.{IsOneMap, IsSoundThroughout}
+use Rattle.sc_scenario.specs.declared.scenario.scenarios.Scenario.{Scenario}
+use Rattle.sc_meaning.specs.sound.GroupsOf.{entries_at, world_at}
+use Rattle.sc_meaning.specs.sound.Players.{as_nodes}
+use Rattle.sc_meaning.specs.sound.Soundness.{IsOneMap, IsSoundThroughout}
 
 -- what is shown of the scenario's groups and of rows of which each prefix is sound
 pub one_map : (scenario : Scenario) (rows : List (Row Mail OrderLine)) → IsSoundThroughout as_nodes scenario rows

@@ -4,12 +4,12 @@ use Rattle.std.specs.List.{list_all}
 use Rattle.std.proofs.lemmas.Bool.{and_from, and_parts, lt-ltb}
 use Rattle.std.proofs.lemmas.List.Folds.{list_all-append}
 use Rattle.sc_base.specs.declared.names.Draw.{Draw}
-use Rattle.sc_cmd.specs.declared.cores.Base.{Base}
+use Rattle.sc_words.specs.declared.commands.cores.Base.{Base}
 use Rattle.sc_node_table.specs.Node.{is_before, are_in_order}
-use Rattle.sc_scenario.specs.Groups.{name_at, base_at, bases_up_to}
-use Rattle.sc_scenario.specs.declared.drafts.GroupLine.{GroupLine}
-use Rattle.sc_scenario.specs.declared.scenarios.Scenario.{Scenario}
-use Rattle.sc_scenario.specs.Valid.{IsBounded}
+use Rattle.sc_scenario.specs.scenario.Groups.{name_at, base_at, bases_up_to}
+use Rattle.sc_scenario.specs.declared.scenario.drafts.GroupLine.{GroupLine}
+use Rattle.sc_scenario.specs.declared.scenario.scenarios.Scenario.{Scenario}
+use Rattle.sc_scenario.specs.scenario.Valid.{IsBounded}
 
 -- whether a group's name stands before another
 abbrev is_named_before : Draw → Base → Bool

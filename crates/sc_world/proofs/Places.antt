@@ -3,7 +3,7 @@ use Rattle.std.proofs.Common.{◌≡◌, ℕ, suc, ◌+◌, ◌<◌, ◌≤◌, 
 use Rattle.std.proofs.Math.Seq.{drop-cons}
 use Rattle.std.proofs.lemmas.Bool.{cases_Bool, cond-true, cond-false, lt-ltb, le-ltb}
 use Rattle.std.proofs.lemmas.List.{drop_all}
-use Rattle.sc_cmd.specs.declared.links.Route.{Route}
+use Rattle.sc_words.specs.declared.commands.links.Route.{Route}
 use Rattle.sc_world.specs.Summary.{place_in}
 
 -- it is one of them, or after all

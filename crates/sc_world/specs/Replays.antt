@@ -1,14 +1,14 @@
 -- Why rows of a scenario are not replayed.
 use Rattle.std.specs.Prelude.{ℕ, List, ⊤}
-use Rattle.sc_cmd.specs.declared.orders.OrderLine.{OrderLine}
+use Rattle.sc_words.specs.declared.commands.orders.OrderLine.{OrderLine}
 use Rattle.sc_mail.specs.declared.bodies.Mail.{Mail}
 use Rattle.sc_actor.specs.declared.rows.Row.{Row}
-use Rattle.sc_scenario.specs.declared.scenarios.Scenario.{Scenario}
-use Rattle.sc_replay.specs.Replays.{IsBadRow as IsBadRowOf}
-use Rattle.sc_sound.specs.Players.{system_of, schedule, as_nodes}
+use Rattle.sc_scenario.specs.declared.scenario.scenarios.Scenario.{Scenario}
+use Rattle.sc_world_replay.specs.Replays.{IsBadRow as IsBadRowOf}
+use Rattle.sc_meaning.specs.sound.Players.{system_of, schedule, as_nodes}
 use Rattle.sc_world.specs.declared.replaying.ReplayError.{ReplayError}
 use Rattle.sc_world.specs.declared.replaying.ReplayError.TheVariants.{BadRow, OutOfMemory}
-use Rattle.sc_chance.specs.Words.{two_words}
+use Rattle.sc_texts.specs.chance.Words.{two_words}
 
 -- the row with this number, from 1, is the first that is not lawful for a scenario
 abbrev pub IsBadRow : Scenario → List (Row Mail OrderLine) → ℕ → Type 0

@@ -2,9 +2,9 @@
 use Rattle.std.specs.Prelude.{ℕ, ◌+◌, ◌==◌, nat_lt, Bool, true, false, List, [], ◌∷◌, length, map, fold, count_by, if◌then◌else◌, Option, Some, None}
 use Rattle.std.specs.List.{flat_map, insert}
 use Rattle.std.specs.Option.{option_map, option_to_list}
-use Rattle.sc_cmd.specs.declared.links.Route.{Route}
-use Rattle.sc_cmd.specs.declared.orders.OrderLine.{OrderLine}
-use Rattle.sc_cmd.specs.declared.orders.OrderResult.{OrderResult}
+use Rattle.sc_words.specs.declared.commands.links.Route.{Route}
+use Rattle.sc_words.specs.declared.commands.orders.OrderLine.{OrderLine}
+use Rattle.sc_words.specs.declared.commands.orders.OrderResult.{OrderResult}
 use Rattle.sc_mail.specs.declared.bodies.Mail.{Mail}
 use Rattle.sc_mail.specs.declared.bodies.MailBody.{MailBody}
 use Rattle.sc_mail.specs.declared.bodies.MailBody.TheVariants.{Told as TellsOrder}
@@ -13,16 +13,16 @@ use Rattle.sc_actor.specs.Mail.{is_delivery, mails}
 use Rattle.sc_actor.specs.Walk.{skipped, is_quiet}
 use Rattle.sc_node_table.specs.Slots.{numbers_from}
 use Rattle.sc_node_table.specs.Replica.{either}
-use Rattle.sc_report.specs.declared.summaries.Summary.{Summary}
-use Rattle.sc_scenario.specs.declared.scenarios.Scenario.{Scenario}
-use Rattle.sc_scenario.specs.declared.scenarios.SchedLine.{SchedLine}
-use Rattle.sc_scenario.specs.declared.scenarios.SchedLine.TheVariants.{Told}
-use Rattle.sc_sound.specs.Players.{system_of, schedule, parties, as_nodes}
-use Rattle.sc_sound.specs.Summary.{asked_by}
-use Rattle.sc_log_entries.specs.declared.Cut.{Cut}
-use Rattle.sc_log_entries.specs.Worlds.{StoreWorld, named_group}
-use Rattle.sc_sound.specs.GroupsOf.{world_at}
-use Rattle.sc_chance.specs.Words.{two_words}
+use Rattle.sc_scenario.specs.declared.report.summaries.Summary.{Summary}
+use Rattle.sc_scenario.specs.declared.scenario.scenarios.Scenario.{Scenario}
+use Rattle.sc_scenario.specs.declared.scenario.scenarios.SchedLine.{SchedLine}
+use Rattle.sc_scenario.specs.declared.scenario.scenarios.SchedLine.TheVariants.{Told}
+use Rattle.sc_meaning.specs.sound.Players.{system_of, schedule, parties, as_nodes}
+use Rattle.sc_meaning.specs.sound.Summary.{asked_by}
+use Rattle.sc_meaning.specs.declared.entries.Cut.{Cut}
+use Rattle.sc_meaning.specs.entries.Worlds.{StoreWorld, named_group}
+use Rattle.sc_meaning.specs.sound.GroupsOf.{world_at}
+use Rattle.sc_texts.specs.chance.Words.{two_words}
 
 -- the result that a mail reports of the order with a number, if it reports one
 abbrev pub reported_in_mail : ℕ → MailBody → Option OrderResult

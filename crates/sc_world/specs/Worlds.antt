@@ -1,15 +1,15 @@
 -- What a world stands for, and what it holds.
 use Rattle.std.specs.Prelude.{◌≡◌, ℕ, ◌<◌, ◌^◌, Bool, List, length}
-use Rattle.sc_cmd.specs.declared.orders.OrderLine.{OrderLine}
+use Rattle.sc_words.specs.declared.commands.orders.OrderLine.{OrderLine}
 use Rattle.sc_mail.specs.declared.bodies.Mail.{Mail}
 use Rattle.sc_actor.specs.declared.rows.Row.{Row}
 use Rattle.sc_actor.specs.Mail.{mails}
 use Rattle.sc_actor.specs.Walk.{skipped, is_quiet}
-use Rattle.sc_scenario.specs.declared.scenarios.Scenario.{Scenario}
-use Rattle.sc_sound.specs.Players.{system_of, schedule, Lawful, parties, Player, as_nodes}
-use Rattle.sc_sound.specs.Soundness.{IsSoundThroughout}
+use Rattle.sc_scenario.specs.declared.scenario.scenarios.Scenario.{Scenario}
+use Rattle.sc_meaning.specs.sound.Players.{system_of, schedule, Lawful, parties, Player, as_nodes}
+use Rattle.sc_meaning.specs.sound.Soundness.{IsSoundThroughout}
 use Rattle.sc_law_refusal.specs.refusal.Journals.{RefusesWithCause}
-use Rattle.sc_chance.specs.Words.{two_words}
+use Rattle.sc_texts.specs.chance.Words.{two_words}
 
 -- a scenario, and rows of it
 pub record Standing : Type 0 where

@@ -3,16 +3,16 @@ ghost use Rattle.std.specs.Prelude.{◌≡◌, ◌<◌, ◌≤◌, ◌^◌, ◌+
 ghost use Rattle.std.specs.List.{flat_map};
 ghost use Rattle.sc_actor.specs.Mail.{is_delivery, mails};
 ghost use Rattle.sc_base.specs.Limits.{most_requests};
-ghost use Rattle.sc_sound.specs.Summary.{asked_by, asked_from, asked_after, got_of};
+ghost use Rattle.sc_meaning.specs.sound.Summary.{asked_by, asked_from, asked_after, got_of};
 
 use crate::party::Party;
 use sc_actor::{Event, Row, Seat};
 use sc_base::{Dup, Op, OutOfMemory, Sequence};
 use sc_client::ClientCore;
-use sc_cmd::OrderLine;
 use sc_mail::Mail;
-use sc_report::{Asked, Progress};
-use sc_sound::got_by;
+use sc_meaning::got_by;
+use sc_scenario::{Asked, Progress};
+use sc_words::OrderLine;
 use std::alloc::Global;
 
 fn got_at(alloc: Global, client: &ClientCore, i: usize, seq: u32) -> Result<Progress, OutOfMemory>

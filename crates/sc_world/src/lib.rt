@@ -9,14 +9,14 @@ mod orders;
 mod party;
 mod replaying;
 mod seating;
-mod summing;
 mod shown;
+mod summing;
 mod worlds;
 
 pub use laws::valid_scenarios_can_play;
 pub use party::Party;
 pub use replaying::{ReplayError, replay_rows};
 pub use seating::{MOST_ACTOR, births, has_few_requests, schedule};
-pub use summing::{sum_up, summary};
 pub use shown::{decided_log, decided_ring, effective, history};
+pub use summing::{sum_up, summary};
 pub use worlds::World;

@@ -6,9 +6,9 @@ ghost use Rattle.sc_world.specs.Summary.{is_order, reported_in_mail, reported_of
 
 use sc_actor::Row;
 use sc_base::{OutOfMemory, Sequence};
-use sc_cmd::{OrderLine, OrderResult};
 use sc_mail::{Mail, MailBody};
 use sc_scenario::SchedLine;
+use sc_words::{OrderLine, OrderResult};
 use std::alloc::Global;
 
 fn is_order(line: &SchedLine) -> bool

@@ -2,12 +2,12 @@
 //! is not lawful.
 ghost use Rattle.std.specs.Prelude.{◌<◌, ◌^◌, length, IfOk, MatchResult};
 ghost use Rattle.sc_actor.specs.Mail.{mails};
-ghost use Rattle.sc_scenario.specs.Valid.{IsValid};
-ghost use Rattle.sc_replay.specs.Replays.{IsReplayed};
-ghost use Rattle.sc_sound.specs.Players.{system_of, schedule, as_nodes};
+ghost use Rattle.sc_scenario.specs.scenario.Valid.{IsValid};
+ghost use Rattle.sc_world_replay.specs.Replays.{IsReplayed};
+ghost use Rattle.sc_meaning.specs.sound.Players.{system_of, schedule, as_nodes};
 ghost use Rattle.sc_world.specs.Replays.{IsReplayError};
 ghost use Rattle.sc_world.specs.Worlds.{StandsFor};
-ghost use Rattle.sc_chance.specs.Words.{two_words};
+ghost use Rattle.sc_texts.specs.chance.Words.{two_words};
 
 use crate::counting::parties_of;
 use crate::laws::valid_scenarios_can_play;
@@ -16,12 +16,12 @@ use crate::seating::{births, schedule};
 use crate::worlds::World;
 use sc_actor::{Journal, Row};
 use sc_base::OutOfMemory;
-use sc_cmd::OrderLine;
 use sc_law_groups::valid_journals_are_sound;
 use sc_law_refusal::valid_journals_refuse_with_cause;
 use sc_mail::Mail;
-use sc_replay::{Verdict, replay};
 use sc_scenario::Scenario;
+use sc_words::OrderLine;
+use sc_world_replay::{Verdict, replay};
 use std::alloc::Global;
 
 /// Why rows are not replayed.

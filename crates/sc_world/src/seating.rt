@@ -3,16 +3,16 @@ ghost use Rattle.std.specs.Prelude.{◌≡◌, ◌≤◌, ◌↔◌, IsTrue, tru
 ghost use Rattle.sc_base.specs.Limits.{most_requests};
 ghost use Rattle.sc_node_table.specs.Slots.{numbers_from};
 ghost use Rattle.sc_node_table.specs.Node.{are_in_order};
-ghost use Rattle.sc_sound.specs.Players.{births, schedule, node_seat, client_seat, client_seats, route_of, line_of, AreFew, as_nodes};
+ghost use Rattle.sc_meaning.specs.sound.Players.{births, schedule, node_seat, client_seat, client_seats, route_of, line_of, AreFew, as_nodes};
 
 use crate::party::Party;
 use sc_actor::{Line, Seat};
 use sc_base::{Dup, MOST_CLIENTS, MOST_NODES, MOST_REQUESTS, OutOfMemory, Sequence};
 use sc_client::ClientCore;
-use sc_cmd::{Base, OrderLine, Route};
 use sc_mail::client_number;
 use sc_node::NodeCore;
 use sc_scenario::{Asks, Scenario, SchedLine};
+use sc_words::{Base, OrderLine, Route};
 use std::alloc::Global;
 
 /// The greatest number of an actor: that of the last client.

@@ -3,23 +3,22 @@
 //! what an actor holds.
 ghost use Rattle.std.specs.Prelude.{◌≡◌, IfOk};
 ghost use Rattle.std.specs.Option.{option_map};
-ghost use Rattle.sc_machine_table.specs.Group.{base_of};
-ghost use Rattle.sc_log_entries.specs.Effective.{effective};
-ghost use Rattle.sc_log_entries.specs.Rings.{Covers};
-ghost use Rattle.sc_log_entries.specs.Worlds.{CoverThroughout};
-ghost use Rattle.sc_ideal.specs.History.{Legal};
-ghost use Rattle.sc_sound.specs.Players.{as_nodes};
-ghost use Rattle.sc_sound.specs.GroupsOf.{entries_at, log_at, ring_at, history_at, world_at};
+ghost use Rattle.sc_group_table.specs.machine.Group.{base_of};
+ghost use Rattle.sc_meaning.specs.entries.Effective.{effective};
+ghost use Rattle.sc_meaning.specs.entries.Rings.{Covers};
+ghost use Rattle.sc_meaning.specs.entries.Worlds.{CoverThroughout};
+ghost use Rattle.sc_words.specs.ideal.History.{Legal};
+ghost use Rattle.sc_meaning.specs.sound.Players.{as_nodes};
+ghost use Rattle.sc_meaning.specs.sound.GroupsOf.{entries_at, log_at, ring_at, history_at, world_at};
 
 use crate::worlds::World;
 use sc_actor::Row;
 use sc_base::{Draw, OutOfMemory};
-use sc_cmd::{Base, Command, OrderLine};
-use sc_decided::{entries_of, log_at};
-use sc_ideal::Entry;
-use sc_log_entries::Cut;
 use sc_mail::Mail;
-use sc_store_world::{StoreWorld, world_of};
+use sc_meaning::Cut;
+use sc_words::{Base, Command, Entry, OrderLine};
+use sc_world_entries::{entries_of, log_at};
+use sc_world_groups::{StoreWorld, world_of};
 use std::alloc::Global;
 
 /// Returns what the entries of rows make of the groups of a scenario. The ring has to cover after

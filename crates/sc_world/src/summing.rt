@@ -3,12 +3,12 @@ ghost use Rattle.std.specs.Prelude.{◌≡◌, ◌<◌, ◌≤◌, ◌^◌, leng
 ghost use Rattle.std.specs.Option.{option_to_list};
 ghost use Rattle.sc_actor.specs.Mail.{mails};
 ghost use Rattle.sc_actor.specs.Walk.{is_quiet, skipped};
-ghost use Rattle.sc_log_entries.specs.Worlds.{CoverThroughout};
-ghost use Rattle.sc_sound.specs.Players.{system_of, schedule, parties, as_nodes};
-ghost use Rattle.sc_sound.specs.GroupsOf.{entries_at, world_at};
-ghost use Rattle.sc_sound.specs.Soundness.{IsSoundThroughout};
+ghost use Rattle.sc_meaning.specs.entries.Worlds.{CoverThroughout};
+ghost use Rattle.sc_meaning.specs.sound.Players.{system_of, schedule, parties, as_nodes};
+ghost use Rattle.sc_meaning.specs.sound.GroupsOf.{entries_at, world_at};
+ghost use Rattle.sc_meaning.specs.sound.Soundness.{IsSoundThroughout};
 ghost use Rattle.sc_world.specs.Summary.{cut_route, place_in, placed, ring_lines, summary_of};
-ghost use Rattle.sc_chance.specs.Words.{two_words};
+ghost use Rattle.sc_texts.specs.chance.Words.{two_words};
 
 use crate::counting::{all_asked, deliveries, mail_count};
 use crate::orders::{order_count, reported_orders};
@@ -17,12 +17,11 @@ use crate::shown::store_world;
 use crate::worlds::World;
 use sc_actor::{Journal, Row};
 use sc_base::{OutOfMemory, Sequence};
-use sc_cmd::{Base, OrderLine, Route};
-use sc_log_entries::Cut;
 use sc_mail::Mail;
-use sc_report::Summary;
-use sc_scenario::Scenario;
-use sc_store_world::StoreWorld;
+use sc_meaning::Cut;
+use sc_scenario::{Scenario, Summary};
+use sc_words::{Base, OrderLine, Route};
+use sc_world_groups::StoreWorld;
 use std::alloc::Global;
 
 // Returns the report's line of a range, if its group is there.

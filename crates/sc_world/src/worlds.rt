@@ -1,16 +1,16 @@
 //! What a journal of a scenario leaves.
 ghost use Rattle.std.specs.Prelude.{◌≡◌};
-ghost use Rattle.sc_sound.specs.Players.{parties, as_nodes, Lawful};
-ghost use Rattle.sc_sound.specs.Soundness.{IsSoundThroughout};
+ghost use Rattle.sc_meaning.specs.sound.Players.{parties, as_nodes, Lawful};
+ghost use Rattle.sc_meaning.specs.sound.Soundness.{IsSoundThroughout};
 ghost use Rattle.sc_law_refusal.specs.refusal.Journals.{RefusesWithCause};
-ghost use Rattle.sc_chance.specs.Words.{two_words};
+ghost use Rattle.sc_texts.specs.chance.Words.{two_words};
 
 use crate::party::Party;
 use sc_actor::Journal;
 use sc_base::Sequence;
-use sc_cmd::OrderLine;
 use sc_mail::Mail;
 use sc_scenario::Scenario;
+use sc_words::OrderLine;
 use std::marker::Model;
 
 /// The replay of a lawful journal of a scenario: the nodes and then the clients as their rows leave

@@ -3,8 +3,8 @@
 
 use sc_actor::Gate;
 use sc_base::OutOfMemory;
-use sc_edges::{StdSink, StdSource};
 pub use sc_run::{Done, Text, run};
+use sc_texts::{StdSink, StdSource};
 use std::process::ExitCode;
 use std::{env, io};
 

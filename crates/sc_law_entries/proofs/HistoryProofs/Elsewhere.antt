@@ -5,13 +5,13 @@ use Rattle.std.specs.Option.{option_map, option_and_then}
 use Rattle.std.proofs.lemmas.Option.{same_Some}
 use Rattle.sc_base.specs.Definitions.{Arc}
 use Rattle.sc_base.specs.declared.names.Draw.{Draw}
-use Rattle.sc_cmd.specs.declared.commands.Command.{Command}
-use Rattle.sc_cmd.specs.declared.effects.Effect.{Effect}
-use Rattle.sc_machine_table.specs.Definitions.{Group}
-use Rattle.sc_log_entries.specs.Definitions.{birth_of, effective_by, arc_in, StoreWorld, groups_after, named_group, with_group, with_result}
-use Rattle.sc_log_entries.specs.declared.Transaction.{Transaction}
+use Rattle.sc_words.specs.declared.commands.commands.Command.{Command}
+use Rattle.sc_words.specs.declared.commands.effects.Effect.{Effect}
+use Rattle.sc_group_table.specs.machine.Definitions.{Group}
+use Rattle.sc_meaning.specs.entries.Definitions.{birth_of, effective_by, arc_in, StoreWorld, groups_after, named_group, with_group, with_result}
+use Rattle.sc_meaning.specs.declared.entries.Transaction.{Transaction}
 use Rattle.sc_law_entries.specs.history.Definitions.{Holding, holding_of, HasKnownTable, holdings_in}
-use Rattle.sc_log_entries.proofs.Lemmas.{found_name, draw_cases}
+use Rattle.sc_meaning.proofs.EntriesProofs.Lemmas.{found_name, draw_cases}
 use Rattle.sc_law_entries.proofs.HistoryProofs.Found.{found_now, found_still}
 
 -- what a group holds by the decisions of these transactions

@@ -6,17 +6,17 @@ use Rattle.std.proofs.lemmas.Bool.{cond_both}
 use Rattle.sc_base.specs.Definitions.{same_draw, united}
 use Rattle.sc_base.specs.declared.names.Draw.{Draw}
 use Rattle.sc_base.proofs.Lemmas.{draw_is}
-use Rattle.sc_cmd.specs.declared.bodies.Offer.{Offer}
-use Rattle.sc_cmd.specs.declared.commands.Command.TheVariants.{Finish}
-use Rattle.sc_cmd.specs.declared.cores.Lock.{Lock}
-use Rattle.sc_cmd.specs.declared.cores.Lock.TheVariants.{Free, Coordinating, Promised, Watching}
-use Rattle.sc_cmd.specs.declared.effects.Effect.{Effect}
-use Rattle.sc_cmd.specs.declared.effects.Effect.TheVariants.{NoEffect}
-use Rattle.sc_cmd.specs.declared.votes.Gift.{Gift}
-use Rattle.sc_cmd.specs.declared.votes.Outcome.{Outcome}
-use Rattle.sc_cmd.specs.declared.votes.Outcome.TheVariants.{Abort, Merged, Moved, Migrated, Divided}
-use Rattle.sc_machine_table.specs.Definitions.{Group, can_gain, finished, gained_group, lost_group, participant_after, settled_in, watch_ended, welcomed_group, applied, locked_in, can_cut, has_key_of}
-use Rattle.sc_log_entries.specs.Definitions.{decision, after_outcome, effective_by, is_commit, StoreWorld, named_group, with_result}
+use Rattle.sc_words.specs.declared.commands.bodies.Offer.{Offer}
+use Rattle.sc_words.specs.declared.commands.commands.Command.TheVariants.{Finish}
+use Rattle.sc_words.specs.declared.commands.cores.Lock.{Lock}
+use Rattle.sc_words.specs.declared.commands.cores.Lock.TheVariants.{Free, Coordinating, Promised, Watching}
+use Rattle.sc_words.specs.declared.commands.effects.Effect.{Effect}
+use Rattle.sc_words.specs.declared.commands.effects.Effect.TheVariants.{NoEffect}
+use Rattle.sc_words.specs.declared.commands.votes.Gift.{Gift}
+use Rattle.sc_words.specs.declared.commands.votes.Outcome.{Outcome}
+use Rattle.sc_words.specs.declared.commands.votes.Outcome.TheVariants.{Abort, Merged, Moved, Migrated, Divided}
+use Rattle.sc_group_table.specs.machine.Definitions.{Group, can_gain, finished, gained_group, lost_group, participant_after, settled_in, watch_ended, welcomed_group, applied, locked_in, can_cut, has_key_of}
+use Rattle.sc_meaning.specs.entries.Definitions.{decision, after_outcome, effective_by, is_commit, StoreWorld, named_group, with_result}
 use Rattle.sc_law_entries.specs.history.Definitions.{RequestOf, holding_of, MayFinish, HasKnownTable}
 use Rattle.sc_law_entries.proofs.HistoryProofs.Elsewhere.{held_by, held_some, here, same_table}
 use Rattle.sc_law_entries.proofs.HistoryProofs.Finishing.{free_held, watching_held}

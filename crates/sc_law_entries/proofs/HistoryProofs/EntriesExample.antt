@@ -10,14 +10,14 @@ use Rattle.std.proofs.lemmas.Option.{same_Some}
 use Rattle.sc_base.specs.Definitions.{IsArc, holds, offset}
 use Rattle.sc_base.specs.declared.ops.Noted.{Noted}
 use Rattle.sc_base.specs.declared.ops.Reply.{Reply}
-use Rattle.sc_cmd.specs.declared.commands.Command.TheVariants.{Call, Split}
-use Rattle.sc_cmd.specs.declared.effects.Effect.{Effect}
-use Rattle.sc_cmd.specs.declared.effects.Effect.TheVariants.{Changed}
-use Rattle.sc_ideal.specs.Definitions.{Legal}
-use Rattle.sc_machine_table.specs.Definitions.{Group, group_of, applied, done, served_by_note, child_of, left_group}
-use Rattle.sc_machine_table.proofs.Lemmas.{clients_again}
-use Rattle.sc_log_entries.specs.declared.Cut.{Cut}
-use Rattle.sc_log_entries.specs.Definitions.{Covers, first_cut, StoreWorld, first_world, told, with_result, world_after, world_of}
+use Rattle.sc_words.specs.declared.commands.commands.Command.TheVariants.{Call, Split}
+use Rattle.sc_words.specs.declared.commands.effects.Effect.{Effect}
+use Rattle.sc_words.specs.declared.commands.effects.Effect.TheVariants.{Changed}
+use Rattle.sc_words.specs.ideal.Definitions.{Legal}
+use Rattle.sc_group_table.specs.machine.Definitions.{Group, group_of, applied, done, served_by_note, child_of, left_group}
+use Rattle.sc_group_table.proofs.MachineProofs.Lemmas.{clients_again}
+use Rattle.sc_meaning.specs.declared.entries.Cut.{Cut}
+use Rattle.sc_meaning.specs.entries.Definitions.{Covers, first_cut, StoreWorld, first_world, told, with_result, world_after, world_of}
 use Rattle.sc_law_entries.specs.history.Definitions.{ExampleOfEntries, answers_with, example_log, get_a, get_entry, lone_base, offspring, put_a, put_entry, split_entry, two_requests, AllMayBeApplied, MayBeTold, MayCall, MaySplit, BeginBare, BeginsBare}
 use Rattle.sc_law_entries.proofs.HistoryProofs.Entries.{entries_report}
 

@@ -6,11 +6,11 @@ use Rattle.std.proofs.lemmas.Bool.{cond-true, cond-false}
 use Rattle.sc_base.specs.Definitions.{same_draw}
 use Rattle.sc_base.specs.declared.names.Draw.{Draw}
 use Rattle.sc_base.proofs.Lemmas.{same_name}
-use Rattle.sc_cmd.specs.declared.commands.Command.{Command}
-use Rattle.sc_machine_table.specs.Definitions.{Group, group_of, state_after, applied}
-use Rattle.sc_log_entries.specs.Definitions.{birth_of, StoreWorld, after_command, first_world, named_group, told, with_group, world_of}
-use Rattle.sc_log_entries.specs.declared.LogEntry.{LogEntry}
-use Rattle.sc_log_entries.proofs.Lemmas.{world_append, found_name, other_name, draw_cases}
+use Rattle.sc_words.specs.declared.commands.commands.Command.{Command}
+use Rattle.sc_group_table.specs.machine.Definitions.{Group, group_of, state_after, applied}
+use Rattle.sc_meaning.specs.entries.Definitions.{birth_of, StoreWorld, after_command, first_world, named_group, told, with_group, world_of}
+use Rattle.sc_meaning.specs.declared.entries.LogEntry.{LogEntry}
+use Rattle.sc_meaning.proofs.EntriesProofs.Lemmas.{world_append, found_name, other_name, draw_cases}
 use Rattle.sc_law_entries.specs.history.Definitions.{PrefixesAnswerByHistory, LogsMakeStates, log_in}
 use Rattle.sc_law_entries.proofs.HistoryProofs.Divisions.{found_left}
 use Rattle.sc_law_entries.proofs.HistoryProofs.Found.{found_now, found_still}

@@ -7,14 +7,14 @@ use Rattle.std.proofs.lemmas.Option.{same_Some}
 use Rattle.sc_base.specs.Definitions.{same_draw}
 use Rattle.sc_base.specs.declared.names.Draw.{Draw}
 use Rattle.sc_base.proofs.Lemmas.{draw_is, same_name}
-use Rattle.sc_cmd.specs.declared.commands.Command.TheVariants.{Finish}
-use Rattle.sc_cmd.specs.declared.cores.Lock.{Lock}
-use Rattle.sc_cmd.specs.declared.cores.Lock.TheVariants.{Free, Coordinating, Promised, Watching}
-use Rattle.sc_cmd.specs.declared.votes.Outcome.{Outcome}
-use Rattle.sc_cmd.specs.declared.votes.Outcome.TheVariants.{Abort}
-use Rattle.sc_machine_table.specs.Definitions.{Group, applied, locked_in}
-use Rattle.sc_log_entries.specs.declared.Transaction.{Transaction}
-use Rattle.sc_log_entries.specs.Definitions.{amended, concluded, decision, is_of, transaction_in, with_outcome, with_watcher, after_outcome, effective_by, is_commit}
+use Rattle.sc_words.specs.declared.commands.commands.Command.TheVariants.{Finish}
+use Rattle.sc_words.specs.declared.commands.cores.Lock.{Lock}
+use Rattle.sc_words.specs.declared.commands.cores.Lock.TheVariants.{Free, Coordinating, Promised, Watching}
+use Rattle.sc_words.specs.declared.commands.votes.Outcome.{Outcome}
+use Rattle.sc_words.specs.declared.commands.votes.Outcome.TheVariants.{Abort}
+use Rattle.sc_group_table.specs.machine.Definitions.{Group, applied, locked_in}
+use Rattle.sc_meaning.specs.declared.entries.Transaction.{Transaction}
+use Rattle.sc_meaning.specs.entries.Definitions.{amended, concluded, decision, is_of, transaction_in, with_outcome, with_watcher, after_outcome, effective_by, is_commit}
 
 -- the commit in what was decided, if it is one
 abbrev pub commit_in : Option Outcome → Option Outcome

@@ -11,15 +11,15 @@ use Rattle.std.proofs.lemmas.Bool.{and_parts, eq-eqb, eqb-false, eqb-true, le-le
 use Rattle.sc_base.specs.Definitions.{Arc, CanCut, CanJoin, IsArc, before, end_of, from, holds, offset, pos_of, united}
 use Rattle.sc_base.specs.declared.names.Draw.{Draw}
 use Rattle.sc_base.proofs.Lemmas.{cuts_join, joins_hold, same_name}
-use Rattle.sc_cmd.specs.declared.bodies.Offer.{Offer}
-use Rattle.sc_cmd.specs.declared.cores.Lock.TheVariants.{Promised}
-use Rattle.sc_cmd.specs.declared.effects.Effect.TheVariants.{NoEffect}
-use Rattle.sc_cmd.specs.declared.votes.Outcome.{Outcome}
-use Rattle.sc_cmd.specs.declared.votes.Outcome.TheVariants.{Moved, Migrated}
-use Rattle.sc_ideal.specs.Definitions.{Contents, holds_key, part_of}
-use Rattle.sc_ideal.proofs.Lemmas.{get-part}
-use Rattle.sc_machine_table.specs.Definitions.{can_gain, finished, gained_group, lost_group, participant_after, settled_in, welcomed_group, Group, can_cut, can_join, has_key_of, part_gift}
-use Rattle.sc_log_entries.specs.Definitions.{after_outcome}
+use Rattle.sc_words.specs.declared.commands.bodies.Offer.{Offer}
+use Rattle.sc_words.specs.declared.commands.cores.Lock.TheVariants.{Promised}
+use Rattle.sc_words.specs.declared.commands.effects.Effect.TheVariants.{NoEffect}
+use Rattle.sc_words.specs.declared.commands.votes.Outcome.{Outcome}
+use Rattle.sc_words.specs.declared.commands.votes.Outcome.TheVariants.{Moved, Migrated}
+use Rattle.sc_words.specs.ideal.Definitions.{Contents, holds_key, part_of}
+use Rattle.sc_words.proofs.IdealProofs.Lemmas.{get-part}
+use Rattle.sc_group_table.specs.machine.Definitions.{can_gain, finished, gained_group, lost_group, participant_after, settled_in, welcomed_group, Group, can_cut, can_join, has_key_of, part_gift}
+use Rattle.sc_meaning.specs.entries.Definitions.{after_outcome}
 use Rattle.sc_law_entries.specs.history.Definitions.{holding_of, part_from, with_previous}
 use Rattle.sc_law_entries.proofs.HistoryProofs.PlanHoldings.{plans_move}
 

@@ -4,10 +4,10 @@ use Rattle.std.proofs.lemmas.Bool.{cond-true, cond-false}
 use Rattle.std.specs.FinMap.{empty, entries}
 use Rattle.sc_base.specs.Definitions.{Arc, before, from, holds, joined}
 use Rattle.sc_base.specs.declared.names.Draw.{Draw}
-use Rattle.sc_cmd.specs.declared.bodies.Offer.{Offer}
-use Rattle.sc_ideal.specs.Definitions.{ClientTable, joined_with, Contents, part_of, with_pairs}
-use Rattle.sc_machine_table.specs.Definitions.{Group}
-use Rattle.sc_machine_table.proofs.Lemmas.{clients_again, pairs_again}
+use Rattle.sc_words.specs.declared.commands.bodies.Offer.{Offer}
+use Rattle.sc_words.specs.ideal.Definitions.{ClientTable, joined_with, Contents, part_of, with_pairs}
+use Rattle.sc_group_table.specs.machine.Definitions.{Group}
+use Rattle.sc_group_table.proofs.MachineProofs.Lemmas.{clients_again, pairs_again}
 use Rattle.sc_law_entries.specs.history.Definitions.{Holding, DividesHolding, GivesHolding, PlansAreMoves, TakesHolding}
 
 abbrev held : Arc → Contents → ClientTable → Holding

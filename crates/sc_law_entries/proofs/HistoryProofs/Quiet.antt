@@ -1,13 +1,13 @@
 -- What entries leave that divide no group and are of no transaction: cuts, transactions and births are as they were.
 use Rattle.std.proofs.Common.{◌≡◌, List, None, refl}
-use Rattle.sc_cmd.specs.declared.commands.Command.{Command}
-use Rattle.sc_cmd.specs.declared.commands.Command.TheVariants.{Noop, Call, Join, Leave}
-use Rattle.sc_cmd.specs.declared.cores.Core.{Core}
-use Rattle.sc_cmd.specs.declared.effects.Effect.{Effect}
-use Rattle.sc_machine_table.specs.Definitions.{Group}
-use Rattle.sc_log_entries.specs.Definitions.{birth_of, transactions_after, ring_after}
-use Rattle.sc_log_entries.specs.declared.Cut.{Cut}
-use Rattle.sc_log_entries.specs.declared.Transaction.{Transaction}
+use Rattle.sc_words.specs.declared.commands.commands.Command.{Command}
+use Rattle.sc_words.specs.declared.commands.commands.Command.TheVariants.{Noop, Call, Join, Leave}
+use Rattle.sc_words.specs.declared.commands.cores.Core.{Core}
+use Rattle.sc_words.specs.declared.commands.effects.Effect.{Effect}
+use Rattle.sc_group_table.specs.machine.Definitions.{Group}
+use Rattle.sc_meaning.specs.entries.Definitions.{birth_of, transactions_after, ring_after}
+use Rattle.sc_meaning.specs.declared.entries.Cut.{Cut}
+use Rattle.sc_meaning.specs.declared.entries.Transaction.{Transaction}
 use Rattle.sc_law_entries.specs.history.Definitions.{LeavesWhole}
 
 -- no group is created

@@ -3,29 +3,29 @@ use Rattle.std.proofs.Common.{◌≡◌, ℕ, true, false, List, [], ◌∷◌, 
 use Rattle.std.specs.Prelude.{is_some}
 use Rattle.std.proofs.lemmas.Bool.{cond-false, cond_both}
 use Rattle.sc_base.specs.declared.names.Draw.{Draw}
-use Rattle.sc_cmd.specs.declared.bodies.Body.{Body}
-use Rattle.sc_cmd.specs.declared.bodies.Offer.{Offer}
-use Rattle.sc_cmd.specs.declared.bodies.Watch.{Watch}
-use Rattle.sc_cmd.specs.declared.commands.Command.{Command}
-use Rattle.sc_cmd.specs.declared.commands.Command.TheVariants.{Noop, Join, Leave, Begin, Prepared, GiveUp, Watched}
-use Rattle.sc_cmd.specs.declared.cores.Core.{Core}
-use Rattle.sc_cmd.specs.declared.cores.Lock.{Lock}
-use Rattle.sc_cmd.specs.declared.cores.Lock.TheVariants.{Free, Coordinating, Promised, Watching}
-use Rattle.sc_cmd.specs.declared.effects.Effect.{Effect}
-use Rattle.sc_cmd.specs.declared.effects.Effect.TheVariants as Was
-use Rattle.sc_cmd.specs.declared.links.Route.{Route}
-use Rattle.sc_cmd.specs.declared.orders.OrderRefusal.{OrderRefusal}
-use Rattle.sc_cmd.specs.declared.orders.OrderRefusal.TheVariants.{NotLeader}
-use Rattle.sc_cmd.specs.declared.votes.No.{No}
-use Rattle.sc_cmd.specs.declared.votes.Outcome.{Outcome}
-use Rattle.sc_machine_table.specs.Definitions.{Group, entry_of, applied, locked_in, ordered, refusal_of, refused_in, with_node, without_node, has_named, aborted, begun_group, is_coordinating, bound_by, has_voted, no_of, offer_no, past_of, vote_of, voted_on, watch_no, watch_vote_of}
-use Rattle.sc_log_entries.specs.Definitions.{birth_of, begun_transaction, decision, is_commit, arc_in, ring_after, StoreWorld, named_group, with_result}
-use Rattle.sc_log_entries.specs.declared.Transaction.{Transaction}
+use Rattle.sc_words.specs.declared.commands.bodies.Body.{Body}
+use Rattle.sc_words.specs.declared.commands.bodies.Offer.{Offer}
+use Rattle.sc_words.specs.declared.commands.bodies.Watch.{Watch}
+use Rattle.sc_words.specs.declared.commands.commands.Command.{Command}
+use Rattle.sc_words.specs.declared.commands.commands.Command.TheVariants.{Noop, Join, Leave, Begin, Prepared, GiveUp, Watched}
+use Rattle.sc_words.specs.declared.commands.cores.Core.{Core}
+use Rattle.sc_words.specs.declared.commands.cores.Lock.{Lock}
+use Rattle.sc_words.specs.declared.commands.cores.Lock.TheVariants.{Free, Coordinating, Promised, Watching}
+use Rattle.sc_words.specs.declared.commands.effects.Effect.{Effect}
+use Rattle.sc_words.specs.declared.commands.effects.Effect.TheVariants as Was
+use Rattle.sc_words.specs.declared.commands.links.Route.{Route}
+use Rattle.sc_words.specs.declared.commands.orders.OrderRefusal.{OrderRefusal}
+use Rattle.sc_words.specs.declared.commands.orders.OrderRefusal.TheVariants.{NotLeader}
+use Rattle.sc_words.specs.declared.commands.votes.No.{No}
+use Rattle.sc_words.specs.declared.commands.votes.Outcome.{Outcome}
+use Rattle.sc_group_table.specs.machine.Definitions.{Group, entry_of, applied, locked_in, ordered, refusal_of, refused_in, with_node, without_node, has_named, aborted, begun_group, is_coordinating, bound_by, has_voted, no_of, offer_no, past_of, vote_of, voted_on, watch_no, watch_vote_of}
+use Rattle.sc_meaning.specs.entries.Definitions.{birth_of, begun_transaction, decision, is_commit, arc_in, ring_after, StoreWorld, named_group, with_result}
+use Rattle.sc_meaning.specs.declared.entries.Transaction.{Transaction}
 use Rattle.sc_law_entries.specs.history.Definitions.{RequestOf, Unmoved, holding_of, HasKnownTable, IsMoveTo, IsUncommitted}
 use Rattle.sc_law_entries.proofs.HistoryProofs.Elsewhere.{elsewhere, held_by, itself, same_table, tables_from}
 use Rattle.sc_law_entries.proofs.HistoryProofs.Finishing.{coordinator_held, free_held, promised_held, votes_held, watching_held, with_votes}
 use Rattle.sc_law_entries.proofs.HistoryProofs.Outcomes.{abort_concluded, commit_in, one_begun, same_party}
-use Rattle.sc_log_entries.proofs.Lemmas.{draw_cases}
+use Rattle.sc_meaning.proofs.EntriesProofs.Lemmas.{draw_cases}
 
 -- ---- what is decided, by commits
 

@@ -4,9 +4,9 @@ use Rattle.std.proofs.Common.{◌≡◌, ℕ, ◌≤◌, List, Option, Some, Non
 use Rattle.std.proofs.lemmas.Bool.{cases_Bool, cond-true, cond-false, ltb-true, ltb-false}
 use Rattle.std.specs.FinMap.{get, entries}
 use Rattle.sc_base.specs.declared.ops.Noted.{Noted}
-use Rattle.sc_ideal.specs.Definitions.{ClientTable, joined_with, later}
-use Rattle.sc_ideal.specs.declared.Entry.{Entry}
-use Rattle.sc_ideal.proofs.Lemmas.{joined_by_number}
+use Rattle.sc_words.specs.ideal.Definitions.{ClientTable, joined_with, later}
+use Rattle.sc_words.specs.declared.ideal.Entry.{Entry}
+use Rattle.sc_words.proofs.IdealProofs.Lemmas.{joined_by_number}
 use Rattle.sc_law_entries.specs.history.Definitions.{IsNotedIn, HasNotes}
 use Rattle.std.proofs.lemmas.Option.{none-some, same_Some}
 

@@ -1,17 +1,17 @@
 -- What was allowed stays allowed with more rows, and what an entry of a log makes allowed is allowed in the journal.
 use Rattle.std.proofs.Common.{◌≡◌, List, [], ◌∷◌, ◌++◌, Some, inl, inr, refl, sym, ◌∙◌, ap, subst, append_assoc}
 use Rattle.sc_base.specs.declared.names.Draw.{Draw}
-use Rattle.sc_cmd.specs.declared.commands.Command.{Command}
-use Rattle.sc_cmd.specs.declared.cores.Base.{Base}
-use Rattle.sc_machine_table.specs.Definitions.{Group, group_of, state_after, applied}
-use Rattle.sc_log_entries.specs.declared.LogEntry.{LogEntry}
-use Rattle.sc_log_entries.specs.Definitions.{StoreWorld, first_world, named_group, world_of}
-use Rattle.sc_log_entries.proofs.Lemmas.{world_append, draw_cases}
+use Rattle.sc_words.specs.declared.commands.commands.Command.{Command}
+use Rattle.sc_words.specs.declared.commands.cores.Base.{Base}
+use Rattle.sc_group_table.specs.machine.Definitions.{Group, group_of, state_after, applied}
+use Rattle.sc_meaning.specs.declared.entries.LogEntry.{LogEntry}
+use Rattle.sc_meaning.specs.entries.Definitions.{StoreWorld, first_world, named_group, world_of}
+use Rattle.sc_meaning.proofs.EntriesProofs.Lemmas.{world_append, draw_cases}
 use Rattle.sc_law_entries.specs.history.Definitions.{log_in}
 use Rattle.sc_law_entries.proofs.HistoryProofs.Lemmas.{heads, logs_make_states, other_first, own_first, parts_at}
 use Rattle.sc_law_entries.specs.ring.Definitions.{Sources, IsAllowed, AreAllowed, StoryWorld, first_recorded, recorded_stories, recorded_next, recorded_after, BeginInPlace, stories_of, stories_after}
 use Rattle.sc_law_entries.proofs.RingProofs.Lemmas.{allowed_entries_stay_allowed, entries_keep_the_promises, store_after}
-use Rattle.sc_sound.specs.Definitions.{entries_by_rows, entries_at}
+use Rattle.sc_meaning.specs.sound.Definitions.{entries_by_rows, entries_at}
 use Rattle.sc_law_entries.specs.logs.Definitions.{MakesAllowed, AllowedStaysAllowed, PrefixesAllow, StatesAllow}
 use Rattle.sc_law_entries.proofs.LogsProofs.Births.{recorded_append}
 use Rattle.sc_law_entries.proofs.LogsProofs.Generations.{group_found}

@@ -3,19 +3,19 @@ use Rattle.std.proofs.Common.{◌≡◌, ℕ, ◌+◌, List, [], ◌∷◌, ◌+
 use Rattle.std.specs.Option.{option_map, option_to_list}
 use Rattle.sc_base.specs.Definitions.{Among}
 use Rattle.sc_base.specs.declared.names.Draw.{Draw}
-use Rattle.sc_cmd.specs.declared.commands.Command.{Command}
-use Rattle.sc_cmd.specs.declared.cores.Base.{Base}
-use Rattle.sc_cmd.specs.declared.effects.Effect.{Effect}
+use Rattle.sc_words.specs.declared.commands.commands.Command.{Command}
+use Rattle.sc_words.specs.declared.commands.cores.Base.{Base}
+use Rattle.sc_words.specs.declared.commands.effects.Effect.{Effect}
 use Rattle.sc_paxos_law.proofs.Lemmas.{Among-right}
-use Rattle.sc_machine_table.specs.Definitions.{Group, group_of, state_after, entry_of, done_by, applied, child_of}
-use Rattle.sc_log_entries.specs.Definitions.{birth_of, division_of, StoreWorld, after_command, named_group, told, world_after}
-use Rattle.sc_log_entries.specs.declared.Division.{Division}
-use Rattle.sc_log_entries.specs.declared.LogEntry.{LogEntry}
+use Rattle.sc_group_table.specs.machine.Definitions.{Group, group_of, state_after, entry_of, done_by, applied, child_of}
+use Rattle.sc_meaning.specs.entries.Definitions.{birth_of, division_of, StoreWorld, after_command, named_group, told, world_after}
+use Rattle.sc_meaning.specs.declared.entries.Division.{Division}
+use Rattle.sc_meaning.specs.declared.entries.LogEntry.{LogEntry}
 use Rattle.sc_law_entries.proofs.HistoryProofs.Lemmas.{logs_make_states, applied_same}
 use Rattle.sc_law_entries.specs.ring.Definitions.{Sources, IsAllowed, AreAllowed, StoryWorld, recorded_next, recorded_after, put, Groups}
 use Rattle.sc_law_entries.proofs.RingProofs.Lemmas.{at-same, at-other, arcs_in, groups_in, with_child, groups_are, KeptWorld, kept_on, fits, some_none}
-use Rattle.sc_log_entries.proofs.Lemmas.{draw_cases, found_name}
-use Rattle.sc_sound.specs.Definitions.{children_of, entries_from}
+use Rattle.sc_meaning.proofs.EntriesProofs.Lemmas.{draw_cases, found_name}
+use Rattle.sc_meaning.specs.sound.Definitions.{children_of, entries_from}
 use Rattle.sc_law_entries.proofs.LogsProofs.Children.{log_of_own}
 use Rattle.std.proofs.lemmas.Option.{none-some, same_Some}
 

@@ -3,14 +3,14 @@ use Rattle.std.proofs.Common.{◌≡◌, ℕ, ◌+◌, List, [], ◌∷◌, ◌+
 use Rattle.std.specs.Option.{option_to_list}
 use Rattle.sc_base.specs.Definitions.{Among}
 use Rattle.sc_base.specs.declared.names.Draw.{Draw}
-use Rattle.sc_cmd.specs.declared.commands.Command.{Command}
-use Rattle.sc_machine_table.specs.Definitions.{Group, state_after, applied}
-use Rattle.sc_log_entries.specs.Definitions.{birth_of}
-use Rattle.sc_log_entries.specs.declared.LogEntry.{LogEntry}
+use Rattle.sc_words.specs.declared.commands.commands.Command.{Command}
+use Rattle.sc_group_table.specs.machine.Definitions.{Group, state_after, applied}
+use Rattle.sc_meaning.specs.entries.Definitions.{birth_of}
+use Rattle.sc_meaning.specs.declared.entries.LogEntry.{LogEntry}
 use Rattle.sc_law_entries.specs.history.Definitions.{log_in}
 use Rattle.sc_law_entries.proofs.HistoryProofs.Lemmas.{other_first, own_first}
-use Rattle.sc_sound.specs.Definitions.{children_of, entries_from}
-use Rattle.sc_log_entries.proofs.Lemmas.{draw_cases}
+use Rattle.sc_meaning.specs.sound.Definitions.{children_of, entries_from}
+use Rattle.sc_meaning.proofs.EntriesProofs.Lemmas.{draw_cases}
 
 -- the children of two parts of a log
 pub children_append : (group : Group) (log more : List Command) → children_of group (log ++ more) ≡ children_of group log ++ children_of (state_after group log) more

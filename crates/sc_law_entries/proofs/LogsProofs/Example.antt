@@ -1,15 +1,15 @@
 -- The rows of a journal with a split decide in turn, one after another.
 use Rattle.std.proofs.Common.{◌≡◌, List, [], ◌∷◌, ◌++◌, inl, inr, refl, subst, arith}
 use Rattle.sc_base.specs.Definitions.{Among}
-use Rattle.sc_cmd.specs.declared.cores.Base.{Base}
-use Rattle.sc_cmd.specs.declared.orders.OrderLine.{OrderLine}
+use Rattle.sc_words.specs.declared.commands.cores.Base.{Base}
+use Rattle.sc_words.specs.declared.commands.orders.OrderLine.{OrderLine}
 use Rattle.sc_mail.specs.declared.bodies.Mail.{Mail}
 use Rattle.sc_actor.specs.declared.rows.Row.{Row}
-use Rattle.sc_machine_table.specs.Definitions.{group_of, child_of}
+use Rattle.sc_group_table.specs.machine.Definitions.{group_of, child_of}
 use Rattle.sc_law_entries.specs.history.Definitions.{offspring, lone_base}
 use Rattle.sc_law_entries.proofs.HistoryProofs.Lemmas.{example_of_entries}
 use Rattle.sc_law_entries.specs.ring.Definitions.{BeginInPlace, BeginsInPlace}
-use Rattle.sc_sound.specs.Definitions.{four, children_by, decided_log}
+use Rattle.sc_meaning.specs.sound.Definitions.{four, children_by, decided_log}
 use Rattle.sc_law_entries.specs.logs.Definitions.{Rows, IsFound, DecidesInTurn, split_sources, lone_bases, journal_split, put_a_call, offers_split, accepts_split, decides_split, asks_child, offers_put, decides_put, ExampleInTurn}
 use Rattle.sc_law_entries.proofs.LogsProofs.Turns.{TurnFor, in_turn, rests, found_within}
 

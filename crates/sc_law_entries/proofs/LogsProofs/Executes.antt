@@ -6,31 +6,31 @@ use Rattle.std.proofs.lemmas.Bool.{cases_Bool, or_parts}
 use Rattle.sc_base.specs.declared.names.Draw.{Draw}
 use Rattle.sc_base.specs.declared.ops.Op.{Op}
 use Rattle.sc_base.proofs.Lemmas.{draw_is}
-use Rattle.sc_ideal.specs.Definitions.{key_of}
-use Rattle.sc_cmd.specs.declared.bodies.Body.{Body}
-use Rattle.sc_cmd.specs.declared.bodies.Body.TheVariants as At
-use Rattle.sc_cmd.specs.declared.bodies.Offer.{Offer}
-use Rattle.sc_cmd.specs.declared.commands.Command.{Command}
-use Rattle.sc_cmd.specs.declared.commands.Command.TheVariants.{Call, Split, Prepared, RecordVote, GiveUp, Finish, RecordWatch}
-use Rattle.sc_cmd.specs.declared.cores.Core.{Core}
-use Rattle.sc_cmd.specs.declared.cores.Lock.{Lock}
-use Rattle.sc_cmd.specs.declared.cores.Lock.TheVariants.{Free, Coordinating, Promised, Watching}
-use Rattle.sc_cmd.specs.declared.votes.Frozen.{Frozen}
-use Rattle.sc_cmd.specs.declared.votes.Gift.{Gift}
-use Rattle.sc_cmd.specs.declared.votes.Heard.{Heard}
-use Rattle.sc_cmd.specs.declared.votes.Outcome.{Outcome}
-use Rattle.sc_cmd.specs.declared.votes.Outcome.TheVariants.{Abort, Moved, Divided}
-use Rattle.sc_cmd.specs.declared.votes.Past.{Past}
-use Rattle.sc_cmd.specs.declared.votes.Vote.{Vote}
-use Rattle.sc_cmd.specs.declared.votes.Vote.TheVariants as Ballot
-use Rattle.sc_machine_table.specs.Definitions.{Group, can_gain, gained_group, settled_in, party_freed, watcher_after, locked_in, has_key_of, is_locked_in, is_coordinating, has_voted}
-use Rattle.sc_log_entries.specs.declared.LogEntry.{LogEntry}
-use Rattle.sc_log_entries.specs.declared.Transaction.{Transaction}
-use Rattle.sc_log_entries.specs.Definitions.{decision, transaction_in, after_outcome, is_commit, arc_in, is_named, named_group}
+use Rattle.sc_words.specs.ideal.Definitions.{key_of}
+use Rattle.sc_words.specs.declared.commands.bodies.Body.{Body}
+use Rattle.sc_words.specs.declared.commands.bodies.Body.TheVariants as At
+use Rattle.sc_words.specs.declared.commands.bodies.Offer.{Offer}
+use Rattle.sc_words.specs.declared.commands.commands.Command.{Command}
+use Rattle.sc_words.specs.declared.commands.commands.Command.TheVariants.{Call, Split, Prepared, RecordVote, GiveUp, Finish, RecordWatch}
+use Rattle.sc_words.specs.declared.commands.cores.Core.{Core}
+use Rattle.sc_words.specs.declared.commands.cores.Lock.{Lock}
+use Rattle.sc_words.specs.declared.commands.cores.Lock.TheVariants.{Free, Coordinating, Promised, Watching}
+use Rattle.sc_words.specs.declared.commands.votes.Frozen.{Frozen}
+use Rattle.sc_words.specs.declared.commands.votes.Gift.{Gift}
+use Rattle.sc_words.specs.declared.commands.votes.Heard.{Heard}
+use Rattle.sc_words.specs.declared.commands.votes.Outcome.{Outcome}
+use Rattle.sc_words.specs.declared.commands.votes.Outcome.TheVariants.{Abort, Moved, Divided}
+use Rattle.sc_words.specs.declared.commands.votes.Past.{Past}
+use Rattle.sc_words.specs.declared.commands.votes.Vote.{Vote}
+use Rattle.sc_words.specs.declared.commands.votes.Vote.TheVariants as Ballot
+use Rattle.sc_group_table.specs.machine.Definitions.{Group, can_gain, gained_group, settled_in, party_freed, watcher_after, locked_in, has_key_of, is_locked_in, is_coordinating, has_voted}
+use Rattle.sc_meaning.specs.declared.entries.LogEntry.{LogEntry}
+use Rattle.sc_meaning.specs.declared.entries.Transaction.{Transaction}
+use Rattle.sc_meaning.specs.entries.Definitions.{decision, transaction_in, after_outcome, is_commit, arc_in, is_named, named_group}
 use Rattle.sc_law_entries.specs.ring.Definitions.{Sources, IsVoteCast, IsAllowed, AreAllowed, StoryWorld, recorded_next, Story, Stories, unsigned, offer_for, offer_with, Groups, has_born, has_decided, IsCoordinating, LockOk}
 use Rattle.sc_law_entries.proofs.RingProofs.Lemmas.{IsDeciding, own_is, mine_old, part_eff, promise_settled, apart_of, arcs_in, arc_of_cut, decisions, outcome_of, living, eff, arc_of, succ_of, view_of, Old, eff_by, eff_free, living_is, own_story, group_none, room_of, IsPair, pair_meets, Ends, unheard, sound_world, lock_free, watch_settled, groups_in, brief, story_brief, decision_is, KeptWorld, kept_on, some_none}
-use Rattle.sc_paxos_words.proofs.Lemmas.{find_found}
-use Rattle.sc_log_entries.proofs.Lemmas.{found_name}
+use Rattle.sc_words.proofs.PaxosProofs.Lemmas.{find_found}
+use Rattle.sc_meaning.proofs.EntriesProofs.Lemmas.{found_name}
 use Rattle.sc_law_entries.specs.history.Definitions.{HasCut, IsUncommitted, MayCall, MaySplit, IsItsOwn, IsParty, MayHear, MayHearWatcher, MayFinish, MayExecute, AllMayBeApplied}
 use Rattle.std.proofs.lemmas.Option.{none-some, same_Some}
 

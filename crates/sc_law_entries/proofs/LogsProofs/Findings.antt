@@ -3,14 +3,14 @@ use Rattle.std.proofs.Common.{◌≡◌, suc, List, [], ◌∷◌, ◌++◌, Opt
 use Rattle.std.specs.Option.{option_map}
 use Rattle.sc_base.specs.Definitions.{Among}
 use Rattle.sc_base.specs.declared.names.Draw.{Draw}
-use Rattle.sc_cmd.specs.declared.cores.Base.{Base}
-use Rattle.sc_cmd.specs.declared.orders.OrderLine.{OrderLine}
+use Rattle.sc_words.specs.declared.commands.cores.Base.{Base}
+use Rattle.sc_words.specs.declared.commands.orders.OrderLine.{OrderLine}
 use Rattle.sc_mail.specs.declared.bodies.Mail.{Mail}
 use Rattle.sc_actor.specs.declared.rows.Row.{Row}
-use Rattle.sc_sound.specs.Definitions.{Ahead, children_of, birth_at, log_by, log_at, state_at, entries_at, world_at, decided_state}
-use Rattle.sc_machine_table.specs.Definitions.{group_of, state_after}
+use Rattle.sc_meaning.specs.sound.Definitions.{Ahead, children_of, birth_at, log_by, log_at, state_at, entries_at, world_at, decided_state}
+use Rattle.sc_group_table.specs.machine.Definitions.{group_of, state_after}
 use Rattle.sc_paxos_law.proofs.Lemmas.{Among-left}
-use Rattle.sc_log_entries.specs.Definitions.{named_group}
+use Rattle.sc_meaning.specs.entries.Definitions.{named_group}
 use Rattle.sc_law_entries.specs.history.Definitions.{log_in, BeginBare}
 use Rattle.sc_law_entries.proofs.HistoryProofs.Lemmas.{prefixes_answer}
 use Rattle.sc_law_entries.specs.ring.Definitions.{Sources, BeginInPlace}

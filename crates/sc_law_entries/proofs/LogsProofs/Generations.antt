@@ -8,15 +8,15 @@ use Rattle.std.proofs.lemmas.List.{length_push}
 use Rattle.sc_base.specs.Definitions.{Among, Each}
 use Rattle.sc_base.specs.declared.names.Draw.{Draw}
 use Rattle.sc_base.proofs.Lemmas.{draw_is}
-use Rattle.sc_cmd.specs.declared.commands.Command.{Command}
-use Rattle.sc_cmd.specs.declared.cores.Base.{Base}
-use Rattle.sc_cmd.specs.declared.orders.OrderLine.{OrderLine}
+use Rattle.sc_words.specs.declared.commands.commands.Command.{Command}
+use Rattle.sc_words.specs.declared.commands.cores.Base.{Base}
+use Rattle.sc_words.specs.declared.commands.orders.OrderLine.{OrderLine}
 use Rattle.sc_mail.specs.declared.bodies.Mail.{Mail}
 use Rattle.sc_actor.specs.declared.rows.Row.{Row}
 use Rattle.sc_paxos_law.proofs.Lemmas.{Among-left, Among-right, Among-either, Among-flat_map, from_flat_map}
-use Rattle.sc_paxos_words.proofs.Lemmas.{find_found}
-use Rattle.sc_sound.specs.Definitions.{Ahead, children_of, children_by, is_birth_of, with_descendants, groups_at, birth_at, log_by, log_at, state_at, entries_at, decided_log, decided_state, Continues}
-use Rattle.sc_machine_table.specs.Definitions.{group_of}
+use Rattle.sc_words.proofs.PaxosProofs.Lemmas.{find_found}
+use Rattle.sc_meaning.specs.sound.Definitions.{Ahead, children_of, children_by, is_birth_of, with_descendants, groups_at, birth_at, log_by, log_at, state_at, entries_at, decided_log, decided_state, Continues}
+use Rattle.sc_group_table.specs.machine.Definitions.{group_of}
 use Rattle.sc_law_entries.specs.ring.Definitions.{Sources, IsAllowed, stories_of}
 use Rattle.sc_law_entries.proofs.RingProofs.Lemmas.{Pairwise}
 use Rattle.sc_law_entries.specs.logs.Definitions.{Rows, Descends, IsFound, added_by, newborn_by, IsFoundByName}

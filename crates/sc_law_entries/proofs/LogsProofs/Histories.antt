@@ -4,14 +4,14 @@ use Rattle.std.specs.Prelude.{slice_get}
 use Rattle.std.proofs.lemmas.Bool.{cases_lt, lt-ltb, le-ltb, cond-true, cond-false}
 use Rattle.std.proofs.lemmas.Option.{slice_get_within}
 use Rattle.sc_base.specs.Definitions.{Among}
-use Rattle.sc_cmd.specs.declared.commands.Command.TheVariants.{Call}
-use Rattle.sc_cmd.specs.declared.cores.Base.{Base}
-use Rattle.sc_cmd.specs.declared.orders.OrderLine.{OrderLine}
+use Rattle.sc_words.specs.declared.commands.commands.Command.TheVariants.{Call}
+use Rattle.sc_words.specs.declared.commands.cores.Base.{Base}
+use Rattle.sc_words.specs.declared.commands.orders.OrderLine.{OrderLine}
 use Rattle.sc_mail.specs.declared.bodies.Mail.{Mail}
 use Rattle.sc_actor.specs.declared.rows.Row.{Row}
-use Rattle.sc_ideal.specs.declared.Entry.{Entry}
-use Rattle.sc_sound.specs.Definitions.{Ahead, groups_at, entries_by_rows, history_at, decided_log, Continues, row_of_entry_from}
-use Rattle.sc_log_entries.specs.Definitions.{StoreWorld}
+use Rattle.sc_words.specs.declared.ideal.Entry.{Entry}
+use Rattle.sc_meaning.specs.sound.Definitions.{Ahead, groups_at, entries_by_rows, history_at, decided_log, Continues, row_of_entry_from}
+use Rattle.sc_meaning.specs.entries.Definitions.{StoreWorld}
 use Rattle.sc_law_entries.specs.ring.Definitions.{Sources, BeginInPlace}
 use Rattle.sc_law_entries.specs.logs.Definitions.{Rows, IsFound, added_by, DecidesInTurn, DecideInTurn, HistoryIsDecided, DecidingRowsStay}
 use Rattle.sc_law_entries.proofs.LogsProofs.Generations.{log_on, still_descends, group_found, found_group, known_by_name}

@@ -6,13 +6,13 @@ use Rattle.std.proofs.lemmas.Bool.{cond_both, cond-true, eq-eqb, eqb-true}
 use Rattle.sc_base.specs.declared.ops.Noted.{Noted}
 use Rattle.sc_base.specs.declared.ops.Op.{Op}
 use Rattle.sc_base.specs.declared.ops.Reply.{Reply}
-use Rattle.sc_cmd.specs.declared.commands.Command.TheVariants.{Call}
-use Rattle.sc_cmd.specs.declared.cores.Lock.{Lock}
-use Rattle.sc_cmd.specs.declared.cores.Lock.TheVariants.{Free, Coordinating, Promised, Watching}
-use Rattle.sc_cmd.specs.declared.effects.Effect.{Effect}
-use Rattle.sc_cmd.specs.declared.links.Route.{Route}
-use Rattle.sc_ideal.specs.Definitions.{key_of, holds_key, reply_of}
-use Rattle.sc_machine_table.specs.Definitions.{Group, applied, called, done, served, served_by_note}
+use Rattle.sc_words.specs.declared.commands.commands.Command.TheVariants.{Call}
+use Rattle.sc_words.specs.declared.commands.cores.Lock.{Lock}
+use Rattle.sc_words.specs.declared.commands.cores.Lock.TheVariants.{Free, Coordinating, Promised, Watching}
+use Rattle.sc_words.specs.declared.commands.effects.Effect.{Effect}
+use Rattle.sc_words.specs.declared.commands.links.Route.{Route}
+use Rattle.sc_words.specs.ideal.Definitions.{key_of, holds_key, reply_of}
+use Rattle.sc_group_table.specs.machine.Definitions.{Group, applied, called, done, served, served_by_note}
 use Rattle.sc_law_entries.specs.history.Definitions.{IsReplied}
 
 -- a reply to a request is noted of the client

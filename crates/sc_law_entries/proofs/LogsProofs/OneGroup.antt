@@ -2,8 +2,8 @@
 use Rattle.std.proofs.Common.{◌≡◌, cond, ◌&&◌, List, [], ◌∷◌, ◌++◌, Option, Some, None, refl, sym, ◌∙◌, ap}
 use Rattle.std.specs.List.{list_any}
 use Rattle.sc_base.specs.declared.names.Draw.{Draw}
-use Rattle.sc_cmd.specs.declared.commands.Command.{Command}
-use Rattle.sc_cmd.specs.declared.orders.OrderLine.{OrderLine}
+use Rattle.sc_words.specs.declared.commands.commands.Command.{Command}
+use Rattle.sc_words.specs.declared.commands.orders.OrderLine.{OrderLine}
 use Rattle.sc_mail.specs.declared.bodies.Mail.{Mail}
 use Rattle.sc_mail.specs.declared.bodies.MailBody.{MailBody}
 use Rattle.sc_mail.specs.declared.bodies.MailBody.TheVariants.{Accept}
@@ -12,9 +12,9 @@ use Rattle.sc_actor.specs.declared.rows.Event.{Event}
 use Rattle.sc_actor.specs.declared.rows.Event.TheVariants.{Deliver}
 use Rattle.sc_actor.specs.Definitions.{numbered}
 use Rattle.sc_paxos_law.specs.Definitions.{Step, Accepted, log_of}
-use Rattle.sc_sound.specs.Definitions.{is_accepted, accepts_of, accepts_got, accepts_at, accepts_from, accepts, rule_of}
+use Rattle.sc_meaning.specs.sound.Definitions.{is_accepted, accepts_of, accepts_got, accepts_at, accepts_from, accepts, rule_of}
 use Rattle.sc_law_entries.specs.logs.Definitions.{Rows, RowsDecideForOne}
-use Rattle.sc_log_entries.proofs.Lemmas.{other_name}
+use Rattle.sc_meaning.proofs.EntriesProofs.Lemmas.{other_name}
 
 -- all that was sent
 abbrev sent_by : List Mail → Rows → List Mail

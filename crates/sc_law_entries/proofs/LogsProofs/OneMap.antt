@@ -1,7 +1,7 @@
 -- The ring, the history and the map of allowed entries.
 use Rattle.std.proofs.Common.{sym, ◌∙◌, ap}
 use Rattle.std.proofs.lemmas.Option.{same_Some}
-use Rattle.sc_machine_table.specs.Definitions.{Group}
+use Rattle.sc_group_table.specs.machine.Definitions.{Group}
 use Rattle.sc_law_entries.specs.ring.Definitions.{first_recorded}
 use Rattle.sc_law_entries.proofs.RingProofs.Lemmas.{entries_keep_the_ring, at_start}
 use Rattle.sc_law_entries.specs.history.Definitions.{AppliedEntriesMakeHistory}

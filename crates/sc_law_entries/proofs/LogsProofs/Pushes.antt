@@ -2,21 +2,21 @@
 use Rattle.std.proofs.Common.{◌≡◌, ℕ, suc, ◌+◌, List, [], ◌∷◌, ◌++◌, length, Some, ◌⊎◌, inl, inr, sym, ◌∙◌, ap, subst, append_assoc}
 use Rattle.sc_base.specs.Definitions.{Among}
 use Rattle.sc_base.specs.declared.names.Draw.{Draw}
-use Rattle.sc_cmd.specs.declared.commands.Command.{Command}
-use Rattle.sc_cmd.specs.declared.cores.Base.{Base}
-use Rattle.sc_cmd.specs.declared.orders.OrderLine.{OrderLine}
+use Rattle.sc_words.specs.declared.commands.commands.Command.{Command}
+use Rattle.sc_words.specs.declared.commands.cores.Base.{Base}
+use Rattle.sc_words.specs.declared.commands.orders.OrderLine.{OrderLine}
 use Rattle.sc_mail.specs.declared.bodies.Mail.{Mail}
 use Rattle.sc_actor.specs.declared.rows.Row.{Row}
-use Rattle.sc_machine_table.specs.Definitions.{Group}
+use Rattle.sc_group_table.specs.machine.Definitions.{Group}
 use Rattle.sc_paxos_law.proofs.Lemmas.{Among-left, Among-right, Among-either}
-use Rattle.sc_sound.specs.Definitions.{Ahead, groups_at, log_at, entries_from, entries_after, entries_gained, entries_by_row, entries_at, world_at, decided_log, decided_state}
-use Rattle.sc_log_entries.specs.declared.LogEntry.{LogEntry}
-use Rattle.sc_log_entries.specs.Definitions.{StoreWorld, first_world, named_group, world_after}
-use Rattle.sc_log_entries.proofs.Lemmas.{world_append, draw_cases}
+use Rattle.sc_meaning.specs.sound.Definitions.{Ahead, groups_at, log_at, entries_from, entries_after, entries_gained, entries_by_row, entries_at, world_at, decided_log, decided_state}
+use Rattle.sc_meaning.specs.declared.entries.LogEntry.{LogEntry}
+use Rattle.sc_meaning.specs.entries.Definitions.{StoreWorld, first_world, named_group, world_after}
+use Rattle.sc_meaning.proofs.EntriesProofs.Lemmas.{world_append, draw_cases}
 use Rattle.sc_law_entries.specs.history.Definitions.{log_in}
 use Rattle.sc_law_entries.specs.ring.Definitions.{Sources, AreAllowed, first_recorded, BeginInPlace}
 use Rattle.sc_law_entries.proofs.RingProofs.Lemmas.{allowed_lists_append, some_none}
-use Rattle.sc_sound.proofs.Lemmas.{entries-push, world-push}
+use Rattle.sc_meaning.proofs.SoundProofs.Lemmas.{entries-push, world-push}
 use Rattle.sc_law_entries.specs.logs.Definitions.{Rows, IsFound, added_by}
 use Rattle.sc_law_entries.proofs.LogsProofs.Lists.{flat_map_none, flat_map_one}
 use Rattle.sc_law_entries.proofs.LogsProofs.Children.{log_append, log_of_others, log_of_own, entries_of}

@@ -6,20 +6,20 @@ use Rattle.std.proofs.lemmas.Bool.{cases_lt}
 use Rattle.std.proofs.lemmas.List.{length-append}
 use Rattle.sc_base.specs.Definitions.{Among}
 use Rattle.sc_base.specs.declared.ops.Reply.{Reply}
-use Rattle.sc_cmd.specs.declared.commands.Command.TheVariants.{Call}
-use Rattle.sc_cmd.specs.declared.cores.Base.{Base}
-use Rattle.sc_cmd.specs.declared.orders.OrderLine.{OrderLine}
+use Rattle.sc_words.specs.declared.commands.commands.Command.TheVariants.{Call}
+use Rattle.sc_words.specs.declared.commands.cores.Base.{Base}
+use Rattle.sc_words.specs.declared.commands.orders.OrderLine.{OrderLine}
 use Rattle.sc_mail.specs.declared.bodies.Mail.{Mail}
 use Rattle.sc_actor.specs.declared.rows.Row.{Row}
 use Rattle.sc_actor.proofs.Lemmas.{get_left}
-use Rattle.sc_ideal.specs.Definitions.{HasEntry}
-use Rattle.sc_ideal.specs.declared.Entry.{Entry}
-use Rattle.sc_machine_table.specs.Definitions.{Group, group_of, state_after}
+use Rattle.sc_words.specs.ideal.Definitions.{HasEntry}
+use Rattle.sc_words.specs.declared.ideal.Entry.{Entry}
+use Rattle.sc_group_table.specs.machine.Definitions.{Group, group_of, state_after}
 use Rattle.sc_paxos_law.proofs.Lemmas.{Among-left}
-use Rattle.sc_sound.specs.Definitions.{Ahead, entries_at, history_at, IsRequest, issue_row, AnswersRequests, row_of_entry, IsTimely, KeepsRealTime, IsSound}
-use Rattle.sc_scenario.specs.declared.scenarios.Scenario.{Scenario}
+use Rattle.sc_meaning.specs.sound.Definitions.{Ahead, entries_at, history_at, IsRequest, issue_row, AnswersRequests, row_of_entry, IsTimely, KeepsRealTime, IsSound}
+use Rattle.sc_scenario.specs.declared.scenario.scenarios.Scenario.{Scenario}
 use Rattle.sc_law_entries.specs.history.Definitions.{BeginBare}
-use Rattle.sc_log_entries.specs.Definitions.{CoverThroughout}
+use Rattle.sc_meaning.specs.entries.Definitions.{CoverThroughout}
 use Rattle.sc_law_entries.specs.ring.Definitions.{Sources, AreAllowed, first_recorded, BeginInPlace}
 use Rattle.sc_law_entries.proofs.RingProofs.Lemmas.{entries_keep_the_ring}
 use Rattle.sc_law_entries.proofs.LogsProofs.Allowing.{allowed_parts}

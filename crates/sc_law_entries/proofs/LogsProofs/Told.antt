@@ -3,20 +3,20 @@ use Rattle.std.proofs.Common.{◌≡◌, ℕ, zero, suc, ◌+◌, List, [], ◌�
 use Rattle.std.proofs.Math.Seq.{drop-length}
 use Rattle.sc_base.specs.Definitions.{Among, Each}
 use Rattle.sc_base.specs.declared.names.Draw.{Draw}
-use Rattle.sc_cmd.specs.declared.commands.Command.{Command}
-use Rattle.sc_cmd.specs.declared.commands.Command.TheVariants.{Call}
-use Rattle.sc_cmd.specs.declared.cores.Base.{Base}
-use Rattle.sc_cmd.specs.declared.orders.OrderLine.{OrderLine}
+use Rattle.sc_words.specs.declared.commands.commands.Command.{Command}
+use Rattle.sc_words.specs.declared.commands.commands.Command.TheVariants.{Call}
+use Rattle.sc_words.specs.declared.commands.cores.Base.{Base}
+use Rattle.sc_words.specs.declared.commands.orders.OrderLine.{OrderLine}
 use Rattle.sc_mail.specs.declared.bodies.Mail.{Mail}
 use Rattle.sc_actor.specs.declared.rows.Row.{Row}
-use Rattle.sc_ideal.specs.declared.Entry.{Entry}
-use Rattle.sc_machine_table.specs.Definitions.{Group, group_of, state_after, done_by}
-use Rattle.sc_paxos_words.proofs.Lemmas.{Each-among, Each-from, find_found}
-use Rattle.sc_sound.specs.Definitions.{Ahead, children_of, birth_at, entries_from, entries_at, world_at, decided_log, decided_state}
-use Rattle.sc_log_entries.specs.declared.Cut.{Cut}
-use Rattle.sc_log_entries.specs.declared.LogEntry.{LogEntry}
-use Rattle.sc_log_entries.specs.Definitions.{first_cut, StoreWorld, first_world, is_named, named_group, world_after, world_of}
-use Rattle.sc_log_entries.proofs.Lemmas.{world_append, found_name, draw_cases}
+use Rattle.sc_words.specs.declared.ideal.Entry.{Entry}
+use Rattle.sc_group_table.specs.machine.Definitions.{Group, group_of, state_after, done_by}
+use Rattle.sc_words.proofs.PaxosProofs.Lemmas.{Each-among, Each-from, find_found}
+use Rattle.sc_meaning.specs.sound.Definitions.{Ahead, children_of, birth_at, entries_from, entries_at, world_at, decided_log, decided_state}
+use Rattle.sc_meaning.specs.declared.entries.Cut.{Cut}
+use Rattle.sc_meaning.specs.declared.entries.LogEntry.{LogEntry}
+use Rattle.sc_meaning.specs.entries.Definitions.{first_cut, StoreWorld, first_world, is_named, named_group, world_after, world_of}
+use Rattle.sc_meaning.proofs.EntriesProofs.Lemmas.{world_append, found_name, draw_cases}
 use Rattle.sc_law_entries.specs.history.Definitions.{log_in}
 use Rattle.sc_law_entries.proofs.HistoryProofs.Lemmas.{logs_make_states, calls_of}
 use Rattle.sc_paxos_law.proofs.Lemmas.{from_map}

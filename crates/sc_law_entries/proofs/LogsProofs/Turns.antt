@@ -2,11 +2,11 @@
 use Rattle.std.proofs.Common.{◌≡◌, zero, suc, List, [], ◌∷◌, ◌++◌, length, drop, sym, ◌∙◌, ap, subst, append-nil}
 use Rattle.std.proofs.Math.Seq.{drop-length}
 use Rattle.sc_base.specs.Definitions.{Among, Each}
-use Rattle.sc_cmd.specs.declared.cores.Base.{Base}
-use Rattle.sc_cmd.specs.declared.orders.OrderLine.{OrderLine}
+use Rattle.sc_words.specs.declared.commands.cores.Base.{Base}
+use Rattle.sc_words.specs.declared.commands.orders.OrderLine.{OrderLine}
 use Rattle.sc_mail.specs.declared.bodies.Mail.{Mail}
 use Rattle.sc_actor.specs.declared.rows.Row.{Row}
-use Rattle.sc_sound.specs.Definitions.{Ahead, children_of, children_by, entries_at, decided_log, decided_state, Continues}
+use Rattle.sc_meaning.specs.sound.Definitions.{Ahead, children_of, children_by, entries_at, decided_log, decided_state, Continues}
 use Rattle.sc_law_entries.specs.ring.Definitions.{Sources, IsAllowed, stories_of}
 use Rattle.sc_law_entries.specs.logs.Definitions.{Rows, IsFound, added_by, newborn_by, DecidesInTurn}
 use Rattle.sc_law_entries.proofs.LogsProofs.Generations.{group_found}

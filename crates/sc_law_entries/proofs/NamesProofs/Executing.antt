@@ -2,12 +2,12 @@
 use Rattle.std.proofs.Common.{ℕ, ◌&&◌, nat_lt, eqb, Bool, true, cond, List, [], ◌∷◌, ◌++◌, Option, Some, None}
 use Rattle.sc_base.specs.Definitions.{Each, is_member, least_of}
 use Rattle.sc_node_table.specs.Values.{Draw, Command, Call, Join, Leave, Base, Effect, Route, OrderResult, AnswerBody, Answer, Learn, Learnt}
-use Rattle.sc_cmd.specs.declared.effects.Effect.TheVariants as Was
-use Rattle.sc_cmd.specs.Definitions.{result_of}
+use Rattle.sc_words.specs.declared.commands.effects.Effect.TheVariants as Was
+use Rattle.sc_words.specs.commands.Definitions.{result_of}
 use Rattle.sc_mail.specs.declared.bodies.AnswerBody.TheVariants as Says
-use Rattle.sc_machine_table.specs.Definitions.{child_by, applied}
-use Rattle.sc_paxos_words.proofs.Lemmas.{Each-append}
-use Rattle.sc_paxos_words.specs.Definitions.{without_flight_at, LogState, next_of}
+use Rattle.sc_group_table.specs.machine.Definitions.{child_by, applied}
+use Rattle.sc_words.proofs.PaxosProofs.Lemmas.{Each-append}
+use Rattle.sc_words.specs.paxos.Definitions.{without_flight_at, LogState, next_of}
 use Rattle.sc_node_table.specs.declared.Before.{Before}
 use Rattle.sc_node_table.specs.Definitions.{at_slot, without_slot, ReplicaState, Place, Executed, childless, name_of, next, members, sent_others, order_number, elected, stopped, with_entry, entered, answer_of, answered_or_put_back, order_result, effect_reported, announced, learnt_to, welcomed, landed, left_gone, left, is_among, looked_for, looked, executed_one, child_at, next_child, has_room, next_ready, ending, executed_ready, executed, before_of, spoken}
 use Rattle.sc_law_entries.specs.names.Definitions.{Opt, CoreNames, CommandNames, EffectNames, AnswerNames, ResultNames, ReplicaNames}

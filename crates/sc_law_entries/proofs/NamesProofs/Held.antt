@@ -4,12 +4,12 @@ use Rattle.std.specs.Prelude.{is_some}
 use Rattle.std.specs.List.{list_any}
 use Rattle.sc_base.specs.Definitions.{Each}
 use Rattle.sc_node_table.specs.Values.{Ballot, Draw, Op, Command, Noop, Call, Join, Leave, Split, Begin, Prepared, RecordVote, GiveUp, Finish, Watched, RecordWatch, Base, Core, Route, AnswerBody, Prepare, Accept, Install, Must, Gap, Flight, Report}
-use Rattle.sc_ideal.specs.Definitions.{key_of, holds_key}
+use Rattle.sc_words.specs.ideal.Definitions.{key_of, holds_key}
 use Rattle.sc_mail.specs.declared.bodies.AnswerBody.TheVariants as Says
-use Rattle.sc_machine_table.specs.Definitions.{base_of}
-use Rattle.sc_paxos_words.proofs.Lemmas.{Each-append, Each-filter}
-use Rattle.sc_paxos_words.specs.declared.answers.Must.TheVariants.{Value, Free as Open}
-use Rattle.sc_paxos_words.specs.Definitions.{choice, chosen_value, names_above, flight_at, must, must_without, below}
+use Rattle.sc_group_table.specs.machine.Definitions.{base_of}
+use Rattle.sc_words.proofs.PaxosProofs.Lemmas.{Each-append, Each-filter}
+use Rattle.sc_words.specs.declared.paxos.answers.Must.TheVariants.{Value, Free as Open}
+use Rattle.sc_words.specs.paxos.Definitions.{choice, chosen_value, names_above, flight_at, must, must_without, below}
 use Rattle.sc_node_table.specs.Definitions.{ReplicaState, Place, name_of, next, flying, taken_at, under_way, is_idle, settled, may_offer, last_slot, born_replica, installed_replica, floor_of, forgotten, sent, answered_all, queued_number, is_request_of, without_request, request_before, put_back, open_nodes, elected, ended, stopped, saw, install_to, asked_to_promise, welcomed_all, named, jumped, Found, is_act, refused_by, turned_down, from_backlog, from_acts, from_queues, found_by, found_for, offered, pumped_from, pumped}
 use Rattle.sc_law_entries.specs.names.Definitions.{Opt, CoreNames, CommandNames, AnswerNames, ReplicaNames}
 use Rattle.sc_law_entries.proofs.NamesProofs.Lists.{opt_find, opt_map, opt_choice, Each-drop}

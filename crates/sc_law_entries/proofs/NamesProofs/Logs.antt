@@ -4,17 +4,17 @@ use Rattle.std.specs.List.{flat_map, list_any}
 use Rattle.std.specs.Option.{option_to_list}
 use Rattle.sc_base.specs.Definitions.{Each, same_draw, is_majority}
 use Rattle.sc_node_table.specs.Values.{Draw, Row, Event, Deliver, Body, Command, Split, RecordWatch, Base, Core, Lock, Free, Coordinating, Promised, Watching, Effect, OrderLine, Mail, MailBody, Accept, Report}
-use Rattle.sc_cmd.specs.Definitions.{is_changed, is_divided, is_alone}
+use Rattle.sc_words.specs.commands.Definitions.{is_changed, is_divided, is_alone}
 use Rattle.sc_actor.specs.Definitions.{mails, numbered}
-use Rattle.sc_cmd.specs.declared.bodies.Body.TheVariants as At
-use Rattle.sc_log_entries.specs.declared.Division.{Division}
-use Rattle.sc_log_entries.specs.Definitions.{division_by, division_in, division_of, birth_of}
-use Rattle.sc_machine_table.specs.Definitions.{Group, group_of, applied, child_of}
+use Rattle.sc_words.specs.declared.commands.bodies.Body.TheVariants as At
+use Rattle.sc_meaning.specs.declared.entries.Division.{Division}
+use Rattle.sc_meaning.specs.entries.Definitions.{division_by, division_in, division_of, birth_of}
+use Rattle.sc_group_table.specs.machine.Definitions.{Group, group_of, applied, child_of}
 use Rattle.sc_paxos_law.specs.Definitions.{Rule, members_of, voters_of, lesser_of, found_in, chosen_at, top_slot, with_next_entries, Step, Prepared, Promised, Offered, Accepted, Cut}
-use Rattle.sc_paxos_words.proofs.Lemmas.{Each-append}
-use Rattle.sc_paxos_words.specs.Definitions.{below}
-use Rattle.sc_sound.specs.Definitions.{Ahead, is_accepted, accepts_of, accepts_got, accepts_at, accepts_from, accepts, children_of, children_by, is_birth_of, with_birth, with_descendants, rule_of, decided_log}
-use Rattle.sc_scenario.specs.declared.scenarios.Scenario.{Scenario}
+use Rattle.sc_words.proofs.PaxosProofs.Lemmas.{Each-append}
+use Rattle.sc_words.specs.paxos.Definitions.{below}
+use Rattle.sc_meaning.specs.sound.Definitions.{Ahead, is_accepted, accepts_of, accepts_got, accepts_at, accepts_from, accepts, children_of, children_by, is_birth_of, with_birth, with_descendants, rule_of, decided_log}
+use Rattle.sc_scenario.specs.declared.scenario.scenarios.Scenario.{Scenario}
 use Rattle.sc_law_entries.specs.names.Definitions.{AllDecided, Rows, Opt, BodyNames, LockNames, CoreNames, CommandNames, MailNames, BodiesNames}
 use Rattle.sc_law_entries.proofs.NamesProofs.Lists.{opt_map, opt_get}
 use Rattle.sc_law_entries.proofs.NamesProofs.Machine.{applied_names, child_names}

@@ -3,14 +3,14 @@ use Rattle.std.proofs.Common.{ℕ, ◌&&◌, ◌||◌, not, nat_le, nat_lt, eqb,
 use Rattle.std.specs.FinMap.{get}
 use Rattle.sc_base.specs.Definitions.{Each, holds, end_of, same_draw, is_member, united}
 use Rattle.sc_node_table.specs.Values.{Draw, Op, Noted, Body, Offer, Watch, Command, Noop, Call, Join, Leave, Split, Begin, Prepared, RecordVote, GiveUp, Finish, Watched, RecordWatch, Base, Core, Lock, Free, Coordinating, Promised, Watching, Effect, Link, Route, OrderRefusal, Frozen, Gift, Heard, No, Outcome, Past, Vote}
-use Rattle.sc_cmd.specs.Definitions.{is_alone}
-use Rattle.sc_ideal.specs.Definitions.{key_of, holds_key}
-use Rattle.sc_cmd.specs.declared.bodies.Body.TheVariants as At
-use Rattle.sc_cmd.specs.declared.votes.Outcome.TheVariants as Is
-use Rattle.sc_cmd.specs.declared.votes.Past.TheVariants as Cast
-use Rattle.sc_cmd.specs.declared.votes.Vote.TheVariants as Says
-use Rattle.sc_paxos_words.proofs.Lemmas.{Each-append}
-use Rattle.sc_machine_table.specs.Definitions.{ordered_child, released_child, answered_child, watched_child, child_by, Group, served_by_note, served, called, split_group, ordered_by, applied, locked_in, limit_refused, body_refused, refused_free, refused_in, refusal_of, ordered, with_node, without_node, splits_at_once, left_link, right_link, left_group, child_of, has_named, Plan, can_cut, has_key_of, can_split, may_merge, can_repart, taken, can_migrate, split_plan, merged_core, merged_link, merge_plan, closing_plan, repart_plan, migrate_plan, asks_watcher, is_coordinating, begun_group, decided, committed, granted, participant_answered, vote_recorded, released, watch_answered, watch_recorded, has_voted, size_no, body_no, offer_no, watch_no, no_of, vote_of, watch_vote_of, past_of, bound_by, voted_on, offer_voted, watched, can_gain, moved, participant_after, pred_after, watcher_after, closed, party_freed, settled_in, finished}
+use Rattle.sc_words.specs.commands.Definitions.{is_alone}
+use Rattle.sc_words.specs.ideal.Definitions.{key_of, holds_key}
+use Rattle.sc_words.specs.declared.commands.bodies.Body.TheVariants as At
+use Rattle.sc_words.specs.declared.commands.votes.Outcome.TheVariants as Is
+use Rattle.sc_words.specs.declared.commands.votes.Past.TheVariants as Cast
+use Rattle.sc_words.specs.declared.commands.votes.Vote.TheVariants as Says
+use Rattle.sc_words.proofs.PaxosProofs.Lemmas.{Each-append}
+use Rattle.sc_group_table.specs.machine.Definitions.{ordered_child, released_child, answered_child, watched_child, child_by, Group, served_by_note, served, called, split_group, ordered_by, applied, locked_in, limit_refused, body_refused, refused_free, refused_in, refusal_of, ordered, with_node, without_node, splits_at_once, left_link, right_link, left_group, child_of, has_named, Plan, can_cut, has_key_of, can_split, may_merge, can_repart, taken, can_migrate, split_plan, merged_core, merged_link, merge_plan, closing_plan, repart_plan, migrate_plan, asks_watcher, is_coordinating, begun_group, decided, committed, granted, participant_answered, vote_recorded, released, watch_answered, watch_recorded, has_voted, size_no, body_no, offer_no, watch_no, no_of, vote_of, watch_vote_of, past_of, bound_by, voted_on, offer_voted, watched, can_gain, moved, participant_after, pred_after, watcher_after, closed, party_freed, settled_in, finished}
 use Rattle.sc_law_walks.proofs.Lemmas.{either_way}
 use Rattle.sc_law_entries.specs.names.Definitions.{Opt, BodyNames, OfferNames, WatchNames, NoNames, VoteNames, PastNames, OutcomeNames, HeardNames, LockNames, CoreNames, CommandNames, RefusalNames, EffectNames}
 

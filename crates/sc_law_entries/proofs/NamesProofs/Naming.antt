@@ -2,10 +2,10 @@
 use Rattle.std.proofs.Common.{◌≡◌, ◌++◌, Some, inl, inr, sym, ◌∙◌, subst, arith}
 use Rattle.std.proofs.lemmas.Option.{same_Some}
 use Rattle.sc_node_table.specs.Values.{Draw, Command, Noop, Join, Leave, Split, Begin, GiveUp}
-use Rattle.sc_paxos_words.proofs.Lemmas.{Each-among}
-use Rattle.sc_sound.specs.Definitions.{Ahead, decided_log}
+use Rattle.sc_words.proofs.PaxosProofs.Lemmas.{Each-among}
+use Rattle.sc_meaning.specs.sound.Definitions.{Ahead, decided_log}
 use Rattle.sc_law_entries.specs.ring.Definitions.{draw_of}
-use Rattle.sc_scenario.specs.declared.scenarios.Scenario.{Scenario}
+use Rattle.sc_scenario.specs.declared.scenario.scenarios.Scenario.{Scenario}
 use Rattle.sc_law_entries.specs.names.Definitions.{IsUsed, AllowedNamesAreDrawn, LoggedNamesAreDrawn, MoreOwnersAllow, CommandNames, Rows, owner_in}
 use Rattle.sc_law_entries.proofs.RingProofs.Lemmas.{owned}
 use Rattle.sc_law_entries.proofs.NamesProofs.Counters.{owned_are_of_nodes}

@@ -5,8 +5,8 @@ use Rattle.sc_base.specs.Definitions.{Among, same_draw}
 use Rattle.sc_node_table.specs.Values.{Draw, OrderLine, Mail, Row}
 use Rattle.sc_base.proofs.Lemmas.{draw_is, same_name}
 use Rattle.sc_node_table.specs.Definitions.{either}
-use Rattle.sc_sound.specs.Definitions.{Ahead}
-use Rattle.sc_scenario.specs.declared.scenarios.Scenario.{Scenario}
+use Rattle.sc_meaning.specs.sound.Definitions.{Ahead}
+use Rattle.sc_scenario.specs.declared.scenario.scenarios.Scenario.{Scenario}
 use Rattle.sc_law_entries.specs.names.Definitions.{Rows, Owned, owned_by, drawn_at, owner_by, owner_from, owner_in, IsDrawn, OwnersStay, OwnedNamesAreDrawn}
 use Rattle.sc_law_walks.proofs.Lemmas.{either_assoc, either_none}
 

@@ -4,15 +4,15 @@ use Rattle.std.specs.Prelude.{is_some, is_none}
 use Rattle.std.proofs.lemmas.Bool.{and_from, cond-true, cond-false, cond_both}
 use Rattle.sc_base.specs.Definitions.{Each, same_draw, Drawer, next_name, is_member}
 use Rattle.sc_node_table.specs.Values.{Draw, Op, Offer, Watch, Command, Call, Prepared, RecordVote, GiveUp, Finish, Watched, RecordWatch, Base, Core, Lock, Free, Coordinating, Promised, Watching, Route, Order, OrderLine, OrderRefusal, Outcome, Past, Vote, AnswerBody, Mail, MailBody, Request, Answer, Prepare, Promise, Accept, Accepted, Nack, Learn, Ask, Install, TxPrepare, TxVote, TxOutcome, TxElsewhere, TxWatch, TxWatched, Told}
-use Rattle.sc_ideal.specs.Definitions.{key_of, holds_key}
-use Rattle.sc_cmd.specs.declared.orders.Order.TheVariants as An
-use Rattle.sc_cmd.specs.declared.orders.OrderRefusal.TheVariants as Why
-use Rattle.sc_cmd.specs.declared.orders.OrderResult.TheVariants as Tells
-use Rattle.sc_cmd.specs.declared.votes.Past.TheVariants as Cast
-use Rattle.sc_cmd.specs.declared.votes.Vote.TheVariants as Says
-use Rattle.sc_machine_table.specs.Definitions.{Group, locked_in, refusal_of, frozen_of, is_locked_in}
-use Rattle.sc_paxos_words.proofs.Lemmas.{Each-append}
-use Rattle.sc_paxos_words.specs.Definitions.{entry_at}
+use Rattle.sc_words.specs.ideal.Definitions.{key_of, holds_key}
+use Rattle.sc_words.specs.declared.commands.orders.Order.TheVariants as An
+use Rattle.sc_words.specs.declared.commands.orders.OrderRefusal.TheVariants as Why
+use Rattle.sc_words.specs.declared.commands.orders.OrderResult.TheVariants as Tells
+use Rattle.sc_words.specs.declared.commands.votes.Past.TheVariants as Cast
+use Rattle.sc_words.specs.declared.commands.votes.Vote.TheVariants as Says
+use Rattle.sc_group_table.specs.machine.Definitions.{Group, locked_in, refusal_of, frozen_of, is_locked_in}
+use Rattle.sc_words.proofs.PaxosProofs.Lemmas.{Each-append}
+use Rattle.sc_words.specs.paxos.Definitions.{entry_at}
 use Rattle.sc_node_table.specs.Definitions.{ReplicaState, Place, name_of, next, members, flying, is_idle, settled, last_slot, installed_replica, has_act, with_act, act_queued, elected, stopped, looked, named, jumped, sent_all, ordered_command, takes_name, has_drawn_all, named_refused, first_of_both, untaken, queued_or_refused, ordered_row, group_of_order, wished_line, with_command, with_line, wishing, pumped, admits_requests, asked_link, question, queued_number, without_request, patience, one_tick_more, waited_in, reminders, reminded, request_refusal, refused_at, queued, requested, request_row, looked_up, took_over, install_row, made_by, uncounted, asked_again, last_entry_sent, tick_row, mailed, noted_vote, noted_outcome, gone_vote, standing_by, standing_vote, sent_elsewhere, offered_by, offer_row, watched_by, watch_row, awaits_vote, awaits_watch, vote_queued, vote_met, vote_row, watch_queued, watch_met, watched_row, next_asked, asked_next, elsewhere_row, is_bound, outcome_row}
 use Rattle.sc_law_entries.specs.names.Definitions.{Opt, OfferNames, WatchNames, VoteNames, PastNames, OutcomeNames, LockNames, CoreNames, CommandNames, RefusalNames, AnswerNames, BodiesNames, ReplicaNames, Owned, owned_by, drawn_for, waited, wished_at, drawn_wishing}
 use Rattle.sc_law_entries.proofs.NamesProofs.Lists.{opt_find, opt_map}

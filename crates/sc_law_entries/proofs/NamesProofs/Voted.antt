@@ -2,10 +2,10 @@
 use Rattle.std.proofs.Common.{ℕ, zero, suc, ◌+◌, ◌-◌, ◌&&◌, not, nat_le, nat_lt, eqb, Bool, true, false, List, Option, Some, None}
 use Rattle.sc_base.specs.Definitions.{same_ballot, is_member, is_majority}
 use Rattle.sc_node_table.specs.Values.{Ballot, Draw, Command, Mail, Promise, Accepted, Nack, Learn, Ask, Report, Flight, PrepareAnswer, AcceptAnswer, Counted, Chosen, NotYet}
-use Rattle.sc_paxos_words.proofs.Lemmas.{Each-append, Each-filter}
-use Rattle.sc_paxos_words.specs.declared.answers.PrepareAnswer.TheVariants as Prepared
-use Rattle.sc_paxos_words.specs.declared.answers.AcceptAnswer.TheVariants as Asked
-use Rattle.sc_paxos_words.specs.Definitions.{prepared, accepted as accepted_by, AcceptorState, may_promise, may_accept, LeaderState, flight_at, promise_counted, entry_at, kept_voters, voters_after, tallied, vote_at, counted}
+use Rattle.sc_words.proofs.PaxosProofs.Lemmas.{Each-append, Each-filter}
+use Rattle.sc_words.specs.declared.paxos.answers.PrepareAnswer.TheVariants as Prepared
+use Rattle.sc_words.specs.declared.paxos.answers.AcceptAnswer.TheVariants as Asked
+use Rattle.sc_words.specs.paxos.Definitions.{prepared, accepted as accepted_by, AcceptorState, may_promise, may_accept, LeaderState, flight_at, promise_counted, entry_at, kept_voters, voters_after, tallied, vote_at, counted}
 use Rattle.sc_node_table.specs.Definitions.{with_slot, ReplicaState, Place, Executed, childless, name_of, next, set_at, last_slot, sent, saw, executed, has_room, install_to, pumped, learn_row, taught, most_taught, ask_row, hinted, promise_to, promised, prepare_row, accepted_to, took, accept_row, leads, promise_row, readied, vote_tallied, voted, accepted_row, nack_row}
 use Rattle.sc_law_entries.specs.names.Definitions.{Opt, CommandNames, ReportsNames, ReplicaNames}
 use Rattle.sc_law_entries.proofs.NamesProofs.Lists.{Flights, opt_find, opt_get, slot_with, flight_without, voters_with, report_with}

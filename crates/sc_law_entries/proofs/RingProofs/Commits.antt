@@ -5,25 +5,25 @@ use Rattle.std.proofs.lemmas.Option.{same_Some}
 use Rattle.sc_base.specs.Definitions.{Arc, before, from, joined, same_draw}
 use Rattle.sc_base.specs.declared.names.Draw.{Draw}
 use Rattle.sc_base.proofs.Lemmas.{same_name}
-use Rattle.sc_cmd.specs.declared.bodies.Body.{Body}
-use Rattle.sc_cmd.specs.declared.bodies.Offer.{Offer}
-use Rattle.sc_cmd.specs.declared.bodies.Watch.{Watch}
-use Rattle.sc_cmd.specs.declared.commands.Command.{Command}
-use Rattle.sc_cmd.specs.declared.commands.Command.TheVariants.{Finish}
-use Rattle.sc_cmd.specs.declared.cores.Core.{Core}
-use Rattle.sc_cmd.specs.declared.cores.Lock.{Lock}
-use Rattle.sc_cmd.specs.declared.cores.Lock.TheVariants.{Free, Coordinating, Promised, Watching}
-use Rattle.sc_cmd.specs.declared.effects.Effect.{Effect}
-use Rattle.sc_cmd.specs.declared.effects.Effect.TheVariants.{NoEffect}
-use Rattle.sc_cmd.specs.declared.votes.Frozen.{Frozen}
-use Rattle.sc_cmd.specs.declared.votes.Heard.{Heard}
-use Rattle.sc_cmd.specs.declared.votes.Outcome.{Outcome}
-use Rattle.sc_cmd.specs.declared.votes.Outcome.TheVariants.{Abort, Merged, Moved, Migrated, Divided}
-use Rattle.sc_machine_table.specs.Definitions.{Group, participant_after, settled_in, finished, party_freed, watcher_after, applied}
-use Rattle.sc_log_entries.specs.Definitions.{division_of, after_outcome, is_commit, both_arcs, decided_by}
-use Rattle.sc_log_entries.specs.declared.Division.{Division}
+use Rattle.sc_words.specs.declared.commands.bodies.Body.{Body}
+use Rattle.sc_words.specs.declared.commands.bodies.Offer.{Offer}
+use Rattle.sc_words.specs.declared.commands.bodies.Watch.{Watch}
+use Rattle.sc_words.specs.declared.commands.commands.Command.{Command}
+use Rattle.sc_words.specs.declared.commands.commands.Command.TheVariants.{Finish}
+use Rattle.sc_words.specs.declared.commands.cores.Core.{Core}
+use Rattle.sc_words.specs.declared.commands.cores.Lock.{Lock}
+use Rattle.sc_words.specs.declared.commands.cores.Lock.TheVariants.{Free, Coordinating, Promised, Watching}
+use Rattle.sc_words.specs.declared.commands.effects.Effect.{Effect}
+use Rattle.sc_words.specs.declared.commands.effects.Effect.TheVariants.{NoEffect}
+use Rattle.sc_words.specs.declared.commands.votes.Frozen.{Frozen}
+use Rattle.sc_words.specs.declared.commands.votes.Heard.{Heard}
+use Rattle.sc_words.specs.declared.commands.votes.Outcome.{Outcome}
+use Rattle.sc_words.specs.declared.commands.votes.Outcome.TheVariants.{Abort, Merged, Moved, Migrated, Divided}
+use Rattle.sc_group_table.specs.machine.Definitions.{Group, participant_after, settled_in, finished, party_freed, watcher_after, applied}
+use Rattle.sc_meaning.specs.entries.Definitions.{division_of, after_outcome, is_commit, both_arcs, decided_by}
+use Rattle.sc_meaning.specs.declared.entries.Division.{Division}
 use Rattle.sc_law_entries.specs.ring.Definitions.{Story, Stories, put, unsigned, unsigned_watch, offer_for, watch_for, Groups, LockOk, IsOwnBody, IsFrozen, IsAgreed, Facts}
-use Rattle.sc_log_entries.proofs.Lemmas.{draw_cases}
+use Rattle.sc_meaning.proofs.EntriesProofs.Lemmas.{draw_cases}
 use Rattle.sc_law_entries.proofs.RingProofs.View.{Ring, HeldBy, Holds, merge_view, move_view, split_view, IsOnRing}
 use Rattle.sc_law_entries.proofs.RingProofs.Cover.{at-same, at-is, at-other}
 use Rattle.sc_law_entries.proofs.RingProofs.Links.{IsPair, pair_meets}

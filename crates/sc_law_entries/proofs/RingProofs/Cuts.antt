@@ -7,14 +7,14 @@ use Rattle.std.proofs.lemmas.Bool.{cases_Bool, cond-true, cond-false, cond_both}
 use Rattle.sc_base.specs.Definitions.{Among, Each, Arc, before, from}
 use Rattle.sc_base.specs.declared.names.Draw.{Draw}
 use Rattle.sc_base.proofs.Lemmas.{draw_is, same_name}
-use Rattle.sc_log_entries.specs.declared.Cut.{Cut}
-use Rattle.sc_log_entries.specs.declared.Division.{Division}
-use Rattle.sc_log_entries.specs.Definitions.{is_cut_of, arc_in, recut, parts_of}
+use Rattle.sc_meaning.specs.declared.entries.Cut.{Cut}
+use Rattle.sc_meaning.specs.declared.entries.Division.{Division}
+use Rattle.sc_meaning.specs.entries.Definitions.{is_cut_of, arc_in, recut, parts_of}
 use Rattle.sc_law_entries.specs.ring.Definitions.{put}
-use Rattle.sc_log_entries.proofs.Lemmas.{draw_cases, other_name}
+use Rattle.sc_meaning.proofs.EntriesProofs.Lemmas.{draw_cases, other_name}
 use Rattle.sc_law_entries.proofs.RingProofs.Cover.{at-is, at-other}
 use Rattle.sc_law_entries.proofs.RingProofs.View.{Ring}
-use Rattle.sc_paxos_words.proofs.Lemmas.{Each-among, find_found}
+use Rattle.sc_words.proofs.PaxosProofs.Lemmas.{Each-among, find_found}
 use Rattle.sc_law_entries.proofs.RingProofs.Finds.{find_map, find_first, find_skips, each_map, Pairwise, some_none}
 use Rattle.std.proofs.lemmas.Option.{none-some, same_Some}
 

@@ -7,26 +7,26 @@ use Rattle.std.proofs.lemmas.Option.{same_Some}
 use Rattle.sc_base.specs.Definitions.{holds, before, same_draw, is_member, united}
 use Rattle.sc_base.specs.declared.names.Draw.{Draw}
 use Rattle.sc_base.proofs.Lemmas.{same_name}
-use Rattle.sc_cmd.specs.declared.bodies.Body.{Body}
-use Rattle.sc_cmd.specs.declared.bodies.Body.TheVariants as At
-use Rattle.sc_cmd.specs.declared.cores.Lock.{Lock}
-use Rattle.sc_cmd.specs.declared.cores.Lock.TheVariants.{Free, Coordinating, Promised, Watching}
-use Rattle.sc_cmd.specs.declared.effects.Effect.{Effect}
-use Rattle.sc_cmd.specs.declared.effects.Effect.TheVariants as Was
-use Rattle.sc_cmd.specs.declared.votes.Frozen.{Frozen}
-use Rattle.sc_cmd.specs.declared.votes.Heard.{Heard}
-use Rattle.sc_cmd.specs.declared.votes.Outcome.{Outcome}
-use Rattle.sc_cmd.specs.declared.votes.Outcome.TheVariants.{Abort, Merged, Moved, Migrated, Divided}
-use Rattle.sc_cmd.specs.declared.votes.Past.{Past}
-use Rattle.sc_cmd.specs.declared.votes.Past.TheVariants as Cast
-use Rattle.sc_cmd.specs.declared.votes.Vote.{Vote}
-use Rattle.sc_cmd.specs.declared.votes.Vote.TheVariants as Ballot
-use Rattle.sc_cmd.specs.Definitions.{is_divided, decided_in}
-use Rattle.sc_machine_table.specs.Definitions.{Group, group_of, Plan, can_cut, can_join, can_split, can_repart, can_migrate, has_key_of, may_merge, merged_route, merged_group, closing_group, part_gift, giving_group, giving_plan, repart_plan, split_plan, taken, taking_group, taking_plan, migrated_group, left_group, child_of, decided_group, aborted, committed, heard_group, granted, participant_answered, asks_watcher, vote_recorded, released, watch_answered, watch_recorded, is_coordinating}
-use Rattle.sc_log_entries.specs.Definitions.{division_in}
-use Rattle.sc_log_entries.specs.declared.Division.{Division}
+use Rattle.sc_words.specs.declared.commands.bodies.Body.{Body}
+use Rattle.sc_words.specs.declared.commands.bodies.Body.TheVariants as At
+use Rattle.sc_words.specs.declared.commands.cores.Lock.{Lock}
+use Rattle.sc_words.specs.declared.commands.cores.Lock.TheVariants.{Free, Coordinating, Promised, Watching}
+use Rattle.sc_words.specs.declared.commands.effects.Effect.{Effect}
+use Rattle.sc_words.specs.declared.commands.effects.Effect.TheVariants as Was
+use Rattle.sc_words.specs.declared.commands.votes.Frozen.{Frozen}
+use Rattle.sc_words.specs.declared.commands.votes.Heard.{Heard}
+use Rattle.sc_words.specs.declared.commands.votes.Outcome.{Outcome}
+use Rattle.sc_words.specs.declared.commands.votes.Outcome.TheVariants.{Abort, Merged, Moved, Migrated, Divided}
+use Rattle.sc_words.specs.declared.commands.votes.Past.{Past}
+use Rattle.sc_words.specs.declared.commands.votes.Past.TheVariants as Cast
+use Rattle.sc_words.specs.declared.commands.votes.Vote.{Vote}
+use Rattle.sc_words.specs.declared.commands.votes.Vote.TheVariants as Ballot
+use Rattle.sc_words.specs.commands.Definitions.{is_divided, decided_in}
+use Rattle.sc_group_table.specs.machine.Definitions.{Group, group_of, Plan, can_cut, can_join, can_split, can_repart, can_migrate, has_key_of, may_merge, merged_route, merged_group, closing_group, part_gift, giving_group, giving_plan, repart_plan, split_plan, taken, taking_group, taking_plan, migrated_group, left_group, child_of, decided_group, aborted, committed, heard_group, granted, participant_answered, asks_watcher, vote_recorded, released, watch_answered, watch_recorded, is_coordinating}
+use Rattle.sc_meaning.specs.entries.Definitions.{division_in}
+use Rattle.sc_meaning.specs.declared.entries.Division.{Division}
 use Rattle.sc_law_entries.specs.ring.Definitions.{IsVoteCast, IsWatchVoteCast, Story, Stories, put, retold, merge_watch, with_decision, with_answer, Groups, IsEarned, Facts}
-use Rattle.sc_log_entries.proofs.Lemmas.{names_differ}
+use Rattle.sc_meaning.proofs.EntriesProofs.Lemmas.{names_differ}
 use Rattle.sc_law_entries.proofs.RingProofs.Notes.{any_keeps, any_drops, any_new, is_vote_on}
 use Rattle.sc_law_entries.proofs.RingProofs.View.{Ring}
 use Rattle.sc_law_entries.proofs.RingProofs.Cover.{at-same, at-other}

@@ -5,18 +5,18 @@ use Rattle.std.proofs.lemmas.Option.{same_Some}
 use Rattle.sc_base.specs.Definitions.{same_draw}
 use Rattle.sc_base.specs.declared.names.Draw.{Draw}
 use Rattle.sc_base.proofs.Lemmas.{draw_is}
-use Rattle.sc_cmd.specs.declared.bodies.Body.{Body}
-use Rattle.sc_cmd.specs.declared.bodies.Body.TheVariants as At
-use Rattle.sc_cmd.specs.declared.bodies.Offer.{Offer}
-use Rattle.sc_cmd.specs.declared.cores.Lock.{Lock}
-use Rattle.sc_cmd.specs.declared.cores.Lock.TheVariants.{Free, Coordinating, Promised}
-use Rattle.sc_cmd.specs.declared.votes.Heard.{Heard}
-use Rattle.sc_cmd.specs.declared.votes.Outcome.{Outcome}
-use Rattle.sc_cmd.specs.declared.votes.Outcome.TheVariants.{Abort}
-use Rattle.sc_cmd.specs.declared.votes.Vote.TheVariants as Ballot
-use Rattle.sc_machine_table.specs.Definitions.{Group, heard_group}
+use Rattle.sc_words.specs.declared.commands.bodies.Body.{Body}
+use Rattle.sc_words.specs.declared.commands.bodies.Body.TheVariants as At
+use Rattle.sc_words.specs.declared.commands.bodies.Offer.{Offer}
+use Rattle.sc_words.specs.declared.commands.cores.Lock.{Lock}
+use Rattle.sc_words.specs.declared.commands.cores.Lock.TheVariants.{Free, Coordinating, Promised}
+use Rattle.sc_words.specs.declared.commands.votes.Heard.{Heard}
+use Rattle.sc_words.specs.declared.commands.votes.Outcome.{Outcome}
+use Rattle.sc_words.specs.declared.commands.votes.Outcome.TheVariants.{Abort}
+use Rattle.sc_words.specs.declared.commands.votes.Vote.TheVariants as Ballot
+use Rattle.sc_group_table.specs.machine.Definitions.{Group, heard_group}
 use Rattle.sc_law_entries.specs.ring.Definitions.{Story, Stories, put, merge_watch, unsigned_watch, Groups, has_decided, has_born, IsCoordinating, LockOk, IsEarned, Origin, Facts}
-use Rattle.sc_log_entries.proofs.Lemmas.{draw_cases}
+use Rattle.sc_meaning.proofs.EntriesProofs.Lemmas.{draw_cases}
 use Rattle.sc_law_entries.proofs.RingProofs.Cover.{at-same, at-is, at-other, from_at}
 use Rattle.sc_law_entries.proofs.RingProofs.Facts.{IsOf, keep_known, keep_there, keep_voter, keep_watcher, keep_frozen, keep_none, facts_quiet, facts_told, StayBorn, StayVoted, SameDecided}
 use Rattle.sc_law_entries.proofs.RingProofs.Rows.{other_calm, no_coord}

@@ -2,17 +2,17 @@
 use Rattle.std.proofs.Common.{◌≡◌, ℕ, true, false, ◌⊎◌, inl, inr, Option, Some, None, refl, sym, ◌∙◌, ap, subst}
 use Rattle.std.proofs.lemmas.Option.{same_Some}
 use Rattle.sc_base.specs.declared.names.Draw.{Draw}
-use Rattle.sc_cmd.specs.declared.bodies.Body.{Body}
-use Rattle.sc_cmd.specs.declared.bodies.Offer.{Offer}
-use Rattle.sc_cmd.specs.declared.bodies.Watch.{Watch}
-use Rattle.sc_cmd.specs.declared.cores.Lock.{Lock}
-use Rattle.sc_cmd.specs.declared.cores.Lock.TheVariants.{Free, Coordinating, Promised, Watching}
-use Rattle.sc_cmd.specs.declared.votes.Frozen.{Frozen}
-use Rattle.sc_cmd.specs.declared.votes.Heard.{Heard}
-use Rattle.sc_cmd.specs.declared.votes.Vote.TheVariants.{Yes}
-use Rattle.sc_machine_table.specs.Definitions.{Group, frozen_of, has_voted}
+use Rattle.sc_words.specs.declared.commands.bodies.Body.{Body}
+use Rattle.sc_words.specs.declared.commands.bodies.Offer.{Offer}
+use Rattle.sc_words.specs.declared.commands.bodies.Watch.{Watch}
+use Rattle.sc_words.specs.declared.commands.cores.Lock.{Lock}
+use Rattle.sc_words.specs.declared.commands.cores.Lock.TheVariants.{Free, Coordinating, Promised, Watching}
+use Rattle.sc_words.specs.declared.commands.votes.Frozen.{Frozen}
+use Rattle.sc_words.specs.declared.commands.votes.Heard.{Heard}
+use Rattle.sc_words.specs.declared.commands.votes.Vote.TheVariants.{Yes}
+use Rattle.sc_group_table.specs.machine.Definitions.{Group, frozen_of, has_voted}
 use Rattle.sc_law_entries.specs.ring.Definitions.{Story, Stories, put, unsigned_watch, Groups, has_decided, has_born, LockOk, GroupOk, IsFrozen, IsAgreed, IsVoter, IsWatcher, StoryOk, Origin, Facts}
-use Rattle.sc_log_entries.proofs.Lemmas.{draw_cases}
+use Rattle.sc_meaning.proofs.EntriesProofs.Lemmas.{draw_cases}
 use Rattle.sc_law_entries.proofs.RingProofs.Cover.{at-same, at-is, at-other, from_at}
 use Rattle.sc_law_entries.proofs.RingProofs.Finds.{some_none}
 

@@ -5,7 +5,7 @@ use Rattle.std.specs.Option.{option_map}
 use Rattle.std.proofs.Common.{◌≡◌, ℕ, zero, suc, ◌<◌, Bool, true, false, cond, List, [], ◌∷◌, inl, inr, Option, Some, None, refl, ◌∙◌, ap, arith, length, AllPairs, get_or}
 use Rattle.std.proofs.lemmas.Bool.{cond-true, cond-false}
 use Rattle.sc_base.specs.Definitions.{Among, Each}
-use Rattle.sc_paxos_words.proofs.Lemmas.{Each-among, Each-filter, Each-from_All}
+use Rattle.sc_words.proofs.PaxosProofs.Lemmas.{Each-among, Each-filter, Each-from_All}
 use Rattle.sc_base.proofs.Lemmas.{AllPairs-head, AllPairs-tail}
 
 pub some_none : {X : Type 0} (a : X) → Some a ≡ None → ⊥

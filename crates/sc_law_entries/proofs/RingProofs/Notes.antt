@@ -6,10 +6,10 @@ use Rattle.std.proofs.lemmas.Bool.{or_left, or_right, or_parts, cond_both}
 use Rattle.std.proofs.lemmas.List.Folds.{list_any-append}
 use Rattle.sc_base.specs.Definitions.{same_draw}
 use Rattle.sc_base.specs.declared.names.Draw.{Draw}
-use Rattle.sc_cmd.specs.declared.cores.Core.{Core}
-use Rattle.sc_cmd.specs.declared.votes.Past.{Past}
-use Rattle.sc_cmd.specs.declared.votes.Past.TheVariants.{Ended}
-use Rattle.sc_machine_table.specs.Definitions.{closed, voted_after, has_voted}
+use Rattle.sc_words.specs.declared.commands.cores.Core.{Core}
+use Rattle.sc_words.specs.declared.commands.votes.Past.{Past}
+use Rattle.sc_words.specs.declared.commands.votes.Past.TheVariants.{Ended}
+use Rattle.sc_group_table.specs.machine.Definitions.{closed, voted_after, has_voted}
 
 pub any_keeps : {X : Type 0} (p : X → Bool) (xs ys : List X) → list_any p xs ≡ true → list_any p (xs ++ ys) ≡ true
 any_keeps p xs ys e = list_any-append p xs ys ∙ or_left (list_any p xs) (list_any p ys) e

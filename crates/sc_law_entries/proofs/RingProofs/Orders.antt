@@ -7,25 +7,25 @@ use Rattle.std.proofs.lemmas.Option.{same_Some}
 use Rattle.sc_base.specs.Definitions.{holds, offset, same_draw, united}
 use Rattle.sc_base.specs.declared.names.Draw.{Draw}
 use Rattle.sc_base.proofs.Lemmas.{draw_is, same_name}
-use Rattle.sc_cmd.specs.declared.bodies.Body.{Body}
-use Rattle.sc_cmd.specs.declared.bodies.Body.TheVariants as At
-use Rattle.sc_cmd.specs.declared.bodies.Offer.{Offer}
-use Rattle.sc_cmd.specs.declared.bodies.Watch.{Watch}
-use Rattle.sc_cmd.specs.declared.commands.Command.TheVariants.{Split}
-use Rattle.sc_cmd.specs.declared.cores.Core.{Core}
-use Rattle.sc_cmd.specs.declared.cores.Lock.{Lock}
-use Rattle.sc_cmd.specs.declared.cores.Lock.TheVariants.{Free, Coordinating, Promised, Watching}
-use Rattle.sc_cmd.specs.declared.effects.Effect.{Effect}
-use Rattle.sc_cmd.specs.declared.orders.OrderRefusal.TheVariants.{BadBoundary}
-use Rattle.sc_cmd.specs.declared.votes.Heard.{Heard}
-use Rattle.sc_cmd.specs.declared.votes.Outcome.{Outcome}
-use Rattle.sc_cmd.specs.declared.votes.Outcome.TheVariants.{Abort, Merged, Moved, Migrated, Divided}
-use Rattle.sc_cmd.specs.Definitions.{is_alone}
-use Rattle.sc_machine_table.specs.Definitions.{Group, group_of, can_gain, gained_group, lost_group, welcomed_group, participant_after, settled_in, party_freed, watcher_after, watch_ended, finished, split_group, ordered_by, refusal_of, split_refused, can_cut, has_key_of, left_group, child_of, begun_group}
-use Rattle.sc_log_entries.specs.Definitions.{division_of, after_outcome, is_commit}
-use Rattle.sc_log_entries.specs.declared.Division.{Division}
+use Rattle.sc_words.specs.declared.commands.bodies.Body.{Body}
+use Rattle.sc_words.specs.declared.commands.bodies.Body.TheVariants as At
+use Rattle.sc_words.specs.declared.commands.bodies.Offer.{Offer}
+use Rattle.sc_words.specs.declared.commands.bodies.Watch.{Watch}
+use Rattle.sc_words.specs.declared.commands.commands.Command.TheVariants.{Split}
+use Rattle.sc_words.specs.declared.commands.cores.Core.{Core}
+use Rattle.sc_words.specs.declared.commands.cores.Lock.{Lock}
+use Rattle.sc_words.specs.declared.commands.cores.Lock.TheVariants.{Free, Coordinating, Promised, Watching}
+use Rattle.sc_words.specs.declared.commands.effects.Effect.{Effect}
+use Rattle.sc_words.specs.declared.commands.orders.OrderRefusal.TheVariants.{BadBoundary}
+use Rattle.sc_words.specs.declared.commands.votes.Heard.{Heard}
+use Rattle.sc_words.specs.declared.commands.votes.Outcome.{Outcome}
+use Rattle.sc_words.specs.declared.commands.votes.Outcome.TheVariants.{Abort, Merged, Moved, Migrated, Divided}
+use Rattle.sc_words.specs.commands.Definitions.{is_alone}
+use Rattle.sc_group_table.specs.machine.Definitions.{Group, group_of, can_gain, gained_group, lost_group, welcomed_group, participant_after, settled_in, party_freed, watcher_after, watch_ended, finished, split_group, ordered_by, refusal_of, split_refused, can_cut, has_key_of, left_group, child_of, begun_group}
+use Rattle.sc_meaning.specs.entries.Definitions.{division_of, after_outcome, is_commit}
+use Rattle.sc_meaning.specs.declared.entries.Division.{Division}
 use Rattle.sc_law_entries.specs.ring.Definitions.{Story, Stories, put, new_story, stories_after, Groups, LockOk}
-use Rattle.sc_log_entries.proofs.Lemmas.{names_differ}
+use Rattle.sc_meaning.proofs.EntriesProofs.Lemmas.{names_differ}
 use Rattle.sc_law_entries.proofs.RingProofs.Notes.{any_keeps, any_new, ended_keeps, is_vote_on}
 use Rattle.sc_law_entries.proofs.RingProofs.View.{Ring}
 use Rattle.sc_law_entries.proofs.RingProofs.Cover.{at-same, at-other}

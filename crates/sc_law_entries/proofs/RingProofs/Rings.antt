@@ -4,17 +4,17 @@ use Rattle.std.specs.List.{filter, flat_map}
 use Rattle.std.proofs.Common.{◌≡◌, ◌≢◌, ℕ, cond, List, Option, Some, None, refl, ◌∙◌, ap}
 use Rattle.sc_base.specs.Definitions.{Arc, before, from, joined}
 use Rattle.sc_base.specs.declared.names.Draw.{Draw}
-use Rattle.sc_cmd.specs.declared.commands.Command.{Command}
-use Rattle.sc_cmd.specs.declared.commands.Command.TheVariants.{RecordVote, RecordWatch}
-use Rattle.sc_cmd.specs.declared.cores.Core.{Core}
-use Rattle.sc_cmd.specs.declared.effects.Effect.{Effect}
-use Rattle.sc_cmd.specs.declared.effects.Effect.TheVariants as Was
-use Rattle.sc_cmd.specs.declared.votes.Outcome.{Outcome}
-use Rattle.sc_cmd.specs.declared.votes.Outcome.TheVariants.{Abort, Merged, Moved, Migrated, Divided}
-use Rattle.sc_cmd.specs.Definitions.{is_divided, decided_in}
-use Rattle.sc_log_entries.specs.Definitions.{division_in, division_of, is_cut_of, arc_in, recut, parts_of, ring_divided, both_arcs, ring_merged, ring_moved, ring_decided, decided_by, ring_after}
-use Rattle.sc_log_entries.specs.declared.Cut.{Cut}
-use Rattle.sc_log_entries.specs.declared.Division.{Division}
+use Rattle.sc_words.specs.declared.commands.commands.Command.{Command}
+use Rattle.sc_words.specs.declared.commands.commands.Command.TheVariants.{RecordVote, RecordWatch}
+use Rattle.sc_words.specs.declared.commands.cores.Core.{Core}
+use Rattle.sc_words.specs.declared.commands.effects.Effect.{Effect}
+use Rattle.sc_words.specs.declared.commands.effects.Effect.TheVariants as Was
+use Rattle.sc_words.specs.declared.commands.votes.Outcome.{Outcome}
+use Rattle.sc_words.specs.declared.commands.votes.Outcome.TheVariants.{Abort, Merged, Moved, Migrated, Divided}
+use Rattle.sc_words.specs.commands.Definitions.{is_divided, decided_in}
+use Rattle.sc_meaning.specs.entries.Definitions.{division_in, division_of, is_cut_of, arc_in, recut, parts_of, ring_divided, both_arcs, ring_merged, ring_moved, ring_decided, decided_by, ring_after}
+use Rattle.sc_meaning.specs.declared.entries.Cut.{Cut}
+use Rattle.sc_meaning.specs.declared.entries.Division.{Division}
 use Rattle.sc_law_entries.specs.ring.Definitions.{put}
 use Rattle.sc_law_entries.proofs.RingProofs.View.{Ring}
 use Rattle.sc_law_entries.proofs.RingProofs.Cover.{at-other}

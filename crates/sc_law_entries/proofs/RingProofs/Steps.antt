@@ -9,35 +9,35 @@ use Rattle.sc_base.specs.Definitions.{same_draw, Arc, united}
 use Rattle.sc_base.specs.declared.names.Draw.{Draw}
 use Rattle.sc_base.specs.declared.ops.Op.{Op}
 use Rattle.sc_base.specs.declared.ops.Noted.{Noted}
-use Rattle.sc_cmd.specs.Definitions.{is_changed, is_alone}
-use Rattle.sc_ideal.specs.Definitions.{Contents, key_of, after, holds_key}
-use Rattle.sc_ideal.proofs.Lemmas.{apart, get-part}
-use Rattle.sc_cmd.specs.declared.bodies.Body.{Body}
-use Rattle.sc_cmd.specs.declared.bodies.Body.TheVariants as At
-use Rattle.sc_cmd.specs.declared.bodies.Offer.{Offer}
-use Rattle.sc_cmd.specs.declared.bodies.Watch.{Watch}
-use Rattle.sc_cmd.specs.declared.commands.Command.{Command}
-use Rattle.sc_cmd.specs.declared.commands.Command.TheVariants.{Join, Leave, Begin, Finish}
-use Rattle.sc_cmd.specs.declared.cores.Core.{Core}
-use Rattle.sc_cmd.specs.declared.cores.Lock.{Lock}
-use Rattle.sc_cmd.specs.declared.cores.Lock.TheVariants.{Free, Coordinating, Promised, Watching}
-use Rattle.sc_cmd.specs.declared.effects.Effect.{Effect}
-use Rattle.sc_cmd.specs.declared.effects.Effect.TheVariants as Was
-use Rattle.sc_cmd.specs.declared.links.Link.{Link}
-use Rattle.sc_cmd.specs.declared.links.Route.{Route}
-use Rattle.sc_cmd.specs.declared.orders.OrderRefusal.{OrderRefusal}
-use Rattle.sc_cmd.specs.declared.orders.OrderRefusal.TheVariants.{NotLeader, InTransaction, NoNeighbour}
-use Rattle.sc_cmd.specs.declared.votes.No.{No}
-use Rattle.sc_cmd.specs.declared.votes.No.TheVariants.{Gone, Busy}
-use Rattle.sc_cmd.specs.declared.votes.Outcome.{Outcome}
-use Rattle.sc_cmd.specs.declared.votes.Outcome.TheVariants.{Abort, Merged, Moved, Migrated, Divided}
-use Rattle.sc_cmd.specs.declared.votes.Past.{Past}
-use Rattle.sc_cmd.specs.declared.votes.Past.TheVariants as Cast
-use Rattle.sc_cmd.specs.declared.votes.Vote.TheVariants as Ballot
-use Rattle.sc_machine_table.specs.Definitions.{Group, can_gain, gained_group, lost_group, welcomed_group, participant_after, settled_in, finished, party_freed, pred_after, watcher_after, watch_ended, done, served_by_note, served, called, applied, ordered_by, locked_in, refused_free, refused_in, refusal_of, begin_refused, body_refused, ordered, with_node, without_node, frozen_of, can_cut, has_key_of, has_named, is_locked_in, begun_group, has_voted, no_of, vote_of, offer_no, watch_no, watch_vote_of, past_of, bound_by, offer_voted, watched}
-use Rattle.sc_log_entries.specs.Definitions.{after_outcome, is_commit}
+use Rattle.sc_words.specs.commands.Definitions.{is_changed, is_alone}
+use Rattle.sc_words.specs.ideal.Definitions.{Contents, key_of, after, holds_key}
+use Rattle.sc_words.proofs.IdealProofs.Lemmas.{apart, get-part}
+use Rattle.sc_words.specs.declared.commands.bodies.Body.{Body}
+use Rattle.sc_words.specs.declared.commands.bodies.Body.TheVariants as At
+use Rattle.sc_words.specs.declared.commands.bodies.Offer.{Offer}
+use Rattle.sc_words.specs.declared.commands.bodies.Watch.{Watch}
+use Rattle.sc_words.specs.declared.commands.commands.Command.{Command}
+use Rattle.sc_words.specs.declared.commands.commands.Command.TheVariants.{Join, Leave, Begin, Finish}
+use Rattle.sc_words.specs.declared.commands.cores.Core.{Core}
+use Rattle.sc_words.specs.declared.commands.cores.Lock.{Lock}
+use Rattle.sc_words.specs.declared.commands.cores.Lock.TheVariants.{Free, Coordinating, Promised, Watching}
+use Rattle.sc_words.specs.declared.commands.effects.Effect.{Effect}
+use Rattle.sc_words.specs.declared.commands.effects.Effect.TheVariants as Was
+use Rattle.sc_words.specs.declared.commands.links.Link.{Link}
+use Rattle.sc_words.specs.declared.commands.links.Route.{Route}
+use Rattle.sc_words.specs.declared.commands.orders.OrderRefusal.{OrderRefusal}
+use Rattle.sc_words.specs.declared.commands.orders.OrderRefusal.TheVariants.{NotLeader, InTransaction, NoNeighbour}
+use Rattle.sc_words.specs.declared.commands.votes.No.{No}
+use Rattle.sc_words.specs.declared.commands.votes.No.TheVariants.{Gone, Busy}
+use Rattle.sc_words.specs.declared.commands.votes.Outcome.{Outcome}
+use Rattle.sc_words.specs.declared.commands.votes.Outcome.TheVariants.{Abort, Merged, Moved, Migrated, Divided}
+use Rattle.sc_words.specs.declared.commands.votes.Past.{Past}
+use Rattle.sc_words.specs.declared.commands.votes.Past.TheVariants as Cast
+use Rattle.sc_words.specs.declared.commands.votes.Vote.TheVariants as Ballot
+use Rattle.sc_group_table.specs.machine.Definitions.{Group, can_gain, gained_group, lost_group, welcomed_group, participant_after, settled_in, finished, party_freed, pred_after, watcher_after, watch_ended, done, served_by_note, served, called, applied, ordered_by, locked_in, refused_free, refused_in, refusal_of, begin_refused, body_refused, ordered, with_node, without_node, frozen_of, can_cut, has_key_of, has_named, is_locked_in, begun_group, has_voted, no_of, vote_of, offer_no, watch_no, watch_vote_of, past_of, bound_by, offer_voted, watched}
+use Rattle.sc_meaning.specs.entries.Definitions.{after_outcome, is_commit}
 use Rattle.sc_law_entries.specs.ring.Definitions.{IsShared, Story, Stories, put, retold, new_story, unsigned, unsigned_watch, vote_in, watch_vote_in, with_vote, with_watch_vote, stories_after, Groups, has_decided, has_born, IsOwnBody, Facts}
-use Rattle.sc_log_entries.proofs.Lemmas.{draw_cases, names_differ}
+use Rattle.sc_meaning.proofs.EntriesProofs.Lemmas.{draw_cases, names_differ}
 use Rattle.sc_law_entries.proofs.RingProofs.View.{Ring}
 use Rattle.sc_law_entries.proofs.RingProofs.Cover.{at-same, at-is, at-other}
 use Rattle.sc_base.proofs.Lemmas.{same_name}

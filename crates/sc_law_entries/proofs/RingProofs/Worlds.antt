@@ -6,26 +6,26 @@ use Rattle.std.proofs.lemmas.Bool.{cases_Bool, cond_both}
 use Rattle.std.proofs.lemmas.Option.{same_Some}
 use Rattle.sc_base.specs.Definitions.{same_draw}
 use Rattle.sc_base.specs.declared.names.Draw.{Draw}
-use Rattle.sc_cmd.specs.declared.bodies.Body.{Body}
-use Rattle.sc_cmd.specs.declared.bodies.Body.TheVariants as At
-use Rattle.sc_cmd.specs.declared.commands.Command.{Command}
-use Rattle.sc_cmd.specs.declared.commands.Command.TheVariants.{Noop, Call, Join, Leave, Split, Begin, Prepared, RecordVote, GiveUp, Finish, Watched, RecordWatch}
-use Rattle.sc_cmd.specs.declared.cores.Base.{Base}
-use Rattle.sc_cmd.specs.declared.cores.Lock.{Lock}
-use Rattle.sc_cmd.specs.declared.cores.Lock.TheVariants.{Free, Coordinating, Promised, Watching}
-use Rattle.sc_cmd.specs.declared.effects.Effect.{Effect}
-use Rattle.sc_cmd.specs.declared.effects.Effect.TheVariants as Was
-use Rattle.sc_cmd.specs.declared.votes.Heard.{Heard}
-use Rattle.sc_cmd.specs.declared.votes.Outcome.{Outcome}
-use Rattle.sc_cmd.specs.declared.votes.Past.{Past}
-use Rattle.sc_cmd.specs.declared.votes.Vote.{Vote}
-use Rattle.sc_cmd.specs.declared.votes.Vote.TheVariants as Ballot
-use Rattle.sc_cmd.specs.Definitions.{is_changed, is_divided, decided_in, is_alone}
-use Rattle.sc_machine_table.specs.Definitions.{Group, group_of, applied, split_group, child_of, begun_group, asks_watcher, participant_answered, vote_recorded, watch_answered, watch_recorded, is_coordinating, aborted}
-use Rattle.sc_log_entries.specs.Definitions.{division_by, division_in, division_of, birth_of, begun_transaction, begun_split, named_watcher, with_watcher, amended, concluded, transactions_after, decided_by, arc_in, named_group, groups_after, after_command}
-use Rattle.sc_log_entries.specs.declared.Division.{Division}
-use Rattle.sc_log_entries.specs.declared.LogEntry.{LogEntry}
-use Rattle.sc_log_entries.specs.declared.Transaction.{Transaction}
+use Rattle.sc_words.specs.declared.commands.bodies.Body.{Body}
+use Rattle.sc_words.specs.declared.commands.bodies.Body.TheVariants as At
+use Rattle.sc_words.specs.declared.commands.commands.Command.{Command}
+use Rattle.sc_words.specs.declared.commands.commands.Command.TheVariants.{Noop, Call, Join, Leave, Split, Begin, Prepared, RecordVote, GiveUp, Finish, Watched, RecordWatch}
+use Rattle.sc_words.specs.declared.commands.cores.Base.{Base}
+use Rattle.sc_words.specs.declared.commands.cores.Lock.{Lock}
+use Rattle.sc_words.specs.declared.commands.cores.Lock.TheVariants.{Free, Coordinating, Promised, Watching}
+use Rattle.sc_words.specs.declared.commands.effects.Effect.{Effect}
+use Rattle.sc_words.specs.declared.commands.effects.Effect.TheVariants as Was
+use Rattle.sc_words.specs.declared.commands.votes.Heard.{Heard}
+use Rattle.sc_words.specs.declared.commands.votes.Outcome.{Outcome}
+use Rattle.sc_words.specs.declared.commands.votes.Past.{Past}
+use Rattle.sc_words.specs.declared.commands.votes.Vote.{Vote}
+use Rattle.sc_words.specs.declared.commands.votes.Vote.TheVariants as Ballot
+use Rattle.sc_words.specs.commands.Definitions.{is_changed, is_divided, decided_in, is_alone}
+use Rattle.sc_group_table.specs.machine.Definitions.{Group, group_of, applied, split_group, child_of, begun_group, asks_watcher, participant_answered, vote_recorded, watch_answered, watch_recorded, is_coordinating, aborted}
+use Rattle.sc_meaning.specs.entries.Definitions.{division_by, division_in, division_of, birth_of, begun_transaction, begun_split, named_watcher, with_watcher, amended, concluded, transactions_after, decided_by, arc_in, named_group, groups_after, after_command}
+use Rattle.sc_meaning.specs.declared.entries.Division.{Division}
+use Rattle.sc_meaning.specs.declared.entries.LogEntry.{LogEntry}
+use Rattle.sc_meaning.specs.declared.entries.Transaction.{Transaction}
 use Rattle.sc_law_entries.specs.ring.Definitions.{Sources, IsAllowed, AreAllowed, StoryWorld, recorded_stories, recorded_next, recorded_after, Story, Stories, put, retold, new_story, vote_in, watch_vote_in, with_vote, with_watch_vote, with_decision, with_asked, with_answer, stories_after, Groups}
 use Rattle.sc_law_entries.proofs.RingProofs.View.{Ring}
 use Rattle.sc_law_entries.proofs.RingProofs.Cover.{at-same, at-other}
@@ -33,7 +33,7 @@ use Rattle.sc_law_entries.proofs.RingProofs.Ends.{draw_new, group_none, own_stor
 use Rattle.sc_law_entries.proofs.RingProofs.Effects.{decisions, eff, arc_of}
 use Rattle.sc_law_entries.proofs.RingProofs.Steps.{Kept, same_fun, idle, call_kept, join_kept, leave_kept, begin_kept, prepared_kept, watched_kept, named_cases}
 use Rattle.sc_law_entries.proofs.RingProofs.Cuts.{arcs_in}
-use Rattle.sc_log_entries.proofs.Lemmas.{found_name}
+use Rattle.sc_meaning.proofs.EntriesProofs.Lemmas.{found_name}
 use Rattle.sc_law_entries.proofs.RingProofs.Told.{groups_in, with_child, groups_are, AreFound, found_after, Agree, story_brief, agree_begun, agree_retold, agree_watcher, agree_concluded}
 use Rattle.sc_law_entries.proofs.RingProofs.Commits.{ring_told}
 use Rattle.sc_law_entries.proofs.RingProofs.Decisions.{born_too, record_kept, give_up_kept, watch_record_kept}

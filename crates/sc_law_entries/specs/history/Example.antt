@@ -4,12 +4,12 @@ use Rattle.std.specs.FinMap.{empty}
 use Rattle.sc_base.specs.declared.names.Draw.{Draw}
 use Rattle.sc_base.specs.declared.ops.Op.{Op}
 use Rattle.sc_base.specs.declared.ops.Op.TheVariants.{Get, Put}
-use Rattle.sc_ideal.specs.declared.Entry.{Entry}
-use Rattle.sc_cmd.specs.declared.commands.Command.TheVariants.{Call, Split}
-use Rattle.sc_cmd.specs.declared.cores.Base.{Base}
-use Rattle.sc_cmd.specs.declared.cores.Lock.TheVariants.{Free}
-use Rattle.sc_log_entries.specs.declared.LogEntry.{LogEntry}
-use Rattle.sc_log_entries.specs.Definitions.{first_world, world_of}
+use Rattle.sc_words.specs.declared.ideal.Entry.{Entry}
+use Rattle.sc_words.specs.declared.commands.commands.Command.TheVariants.{Call, Split}
+use Rattle.sc_words.specs.declared.commands.cores.Base.{Base}
+use Rattle.sc_words.specs.declared.commands.cores.Lock.TheVariants.{Free}
+use Rattle.sc_meaning.specs.declared.entries.LogEntry.{LogEntry}
+use Rattle.sc_meaning.specs.entries.Definitions.{first_world, world_of}
 use Rattle.sc_law_entries.specs.history.Telling.{AllMayBeApplied}
 use Rattle.sc_law_entries.specs.history.Worlds.{BeginBare}
 use Rattle.sc_law_entries.specs.history.Moves.{Holding, Holdings, Move, DividedAt, GivenFrom, ServedBy, RequestOf, AreBare, MayMakeAll, history_by, with_holding}

@@ -1,20 +1,20 @@
 -- What groups and their entries make allowed at other groups: who takes part in a transaction, or coordinates it, acts by what the stories record.
 use Rattle.std.specs.Prelude.{◌≡◌, ℕ, Option, Some}
 use Rattle.sc_base.specs.declared.names.Draw.{Draw}
-use Rattle.sc_cmd.specs.declared.bodies.Body.{Body}
-use Rattle.sc_cmd.specs.declared.bodies.Offer.{Offer}
-use Rattle.sc_cmd.specs.declared.bodies.Watch.{Watch}
-use Rattle.sc_cmd.specs.declared.commands.Command.{Command}
-use Rattle.sc_cmd.specs.declared.commands.Command.TheVariants.{Prepared, RecordVote, GiveUp, Finish, Watched, RecordWatch}
-use Rattle.sc_cmd.specs.declared.cores.Lock.TheVariants.{Coordinating, Promised}
-use Rattle.sc_cmd.specs.declared.effects.Effect.TheVariants.{Decided, Voted}
-use Rattle.sc_cmd.specs.declared.votes.Heard.{Heard}
-use Rattle.sc_cmd.specs.declared.votes.Outcome.{Outcome}
-use Rattle.sc_cmd.specs.declared.votes.Past.{Past}
-use Rattle.sc_cmd.specs.declared.votes.Past.TheVariants as Cast
-use Rattle.sc_cmd.specs.declared.votes.Vote.{Vote}
-use Rattle.sc_cmd.specs.declared.votes.Vote.TheVariants as Ballot
-use Rattle.sc_machine_table.specs.Definitions.{Group, applied, frozen_of}
+use Rattle.sc_words.specs.declared.commands.bodies.Body.{Body}
+use Rattle.sc_words.specs.declared.commands.bodies.Offer.{Offer}
+use Rattle.sc_words.specs.declared.commands.bodies.Watch.{Watch}
+use Rattle.sc_words.specs.declared.commands.commands.Command.{Command}
+use Rattle.sc_words.specs.declared.commands.commands.Command.TheVariants.{Prepared, RecordVote, GiveUp, Finish, Watched, RecordWatch}
+use Rattle.sc_words.specs.declared.commands.cores.Lock.TheVariants.{Coordinating, Promised}
+use Rattle.sc_words.specs.declared.commands.effects.Effect.TheVariants.{Decided, Voted}
+use Rattle.sc_words.specs.declared.commands.votes.Heard.{Heard}
+use Rattle.sc_words.specs.declared.commands.votes.Outcome.{Outcome}
+use Rattle.sc_words.specs.declared.commands.votes.Past.{Past}
+use Rattle.sc_words.specs.declared.commands.votes.Past.TheVariants as Cast
+use Rattle.sc_words.specs.declared.commands.votes.Vote.{Vote}
+use Rattle.sc_words.specs.declared.commands.votes.Vote.TheVariants as Ballot
+use Rattle.sc_group_table.specs.machine.Definitions.{Group, applied, frozen_of}
 use Rattle.sc_law_entries.specs.ring.Definitions.{Sources, IsAllowed, Groups, Facts, Stories, unsigned, unsigned_watch, offer_for, watch_for, stories_after}
 
 -- a group as it stands makes a command allowed at a group, whatever the stories are that agree with it

@@ -3,17 +3,17 @@ use Rattle.std.specs.Prelude.{◌≡◌, ℕ, ◌+◌, ◌-◌, ◌≤◌, List,
 use Rattle.sc_base.specs.Definitions.{Among}
 use Rattle.sc_base.specs.declared.ops.Op.{Op}
 use Rattle.sc_base.specs.declared.ops.Reply.{Reply}
-use Rattle.sc_cmd.specs.declared.commands.Command.{Command}
-use Rattle.sc_cmd.specs.declared.commands.Command.TheVariants.{Call}
-use Rattle.sc_cmd.specs.declared.cores.Base.{Base}
-use Rattle.sc_cmd.specs.declared.orders.OrderLine.{OrderLine}
+use Rattle.sc_words.specs.declared.commands.commands.Command.{Command}
+use Rattle.sc_words.specs.declared.commands.commands.Command.TheVariants.{Call}
+use Rattle.sc_words.specs.declared.commands.cores.Base.{Base}
+use Rattle.sc_words.specs.declared.commands.orders.OrderLine.{OrderLine}
 use Rattle.sc_mail.specs.declared.bodies.Mail.{Mail}
 use Rattle.sc_actor.specs.declared.rows.Row.{Row}
-use Rattle.sc_machine_table.specs.Definitions.{group_of, state_after, applied}
+use Rattle.sc_group_table.specs.machine.Definitions.{group_of, state_after, applied}
 use Rattle.sc_paxos_law.specs.Definitions.{IsLog}
-use Rattle.sc_sound.specs.Definitions.{Ahead, route_of, accepts, groups_at, rule_of, IsChosenIn, decided_log, issue_row, kept_reply, answer_row, Continues, AllHaveRun}
-use Rattle.sc_scenario.specs.declared.scenarios.Asks.{Asks}
-use Rattle.sc_scenario.specs.declared.scenarios.Scenario.{Scenario}
+use Rattle.sc_meaning.specs.sound.Definitions.{Ahead, route_of, accepts, groups_at, rule_of, IsChosenIn, decided_log, issue_row, kept_reply, answer_row, Continues, AllHaveRun}
+use Rattle.sc_scenario.specs.declared.scenario.scenarios.Asks.{Asks}
+use Rattle.sc_scenario.specs.declared.scenario.scenarios.Scenario.{Scenario}
 use Rattle.sc_law_entries.specs.history.Definitions.{IsReplied}
 use Rattle.sc_law_entries.specs.logs.Descent.{Rows, added_by}
 

@@ -1,12 +1,12 @@
 -- The groups of a journal by descent: those of the scenario, and generation by generation the children that their logs create.
 use Rattle.std.specs.Prelude.{ℕ, zero, suc, List, [], ◌∷◌, ◌++◌, length, drop}
 use Rattle.sc_base.specs.Definitions.{Among}
-use Rattle.sc_cmd.specs.declared.commands.Command.{Command}
-use Rattle.sc_cmd.specs.declared.cores.Base.{Base}
-use Rattle.sc_cmd.specs.declared.orders.OrderLine.{OrderLine}
+use Rattle.sc_words.specs.declared.commands.commands.Command.{Command}
+use Rattle.sc_words.specs.declared.commands.cores.Base.{Base}
+use Rattle.sc_words.specs.declared.commands.orders.OrderLine.{OrderLine}
 use Rattle.sc_mail.specs.declared.bodies.Mail.{Mail}
 use Rattle.sc_actor.specs.declared.rows.Row.{Row}
-use Rattle.sc_sound.specs.Definitions.{Ahead, children_of, children_by, decided_log, decided_state}
+use Rattle.sc_meaning.specs.sound.Definitions.{Ahead, children_of, children_by, decided_log, decided_state}
 
 -- rows of a journal
 abbrev pub Rows : Type 0

@@ -2,11 +2,11 @@
 use Rattle.std.specs.Prelude.{◌≡◌, ℕ, List, [], ◌∷◌, map, Some, None, if◌then◌else◌}
 use Rattle.sc_base.specs.Definitions.{same_draw}
 use Rattle.sc_base.specs.declared.names.Ballot.{Ballot}
-use Rattle.sc_cmd.specs.declared.commands.Command.{Command}
-use Rattle.sc_cmd.specs.declared.commands.Command.TheVariants.{Call, Split}
-use Rattle.sc_cmd.specs.declared.cores.Base.{Base}
-use Rattle.sc_cmd.specs.declared.orders.Order.TheVariants as Ordered
-use Rattle.sc_cmd.specs.declared.orders.OrderLine.{OrderLine}
+use Rattle.sc_words.specs.declared.commands.commands.Command.{Command}
+use Rattle.sc_words.specs.declared.commands.commands.Command.TheVariants.{Call, Split}
+use Rattle.sc_words.specs.declared.commands.cores.Base.{Base}
+use Rattle.sc_words.specs.declared.commands.orders.Order.TheVariants as Ordered
+use Rattle.sc_words.specs.declared.commands.orders.OrderLine.{OrderLine}
 use Rattle.sc_mail.specs.declared.bodies.Mail.{Mail}
 use Rattle.sc_mail.specs.declared.bodies.MailBody.{MailBody}
 use Rattle.sc_mail.specs.declared.bodies.MailBody.TheVariants.{Request, Accept, Accepted}
@@ -14,7 +14,7 @@ use Rattle.sc_actor.specs.declared.rows.Row.{Row}
 use Rattle.sc_actor.specs.declared.rows.Event.TheVariants.{Deliver, Told, Go}
 use Rattle.sc_law_entries.specs.history.Definitions.{parent, offspring, put_a, lone_base, BeginBare}
 use Rattle.sc_law_entries.specs.ring.Definitions.{Sources, BeginInPlace}
-use Rattle.sc_sound.specs.Definitions.{four, mail, row, groups_at, log_at}
+use Rattle.sc_meaning.specs.sound.Definitions.{four, mail, row, groups_at, log_at}
 use Rattle.sc_law_entries.specs.logs.Descent.{Rows}
 use Rattle.sc_law_entries.specs.logs.InTurn.{DecideInTurn}
 

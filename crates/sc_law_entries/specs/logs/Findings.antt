@@ -2,17 +2,17 @@
 use Rattle.std.specs.Prelude.{◌≡◌, ℕ, ◌+◌, ◌<◌, ◌≤◌, ◌⊎◌, List, [], ◌∷◌, ◌++◌, length, Some, None}
 use Rattle.sc_base.specs.Definitions.{Among}
 use Rattle.sc_base.specs.declared.names.Draw.{Draw}
-use Rattle.sc_cmd.specs.declared.commands.Command.{Command}
-use Rattle.sc_cmd.specs.declared.commands.Command.TheVariants.{Call}
-use Rattle.sc_cmd.specs.declared.cores.Base.{Base}
-use Rattle.sc_cmd.specs.declared.orders.OrderLine.{OrderLine}
+use Rattle.sc_words.specs.declared.commands.commands.Command.{Command}
+use Rattle.sc_words.specs.declared.commands.commands.Command.TheVariants.{Call}
+use Rattle.sc_words.specs.declared.commands.cores.Base.{Base}
+use Rattle.sc_words.specs.declared.commands.orders.OrderLine.{OrderLine}
 use Rattle.sc_mail.specs.declared.bodies.Mail.{Mail}
 use Rattle.sc_actor.specs.declared.rows.Row.{Row}
-use Rattle.sc_ideal.specs.declared.Entry.{Entry}
-use Rattle.sc_machine_table.specs.Definitions.{group_of, state_after}
-use Rattle.sc_sound.specs.Definitions.{Ahead, children_of, children_by, groups_at, birth_at, log_at, state_at, entries_at, world_at, history_at, decided_log, decided_state, Continues, IsOneMap, row_of_entry}
-use Rattle.sc_log_entries.specs.declared.LogEntry.{LogEntry}
-use Rattle.sc_log_entries.specs.Definitions.{named_group}
+use Rattle.sc_words.specs.declared.ideal.Entry.{Entry}
+use Rattle.sc_group_table.specs.machine.Definitions.{group_of, state_after}
+use Rattle.sc_meaning.specs.sound.Definitions.{Ahead, children_of, children_by, groups_at, birth_at, log_at, state_at, entries_at, world_at, history_at, decided_log, decided_state, Continues, IsOneMap, row_of_entry}
+use Rattle.sc_meaning.specs.declared.entries.LogEntry.{LogEntry}
+use Rattle.sc_meaning.specs.entries.Definitions.{named_group}
 use Rattle.sc_law_entries.specs.history.Definitions.{log_in, HasNotes}
 use Rattle.sc_law_entries.specs.logs.Descent.{Rows, IsFound, added_by, newborn_by}
 

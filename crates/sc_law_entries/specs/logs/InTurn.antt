@@ -2,11 +2,11 @@
 use Rattle.std.specs.Prelude.{◌≡◌, List, [], ◌∷◌, ◌++◌}
 use Rattle.sc_base.specs.Definitions.{Among, Each}
 use Rattle.sc_base.specs.declared.names.Draw.{Draw}
-use Rattle.sc_cmd.specs.declared.cores.Base.{Base}
-use Rattle.sc_cmd.specs.declared.orders.OrderLine.{OrderLine}
+use Rattle.sc_words.specs.declared.commands.cores.Base.{Base}
+use Rattle.sc_words.specs.declared.commands.orders.OrderLine.{OrderLine}
 use Rattle.sc_mail.specs.declared.bodies.Mail.{Mail}
 use Rattle.sc_actor.specs.declared.rows.Row.{Row}
-use Rattle.sc_sound.specs.Definitions.{Ahead, groups_at, entries_at, decided_log, Continues}
+use Rattle.sc_meaning.specs.sound.Definitions.{Ahead, groups_at, entries_at, decided_log, Continues}
 use Rattle.sc_law_entries.specs.ring.Definitions.{Sources, IsAllowed, stories_of}
 use Rattle.sc_law_entries.specs.logs.Descent.{Rows, added_by, newborn_by}
 

@@ -2,15 +2,15 @@
 use Rattle.std.specs.Prelude.{◌≡◌, ℕ, List, [], ◌∷◌, ◌++◌, Some, slice_get}
 use Rattle.sc_base.specs.Definitions.{Among}
 use Rattle.sc_base.specs.declared.names.Draw.{Draw}
-use Rattle.sc_cmd.specs.declared.commands.Command.{Command}
-use Rattle.sc_cmd.specs.declared.cores.Base.{Base}
-use Rattle.sc_cmd.specs.declared.orders.OrderLine.{OrderLine}
+use Rattle.sc_words.specs.declared.commands.commands.Command.{Command}
+use Rattle.sc_words.specs.declared.commands.cores.Base.{Base}
+use Rattle.sc_words.specs.declared.commands.orders.OrderLine.{OrderLine}
 use Rattle.sc_mail.specs.declared.bodies.Mail.{Mail}
 use Rattle.sc_actor.specs.declared.rows.Row.{Row}
-use Rattle.sc_ideal.specs.declared.Entry.{Entry}
-use Rattle.sc_sound.specs.Definitions.{Ahead, groups_at, entries_at, history_at, decided_log, IsSound}
-use Rattle.sc_scenario.specs.declared.scenarios.Scenario.{Scenario}
-use Rattle.sc_machine_table.specs.Definitions.{Group, group_of, state_after}
+use Rattle.sc_words.specs.declared.ideal.Entry.{Entry}
+use Rattle.sc_meaning.specs.sound.Definitions.{Ahead, groups_at, entries_at, history_at, decided_log, IsSound}
+use Rattle.sc_scenario.specs.declared.scenario.scenarios.Scenario.{Scenario}
+use Rattle.sc_group_table.specs.machine.Definitions.{Group, group_of, state_after}
 use Rattle.sc_law_entries.specs.ring.Definitions.{Sources, IsAllowed, AreAllowed, first_recorded, BeginInPlace, stories_of}
 use Rattle.sc_law_entries.specs.history.Definitions.{BeginBare}
 use Rattle.sc_law_entries.specs.logs.Allows.{AllowsAsItStands, MakesAllowed, GroupAllows}

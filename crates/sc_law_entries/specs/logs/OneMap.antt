@@ -1,11 +1,11 @@
 -- What allowed entries make of the store: one map, served by the groups of the ring.
 use Rattle.std.specs.Prelude.{List}
 use Rattle.sc_base.specs.Definitions.{Among}
-use Rattle.sc_cmd.specs.declared.cores.Base.{Base}
-use Rattle.sc_ideal.specs.Definitions.{Legal}
-use Rattle.sc_log_entries.specs.declared.Cut.{Cut}
-use Rattle.sc_log_entries.specs.declared.LogEntry.{LogEntry}
-use Rattle.sc_log_entries.specs.Definitions.{HoldsItsPart, world_of}
+use Rattle.sc_words.specs.declared.commands.cores.Base.{Base}
+use Rattle.sc_words.specs.ideal.Definitions.{Legal}
+use Rattle.sc_meaning.specs.declared.entries.Cut.{Cut}
+use Rattle.sc_meaning.specs.declared.entries.LogEntry.{LogEntry}
+use Rattle.sc_meaning.specs.entries.Definitions.{HoldsItsPart, world_of}
 use Rattle.sc_law_entries.specs.ring.Definitions.{Sources, AreAllowed, first_recorded, BeginInPlace, IsRingSound}
 use Rattle.sc_law_entries.specs.history.Definitions.{BeginBare, LogNotesStay}
 

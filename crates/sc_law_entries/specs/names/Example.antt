@@ -1,14 +1,14 @@
 -- A worked journal of three orders to one node: two splits, and a merge of a group that has no neighbour.
 use Rattle.std.specs.Prelude.{false, [], ◌∷◌}
 use Rattle.sc_node_table.specs.Values.{Draw, Split, OrderLine, Accept, Told as ToldMail}
-use Rattle.sc_cmd.specs.declared.orders.Order.TheVariants as An
-use Rattle.sc_cmd.specs.declared.orders.OrderRefusal.TheVariants as Why
-use Rattle.sc_cmd.specs.declared.orders.OrderResult.TheVariants as Tells
+use Rattle.sc_words.specs.declared.commands.orders.Order.TheVariants as An
+use Rattle.sc_words.specs.declared.commands.orders.OrderRefusal.TheVariants as Why
+use Rattle.sc_words.specs.declared.commands.orders.OrderResult.TheVariants as Tells
 use Rattle.sc_actor.specs.declared.rows.Event.TheVariants.{Told}
-use Rattle.sc_scenario.specs.Definitions.{lone_group, lone_name}
-use Rattle.sc_scenario.specs.declared.scenarios.SchedLine.TheVariants as line
-use Rattle.sc_scenario.specs.declared.scenarios.Scenario.{Scenario}
-use Rattle.sc_sound.specs.Definitions.{ballot, mail, row}
+use Rattle.sc_scenario.specs.scenario.Definitions.{lone_group, lone_name}
+use Rattle.sc_scenario.specs.declared.scenario.scenarios.SchedLine.TheVariants as line
+use Rattle.sc_scenario.specs.declared.scenario.scenarios.Scenario.{Scenario}
+use Rattle.sc_meaning.specs.sound.Definitions.{ballot, mail, row}
 use Rattle.sc_law_entries.specs.names.Owners.{Rows}
 
 -- the first name that node 1 draws

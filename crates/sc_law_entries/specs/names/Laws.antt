@@ -3,12 +3,12 @@ use Rattle.std.specs.List.{AllPairs}
 use Rattle.std.specs.Prelude.{Bool, List, [], ◌≡◌, ℕ, ◌<◌, ◌≤◌, ◌^◌, ◌∷◌, ◌++◌, Some, None}
 use Rattle.sc_base.specs.Definitions.{Among, Drawer, next_name}
 use Rattle.sc_node_table.specs.Values.{Draw, Op, Order, OrderLine, Mail, Row, Tick, Node}
-use Rattle.sc_cmd.specs.declared.orders.Order.TheVariants as An
+use Rattle.sc_words.specs.declared.commands.orders.Order.TheVariants as An
 use Rattle.sc_actor.specs.declared.rows.Event.TheVariants.{Told}
 use Rattle.sc_actor.specs.Definitions.{value}
 use Rattle.sc_node_table.specs.Definitions.{NodeState, replica_of, group_of_order, names_after_ticks, ordered_command, untaken, ordered_row, pumped, ReplicaState, name_of}
-use Rattle.sc_sound.specs.Definitions.{Ahead, player_table, node_seat}
-use Rattle.sc_scenario.specs.declared.scenarios.Scenario.{Scenario}
+use Rattle.sc_meaning.specs.sound.Definitions.{Ahead, player_table, node_seat}
+use Rattle.sc_scenario.specs.declared.scenario.scenarios.Scenario.{Scenario}
 use Rattle.sc_law_entries.specs.ring.Definitions.{IsAllowed, Stories}
 use Rattle.sc_law_entries.specs.names.Owners.{Rows, Owned, owned_by, waited, wished_at, drawn_at, owner_in}
 

@@ -2,18 +2,18 @@
 use Rattle.std.specs.Prelude.{ℕ, List, Option, Some, None}
 use Rattle.sc_base.specs.Definitions.{Each}
 use Rattle.sc_node_table.specs.Values.{Draw, Body, Offer, Watch, Command, Noop, Call, Join, Leave, Split, Begin, Prepared, RecordVote, GiveUp, Finish, Watched, RecordWatch, Core, Lock, Free, Coordinating, Promised, Watching, Effect, Route, OrderRefusal, OrderResult, Heard, No, Outcome, Past, Vote, AnswerBody, Mail, MailBody, Request, Answer, Prepare, Promise, Accept, Accepted, Nack, Learn, Ask, Install, TxPrepare, TxVote, TxOutcome, TxElsewhere, TxWatch, TxWatched, Told, Flight, Report, Node, Client}
-use Rattle.sc_client_table.specs.Definitions.{Client as ClientState}
-use Rattle.sc_cmd.specs.declared.bodies.Body.TheVariants as At
-use Rattle.sc_cmd.specs.declared.effects.Effect.TheVariants as Was
-use Rattle.sc_cmd.specs.declared.orders.OrderRefusal.TheVariants as Why
-use Rattle.sc_cmd.specs.declared.orders.OrderResult.TheVariants as Tells
-use Rattle.sc_cmd.specs.declared.votes.No.TheVariants as Because
-use Rattle.sc_cmd.specs.declared.votes.Outcome.TheVariants as Is
-use Rattle.sc_cmd.specs.declared.votes.Past.TheVariants as Cast
-use Rattle.sc_cmd.specs.declared.votes.Vote.TheVariants as Says
+use Rattle.sc_client_table.specs.table.Definitions.{Client as ClientState}
+use Rattle.sc_words.specs.declared.commands.bodies.Body.TheVariants as At
+use Rattle.sc_words.specs.declared.commands.effects.Effect.TheVariants as Was
+use Rattle.sc_words.specs.declared.commands.orders.OrderRefusal.TheVariants as Why
+use Rattle.sc_words.specs.declared.commands.orders.OrderResult.TheVariants as Tells
+use Rattle.sc_words.specs.declared.commands.votes.No.TheVariants as Because
+use Rattle.sc_words.specs.declared.commands.votes.Outcome.TheVariants as Is
+use Rattle.sc_words.specs.declared.commands.votes.Past.TheVariants as Cast
+use Rattle.sc_words.specs.declared.commands.votes.Vote.TheVariants as Says
 use Rattle.sc_mail.specs.declared.bodies.AnswerBody.TheVariants as Answers
 use Rattle.sc_node_table.specs.Definitions.{NodeState, ReplicaState}
-use Rattle.sc_sound.specs.Definitions.{Player}
+use Rattle.sc_meaning.specs.sound.Definitions.{Player}
 
 -- a statement holds of the value, if there is one
 abbrev pub Opt : {X : Type 0} → (X → Type 0) → Option X → Type 0

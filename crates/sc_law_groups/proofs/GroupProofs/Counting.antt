@@ -5,12 +5,12 @@ use Rattle.std.specs.List.{flat_map}
 use Rattle.std.proofs.lemmas.Bool.{cases_Bool, eqb-true, eqb-false, ltb-true, ltb-false, and_parts, cond_both}
 use Rattle.sc_node_table.specs.Values.{Ballot, Command, Base, Mail, MailBody, Counted, Chosen, NotYet, Flight, Report}
 use Rattle.sc_base.specs.Definitions.{same_ballot, is_member, with_member, is_majority, Among, Each}
-use Rattle.sc_paxos_words.specs.Definitions.{LeaderState, flight_at, without_flight_at, promise_counted, kept_voters, add_voter, voters_after, with_voters, vote_at, counted}
-use Rattle.sc_paxos_words.proofs.Lemmas.{Each-among, Each-weaker, Each-append, Each-filter, find_found}
+use Rattle.sc_words.specs.paxos.Definitions.{LeaderState, flight_at, without_flight_at, promise_counted, kept_voters, add_voter, voters_after, with_voters, vote_at, counted}
+use Rattle.sc_words.proofs.PaxosProofs.Lemmas.{Each-among, Each-weaker, Each-append, Each-filter, find_found}
 use Rattle.sc_paxos_law.specs.Definitions.{Prepared, Promised, Offered, Accepted, needed, members_of, CountedPromise}
 use Rattle.sc_paxos_law.proofs.Lemmas.{was_offered, one_offer}
 use Rattle.sc_node_table.specs.Definitions.{with_slot, ReplicaState, Place, Executed, next, set_at, has_room, leads, promise_row, readied, vote_tallied, voted, accepted_row}
-use Rattle.sc_sound.specs.Definitions.{Ahead}
+use Rattle.sc_meaning.specs.sound.Definitions.{Ahead}
 use Rattle.sc_law_groups.proofs.GroupProofs.Growth.{IsLearnt}
 use Rattle.sc_law_groups.proofs.GroupProofs.Invariant.{Steps, rule, first, IsFlying, IsTaken, IsReplica, next_after}
 use Rattle.sc_law_groups.proofs.GroupProofs.Speech.{Speaks}

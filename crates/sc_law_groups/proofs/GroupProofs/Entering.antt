@@ -2,12 +2,12 @@
 use Rattle.std.proofs.Common.{◌≡◌, ℕ, suc, ◌+◌, ◌<◌, ◌≤◌, List, [], ◌∷◌, ◌++◌, length, inl, inr, sym, ◌∙◌, ap, subst, arith}
 use Rattle.std.proofs.lemmas.List.{length_push, take-append-le, take_all}
 use Rattle.sc_node_table.specs.Values.{Command, Base}
-use Rattle.sc_machine_table.specs.Definitions.{Group, applied}
-use Rattle.sc_paxos_words.proofs.Lemmas.{Each-weaker}
+use Rattle.sc_group_table.specs.machine.Definitions.{Group, applied}
+use Rattle.sc_words.proofs.PaxosProofs.Lemmas.{Each-weaker}
 use Rattle.sc_paxos_law.specs.Definitions.{needed, members_of, IsChosenAfter}
 use Rattle.sc_paxos_law.proofs.Lemmas.{longer_log, get_pushed}
 use Rattle.sc_node_table.specs.Definitions.{rest_of, ReplicaState, next, floor_of, forgotten, waits_in, with_entry, entered}
-use Rattle.sc_sound.specs.Definitions.{Ahead}
+use Rattle.sc_meaning.specs.sound.Definitions.{Ahead}
 use Rattle.sc_law_groups.proofs.GroupProofs.Held.{floor_low}
 use Rattle.sc_law_groups.proofs.GroupProofs.Invariant.{Steps, rule, AreSets, HasLog, next_is, pushed_has, cut_has, IsReplica, next_after, forgotten_replica}
 use Rattle.sc_law_groups.proofs.GroupProofs.Parts.{rest_length, rest_count, rest_get}

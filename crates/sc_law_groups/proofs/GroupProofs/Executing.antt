@@ -3,17 +3,17 @@ use Rattle.std.proofs.Common.{◌≡◌, ℕ, ◌+◌, ◌<◌, ◌&&◌, nat_lt
 use Rattle.std.proofs.lemmas.Bool.{cases_Bool, eqb-true, eqb-false, and_parts, cond_both}
 use Rattle.sc_base.specs.Definitions.{client_actor, is_member, least_of, Among, Each}
 use Rattle.sc_node_table.specs.Values.{Op, Reply, Route, Command, Noop, Call, Join, Leave, Split, Begin, Base, Effect, AnswerBody, Mail, MailBody, Answer, Told, OrderResult, Flight}
-use Rattle.sc_cmd.specs.declared.effects.Effect.TheVariants as Was
+use Rattle.sc_words.specs.declared.commands.effects.Effect.TheVariants as Was
 use Rattle.sc_mail.specs.declared.bodies.AnswerBody.TheVariants as Says
-use Rattle.sc_machine_table.specs.Definitions.{Group, applied}
-use Rattle.sc_paxos_words.specs.Definitions.{LogState, next_of, flight_at, without_flight_at}
-use Rattle.sc_paxos_words.proofs.Lemmas.{Each-among, find_found}
+use Rattle.sc_group_table.specs.machine.Definitions.{Group, applied}
+use Rattle.sc_words.specs.paxos.Definitions.{LogState, next_of, flight_at, without_flight_at}
+use Rattle.sc_words.proofs.PaxosProofs.Lemmas.{Each-among, find_found}
 use Rattle.sc_paxos_law.specs.Definitions.{IsLog}
 use Rattle.sc_paxos_law.proofs.Lemmas.{earlier}
 use Rattle.sc_node_table.specs.Definitions.{at_slot, without_slot, ReplicaState, Place, Executed, childless, name_of, next, members, flying, forgotten, sent, order_number, order_reported, queued_number, without_request, request_before, put_back, entered, answer_of, answered_or_put_back, order_result, effect_reported, announced, learnt_to, landed, left_gone, left, is_among, looked_for, looked, executed_one, next_child, has_room, next_ready, ending, executed_ready, executed, before_of, begun_result, spoken_number, result_reported, begun_reported, went_on, spoken_mails, spoken}
 use Rattle.sc_node_table.specs.declared.Before.{Before}
 use Rattle.sc_law_entries.specs.history.Definitions.{IsReplied}
-use Rattle.sc_sound.specs.Definitions.{Ahead}
+use Rattle.sc_meaning.specs.sound.Definitions.{Ahead}
 use Rattle.sc_law_groups.proofs.GroupProofs.Growth.{IsLearnt, by_own_log, learnt_offered}
 use Rattle.sc_law_groups.proofs.GroupProofs.Invariant.{Steps, rule, first, IsTaken, IsReplica, next_after, IsReplyAt, IsTrueAnswer}
 use Rattle.sc_law_groups.proofs.GroupProofs.Speech.{AreSaid, Speaks}

@@ -5,14 +5,14 @@ use Rattle.sc_node_table.specs.Values.{Ballot, Reply, Command, Base, Route, Orde
 use Rattle.sc_base.specs.Definitions.{client_actor, Among, Each}
 use Rattle.sc_actor.specs.Definitions.{mails, value, has_started}
 use Rattle.sc_actor.proofs.Lemmas.{mails-snoc}
-use Rattle.sc_client_table.specs.Definitions.{Client}
+use Rattle.sc_client_table.specs.table.Definitions.{Client}
 use Rattle.sc_node_table.specs.Definitions.{NodeState}
-use Rattle.sc_paxos_words.proofs.Lemmas.{Each-among}
+use Rattle.sc_words.proofs.PaxosProofs.Lemmas.{Each-among}
 use Rattle.sc_paxos_law.specs.Definitions.{Offered, members_of, IsChosenAfter, log_of, IsLawfulHistory}
 use Rattle.sc_paxos_law.proofs.Lemmas.{Among-either, shared_member, was_offered, log_of-longest, log_grows}
-use Rattle.sc_scenario.specs.declared.scenarios.Asks.{Asks}
-use Rattle.sc_scenario.specs.declared.scenarios.Scenario.{Scenario}
-use Rattle.sc_sound.specs.Definitions.{Ahead, node_seat, player_table, client_seat, decided_log, kept_replies}
+use Rattle.sc_scenario.specs.declared.scenario.scenarios.Asks.{Asks}
+use Rattle.sc_scenario.specs.declared.scenario.scenarios.Scenario.{Scenario}
+use Rattle.sc_meaning.specs.sound.Definitions.{Ahead, node_seat, player_table, client_seat, decided_log, kept_replies}
 use Rattle.sc_law_groups.specs.group.Definitions.{steps}
 use Rattle.sc_law_groups.proofs.GroupProofs.Lists.{each_got}
 use Rattle.sc_law_groups.proofs.GroupProofs.Invariant.{Steps, rule, first, IsTrue, grown_true, OffersMade}

@@ -6,7 +6,7 @@ use Rattle.sc_base.specs.Definitions.{Each, same_draw, same_ballot}
 use Rattle.sc_node_table.specs.Values.{Ballot, Draw, Command, Base, OrderLine, Mail, MailBody, Request, Answer, Prepare, Promise, Accept, Accepted as AcceptedMail, Nack, Learn, Ask, Install, TxPrepare, TxVote, TxOutcome, TxElsewhere, TxWatch, TxWatched, Told, Row, Event}
 use Rattle.sc_paxos_law.specs.Definitions.{Prepared, Promised, Offered, Accepted}
 use Rattle.sc_node_table.specs.Definitions.{group_of_mail}
-use Rattle.sc_sound.specs.Definitions.{is_accepted, accepts_of, Ahead}
+use Rattle.sc_meaning.specs.sound.Definitions.{is_accepted, accepts_of, Ahead}
 use Rattle.sc_law_groups.specs.group.Definitions.{proposer_steps, asked_in, promised_by, promises_of}
 use Rattle.sc_law_groups.proofs.GroupProofs.Invariant.{Steps, IsOwn, IsTrue}
 

@@ -3,8 +3,8 @@ use Rattle.std.proofs.Common.{◌≡◌, ℕ, ◌≤◌, eqb, List, [], ◌∷�
 use Rattle.std.proofs.lemmas.Bool.{ne_eqb, cond-false}
 use Rattle.sc_node_table.specs.Values.{Ballot}
 use Rattle.sc_base.specs.Definitions.{Among, Each}
-use Rattle.sc_paxos_words.specs.Definitions.{born_acceptor}
-use Rattle.sc_paxos_words.proofs.Lemmas.{Each-among}
+use Rattle.sc_words.specs.paxos.Definitions.{born_acceptor}
+use Rattle.sc_words.proofs.PaxosProofs.Lemmas.{Each-among}
 use Rattle.sc_paxos_law.specs.Definitions.{Step, Prepared, Promised, Offered, Accepted, Cut, state_of, Rule, needed, members_of, IsChosen, IsChosenAfter, IsLog, MayOffer, IsLawfulStep, IsLawfulHistory}
 use Rattle.sc_paxos_law.proofs.Lemmas.{shared_member, was_offered, one_offer, later_log, later_chosen, agree_members, logs_agree, later_elected}
 

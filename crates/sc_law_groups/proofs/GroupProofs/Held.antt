@@ -5,7 +5,7 @@ use Rattle.std.proofs.Math.Nat.{le-max_left, le-max_right, max-eq_left, max-eq_r
 use Rattle.std.proofs.lemmas.Bool.{cases_Bool, cases_lt, leb-true, lt-ltb, cond-true, cond-false, cond_both}
 use Rattle.std.proofs.lemmas.List.Elements.{filter-append}
 use Rattle.sc_node_table.specs.Values.{Ballot, Report}
-use Rattle.sc_paxos_words.specs.Definitions.{AcceptorState, reports_from, with_report, after_promise, after_accept, after_cut}
+use Rattle.sc_words.specs.paxos.Definitions.{AcceptorState, reports_from, with_report, after_promise, after_accept, after_cut}
 use Rattle.sc_node_table.specs.Definitions.{floor_of}
 
 -- ---- lists

@@ -5,7 +5,7 @@ use Rattle.sc_base.specs.Definitions.{Among, Each}
 use Rattle.sc_paxos_law.specs.Definitions.{Step, Offered, IsLawfulStep, IsLawfulHistory}
 use Rattle.sc_paxos_law.proofs.Lemmas.{Among-either}
 use Rattle.sc_node_table.specs.Definitions.{ReplicaState, Place}
-use Rattle.sc_sound.specs.Definitions.{Ahead}
+use Rattle.sc_meaning.specs.sound.Definitions.{Ahead}
 use Rattle.sc_law_groups.specs.group.Definitions.{proposer_steps, asked_in}
 use Rattle.sc_law_groups.proofs.GroupProofs.Growth.{By}
 use Rattle.sc_law_groups.proofs.GroupProofs.Invariant.{Steps, rule, first, IsReplica, IsOwn, IsTrue, grown_true, OffersMade}

@@ -7,7 +7,7 @@ use Rattle.sc_base.specs.Definitions.{same_draw, Among}
 use Rattle.sc_mail.specs.declared.bodies.AnswerBody.TheVariants as Says
 use Rattle.sc_paxos_law.specs.Definitions.{Accepted}
 use Rattle.sc_node_table.specs.Definitions.{absent}
-use Rattle.sc_sound.specs.Definitions.{accepts_of, is_accepted, Ahead}
+use Rattle.sc_meaning.specs.sound.Definitions.{accepts_of, is_accepted, Ahead}
 use Rattle.sc_law_groups.specs.group.Definitions.{proposer_steps, asked_in, promises_of}
 use Rattle.sc_law_groups.proofs.GroupProofs.Invariant.{Steps, IsOwn, IsTrue}
 use Rattle.sc_law_groups.proofs.GroupProofs.Voting.{IsPlain, ArePlain, no_promises, any_accepted}

@@ -3,11 +3,11 @@ use Rattle.std.proofs.Common.{◌≡◌, ℕ, ◌||◌, not, nat_lt, true, false
 use Rattle.std.proofs.lemmas.Bool.{cases_Bool, cond_both}
 use Rattle.sc_node_table.specs.Values.{Draw, Command, Base, OrderLine, Mail, MailBody, Request, Answer, Prepare, Promise, Accept, Accepted as AcceptedMail, Nack, Learn, Ask, Install, TxPrepare, TxVote, TxOutcome, TxElsewhere, TxWatch, TxWatched, Told, OrderResult, Refused, Event}
 use Rattle.sc_base.specs.Definitions.{same_draw, Among, Each, Drawer, next_name}
-use Rattle.sc_cmd.specs.declared.orders.OrderRefusal.TheVariants.{NotLeader}
-use Rattle.sc_paxos_words.proofs.Lemmas.{Each-among, Each-from, Each-weaker, find_found}
+use Rattle.sc_words.specs.declared.commands.orders.OrderRefusal.TheVariants.{NotLeader}
+use Rattle.sc_words.proofs.PaxosProofs.Lemmas.{Each-among, Each-from, Each-weaker, find_found}
 use Rattle.sc_paxos_law.specs.Definitions.{IsLawfulHistory}
 use Rattle.sc_node_table.specs.Definitions.{NodeState, replica_of, with_replica, with_new, group_of_mail, absent, with_made, unknown, may_come, with_born, with_children, taken_by, routed, on_mail, group_of_order, ordered_of, on_order, ordered_command, ordered_row, names_after, untaken, slots_ahead, result_sent, ReplicaState, Place, name_of, born_replica, last_slot, prepare_row, made_by, mailed}
-use Rattle.sc_sound.specs.Definitions.{Ahead}
+use Rattle.sc_meaning.specs.sound.Definitions.{Ahead}
 use Rattle.sc_law_groups.specs.group.Definitions.{asked_in}
 use Rattle.sc_law_groups.proofs.GroupProofs.Growth.{By}
 use Rattle.sc_law_groups.proofs.GroupProofs.Invariant.{Steps, rule, first, IsReplica, IsTrue, OffersMade}
@@ -25,7 +25,7 @@ use Rattle.sc_law_groups.proofs.GroupProofs.Offspring.{IsChildOf, learnt_are, ac
 use Rattle.sc_law_groups.proofs.GroupProofs.Newborn.{born_replica_is}
 use Rattle.sc_law_groups.proofs.GroupProofs.Holding.{each_with, each_new, Holds, held, none_held, with_held, with_far, new_held, new_far}
 use Rattle.sc_base.proofs.Lemmas.{same_name, draw_is}
-use Rattle.sc_log_entries.proofs.Lemmas.{names_differ}
+use Rattle.sc_meaning.proofs.EntriesProofs.Lemmas.{names_differ}
 
 -- ---- one group's replica
 

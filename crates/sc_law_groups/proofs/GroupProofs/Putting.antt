@@ -1,12 +1,12 @@
 -- What is said to the parties of transactions is put behind what was said before.
 use Rattle.std.proofs.Common.{◌≡◌, ℕ, Bool, true, false, if◌then◌else◌, List, [], ◌∷◌, ◌++◌, Option, Some, None, refl, sym, ◌∙◌, ap, append_assoc, append-nil}
 use Rattle.sc_node_table.specs.Values.{Draw, Body, Offer, Watch, Command, Split, Begin, Prepared, RecordVote, GiveUp, Watched, RecordWatch, Core, Lock, Free, Coordinating, Promised, Watching, Effect, Link, Outcome, Past, Vote, Mail, MailBody, TxOutcome}
-use Rattle.sc_cmd.specs.declared.effects.Effect.TheVariants as Was
-use Rattle.sc_cmd.specs.declared.votes.Outcome.TheVariants as Is
-use Rattle.sc_cmd.specs.declared.votes.Past.TheVariants as Cast
-use Rattle.sc_cmd.specs.declared.votes.Vote.TheVariants as Vows
-use Rattle.sc_cmd.specs.Definitions.{decided_in, cast_in}
-use Rattle.sc_machine_table.specs.Definitions.{Group}
+use Rattle.sc_words.specs.declared.commands.effects.Effect.TheVariants as Was
+use Rattle.sc_words.specs.declared.commands.votes.Outcome.TheVariants as Is
+use Rattle.sc_words.specs.declared.commands.votes.Past.TheVariants as Cast
+use Rattle.sc_words.specs.declared.commands.votes.Vote.TheVariants as Vows
+use Rattle.sc_words.specs.commands.Definitions.{decided_in, cast_in}
+use Rattle.sc_group_table.specs.machine.Definitions.{Group}
 use Rattle.sc_node_table.specs.Definitions.{sent_all, asked_first, asked_node, asked_link, reminders, asked_on, begun_asks, vote_sent, watch_sent, aborted_to, aborted_watcher, given_up_by, vote_answered, released_to, watch_answered_by, went_on, voted_to, watched_to, outcome_sent, next_asked, asked_next}
 use Rattle.sc_node_table.specs.declared.Before.{Before}
 use Rattle.sc_base.specs.Definitions.{same_draw}

@@ -5,8 +5,8 @@ use Rattle.sc_node_table.specs.Values.{Command, Base}
 use Rattle.sc_node_table.specs.Definitions.{ReplicaState}
 use Rattle.sc_paxos_law.specs.Definitions.{IsChosenAfter, IsLog, IsLawfulHistory}
 use Rattle.sc_paxos_law.proofs.Lemmas.{one_value_per_slot, log_of-longest}
-use Rattle.sc_sound.specs.Definitions.{Ahead, Continues, HasRun, accepts, IsChosenIn, decided_log}
-use Rattle.sc_machine_table.specs.Definitions.{state_after}
+use Rattle.sc_meaning.specs.sound.Definitions.{Ahead, Continues, HasRun, accepts, IsChosenIn, decided_log}
+use Rattle.sc_group_table.specs.machine.Definitions.{state_after}
 use Rattle.sc_law_groups.proofs.GroupProofs.Invariant.{Steps, rule, first, birth, IsReplica, next_after}
 use Rattle.sc_law_groups.proofs.GroupProofs.Projected.{only, only_steps, log_from_only, after_from_only, log_to_only}
 use Rattle.sc_law_groups.proofs.GroupProofs.Places.{Journal}

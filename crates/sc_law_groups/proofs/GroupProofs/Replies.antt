@@ -3,7 +3,7 @@ use Rattle.std.proofs.Common.{◌≡◌, ◌≤◌, List, length, take, sym, sub
 use Rattle.sc_node_table.specs.Values.{Command, Base}
 use Rattle.sc_paxos_law.specs.Definitions.{IsLog, IsLawfulHistory}
 use Rattle.sc_paxos_law.proofs.Lemmas.{prefix_of_log}
-use Rattle.sc_sound.specs.Definitions.{Ahead, decided_log}
+use Rattle.sc_meaning.specs.sound.Definitions.{Ahead, decided_log}
 use Rattle.sc_law_groups.proofs.GroupProofs.Invariant.{rule, first}
 use Rattle.sc_law_groups.proofs.GroupProofs.Places.{Journal}
 use Rattle.sc_law_groups.proofs.GroupProofs.Families.{h_of, decided_is}

@@ -2,7 +2,7 @@
 use Rattle.std.proofs.Common.{◌≡◌, ℕ, ◌≤◌, ◌&&◌, not, true, false, cond, eqb, length, Option, Some, None, inl, inr, refl, sym, ◌∙◌, subst, arith}
 use Rattle.std.proofs.lemmas.Bool.{cases_Bool, eqb-false, and_from, cond_both}
 use Rattle.sc_node_table.specs.Values.{Command, Noop, Call, Join, Leave, Core, Draw, Route, OrderRefusal, TooManyMembers, NotMember, LastMember, IsMember}
-use Rattle.sc_machine_table.specs.Definitions.{Group, applied, locked_in, join_refused, leave_refused, refused_in, refusal_of, ordered, with_node, without_node}
+use Rattle.sc_group_table.specs.machine.Definitions.{Group, applied, locked_in, join_refused, leave_refused, refused_in, refusal_of, ordered, with_node, without_node}
 use Rattle.sc_base.specs.Definitions.{IsRoster, is_member}
 use Rattle.sc_base.proofs.Lemmas.{roster_with, roster_without}
 use Rattle.sc_law_entries.specs.history.Definitions.{LeavesWhole}

@@ -5,7 +5,7 @@ use Rattle.sc_actor.specs.Definitions.{numbered}
 use Rattle.sc_node_table.specs.Definitions.{numbers_from}
 use Rattle.sc_base.specs.Definitions.{Among}
 use Rattle.sc_paxos_law.proofs.Lemmas.{place_among}
-use Rattle.sc_sound.specs.Definitions.{accepts_got}
+use Rattle.sc_meaning.specs.sound.Definitions.{accepts_got}
 use Rattle.sc_law_groups.specs.group.Definitions.{asked_in, promises_got, steps_at}
 use Rattle.sc_law_groups.proofs.GroupProofs.Invariant.{Steps}
 use Rattle.sc_law_groups.proofs.GroupProofs.Frames.{node_row, steps_of}

@@ -4,13 +4,13 @@ use Rattle.std.specs.List.{flat_map, list_any}
 use Rattle.std.proofs.lemmas.Bool.{eq-eqb, leb-false, and_parts, and_from, cond-true, cond_both}
 use Rattle.sc_node_table.specs.Values.{Ballot, Draw, Command, Call, Base, AnswerBody, Mail, MailBody, Request, Answer, Promise, Accepted as AcceptedMail, Nack, Ask, Install, Told, TxElsewhere, OrderResult, Refused, Report, PrepareAnswer, AcceptAnswer}
 use Rattle.sc_base.specs.Definitions.{same_draw, same_ballot, Among, Each}
-use Rattle.sc_cmd.specs.declared.orders.OrderRefusal.TheVariants.{NotLeader}
-use Rattle.sc_paxos_words.specs.Definitions.{AcceptorState, may_promise, may_accept, after_promise, after_accept, reports_from, below}
-use Rattle.sc_paxos_words.proofs.Lemmas.{Each-weaker, Each-append}
+use Rattle.sc_words.specs.declared.commands.orders.OrderRefusal.TheVariants.{NotLeader}
+use Rattle.sc_words.specs.paxos.Definitions.{AcceptorState, may_promise, may_accept, after_promise, after_accept, reports_from, below}
+use Rattle.sc_words.proofs.PaxosProofs.Lemmas.{Each-weaker, Each-append}
 use Rattle.sc_paxos_law.specs.Definitions.{Step, Prepared, Promised, Offered, Accepted, state_of, IsLawfulStep, IsLawfulHistory}
 use Rattle.sc_paxos_law.proofs.Lemmas.{Among-right, Among-either}
 use Rattle.sc_node_table.specs.Definitions.{sent, answered, answered_all, order_number, order_reported, dismissed, dismissed_all, install_to, ended, saw, ReplicaState, Place, name_of, hinted, promise_to, promised, prepare_row, accepted_to, took, accept_row}
-use Rattle.sc_sound.specs.Definitions.{is_accepted, Ahead}
+use Rattle.sc_meaning.specs.sound.Definitions.{is_accepted, Ahead}
 use Rattle.sc_law_groups.specs.group.Definitions.{asked_in, promised_by}
 use Rattle.sc_law_groups.proofs.GroupProofs.Growth.{By, later_learnt}
 use Rattle.sc_law_groups.proofs.GroupProofs.Held.{Mirrors, promise_mirrors, accept_mirrors}

@@ -4,14 +4,14 @@ use Rattle.std.proofs.lemmas.Bool.{cond_both}
 use Rattle.std.proofs.lemmas.List.{get_or-drop}
 use Rattle.sc_base.specs.Definitions.{Among, same_draw, IsRoster}
 use Rattle.sc_node_table.specs.Values.{Draw, Body, Command, Split, RecordWatch, Base, Lock, Free, Coordinating, Promised, Watching, Route, OrderRefusal, Past}
-use Rattle.sc_cmd.specs.declared.bodies.Body.TheVariants as By
-use Rattle.sc_cmd.specs.declared.votes.Past.TheVariants as Cast
-use Rattle.sc_cmd.specs.Definitions.{is_alone}
-use Rattle.sc_machine_table.specs.Definitions.{ordered_child, released_child, answered_child, watched_child, child_by, Group, applied, refusal_of, can_split, staying, right_members, child_of, has_named}
-use Rattle.sc_log_entries.specs.Definitions.{birth_of}
-use Rattle.sc_log_entries.proofs.Lemmas.{births_are_children}
+use Rattle.sc_words.specs.declared.commands.bodies.Body.TheVariants as By
+use Rattle.sc_words.specs.declared.commands.votes.Past.TheVariants as Cast
+use Rattle.sc_words.specs.commands.Definitions.{is_alone}
+use Rattle.sc_group_table.specs.machine.Definitions.{ordered_child, released_child, answered_child, watched_child, child_by, Group, applied, refusal_of, can_split, staying, right_members, child_of, has_named}
+use Rattle.sc_meaning.specs.entries.Definitions.{birth_of}
+use Rattle.sc_meaning.proofs.EntriesProofs.Lemmas.{births_are_children}
 use Rattle.sc_paxos_law.proofs.Lemmas.{Among-either}
-use Rattle.sc_sound.specs.Definitions.{children_of}
+use Rattle.sc_meaning.specs.sound.Definitions.{children_of}
 use Rattle.sc_law_groups.specs.whole.Definitions.{IsFresh}
 use Rattle.sc_law_groups.proofs.WholeProofs.Coming.{two_members, staying_some}
 use Rattle.sc_law_groups.proofs.WholeProofs.Members.{may_split, members_after}

@@ -6,14 +6,14 @@ use Rattle.std.proofs.lemmas.List.{length-take-le, get_or-take}
 use Rattle.sc_base.specs.Definitions.{same_draw, holds, IsRoster, is_member, with_any, united}
 use Rattle.sc_node_table.specs.Values.{Draw, Op, Body, Offer, Watch, Command, Core, Noop, Call, Join, Leave, Split, Begin, Prepared, RecordVote, GiveUp, Finish, Watched, RecordWatch, Lock, Free, Coordinating, Promised, Watching, Effect, Route, OrderRefusal, Frozen, Heard, No, Outcome, Past, Vote}
 use Rattle.sc_base.proofs.Lemmas.{draw_is, roster_with, roster_without, grows, count_united}
-use Rattle.sc_cmd.specs.Definitions.{is_alone}
-use Rattle.sc_ideal.specs.Definitions.{key_of, holds_key}
-use Rattle.sc_cmd.specs.declared.bodies.Body.TheVariants as By
-use Rattle.sc_cmd.specs.declared.effects.Effect.TheVariants as Was
-use Rattle.sc_cmd.specs.declared.votes.Outcome.TheVariants as Is
-use Rattle.sc_cmd.specs.declared.votes.Past.TheVariants as Cast
-use Rattle.sc_cmd.specs.declared.votes.Vote.TheVariants as Vows
-use Rattle.sc_machine_table.specs.Definitions.{can_gain, gone_group, gained_group, lost_group, welcomed_group, participant_after, watcher_after, party_freed, settled_in, finished, Group, served_by_note, called, split_group, applied, refusal_of, ordered, can_cut, has_key_of, can_split, split_plan, can_merge, merged_group, may_merge, merged_route, merge_plan, closing_group, closing_plan, can_repart, giving_group, part_gift, taking_group, taken, giving_plan, taking_plan, repart_plan, can_migrate, migrated_group, migrate_plan, staying, left_members, left_group, has_named, begun_group, decided_group, decided, aborted, committed, heard_group, granted, participant_answered, asks_watcher, vote_recorded, released, watch_answered, watch_recorded, is_coordinating, has_voted, vote_of, watch_vote_of, past_of, bound_by}
+use Rattle.sc_words.specs.commands.Definitions.{is_alone}
+use Rattle.sc_words.specs.ideal.Definitions.{key_of, holds_key}
+use Rattle.sc_words.specs.declared.commands.bodies.Body.TheVariants as By
+use Rattle.sc_words.specs.declared.commands.effects.Effect.TheVariants as Was
+use Rattle.sc_words.specs.declared.commands.votes.Outcome.TheVariants as Is
+use Rattle.sc_words.specs.declared.commands.votes.Past.TheVariants as Cast
+use Rattle.sc_words.specs.declared.commands.votes.Vote.TheVariants as Vows
+use Rattle.sc_group_table.specs.machine.Definitions.{can_gain, gone_group, gained_group, lost_group, welcomed_group, participant_after, watcher_after, party_freed, settled_in, finished, Group, served_by_note, called, split_group, applied, refusal_of, ordered, can_cut, has_key_of, can_split, split_plan, can_merge, merged_group, may_merge, merged_route, merge_plan, closing_group, closing_plan, can_repart, giving_group, part_gift, taking_group, taken, giving_plan, taking_plan, repart_plan, can_migrate, migrated_group, migrate_plan, staying, left_members, left_group, has_named, begun_group, decided_group, decided, aborted, committed, heard_group, granted, participant_answered, asks_watcher, vote_recorded, released, watch_answered, watch_recorded, is_coordinating, has_voted, vote_of, watch_vote_of, past_of, bound_by}
 
 -- ---- members
 

@@ -5,15 +5,15 @@ use Rattle.std.proofs.lemmas.Option.{same_Some}
 use Rattle.sc_base.specs.Definitions.{Among, Each, same_draw}
 use Rattle.sc_node_table.specs.Values.{Draw, Offer, Watch, Command, Prepared, RecordVote, Finish, Watched, RecordWatch, Base, Lock, Free, Coordinating, Promised, Watching, Route, Outcome, Past, MailBody, TxPrepare, TxVote, TxOutcome, TxElsewhere, TxWatch, TxWatched}
 use Rattle.sc_base.proofs.Lemmas.{draw_is}
-use Rattle.sc_cmd.specs.declared.votes.Past.TheVariants as Cast
-use Rattle.sc_cmd.specs.declared.votes.Vote.TheVariants as Vows
-use Rattle.sc_machine_table.specs.Definitions.{Group, group_of, state_after, applied, frozen_of}
-use Rattle.sc_machine_table.proofs.Lemmas.{state_push}
+use Rattle.sc_words.specs.declared.commands.votes.Past.TheVariants as Cast
+use Rattle.sc_words.specs.declared.commands.votes.Vote.TheVariants as Vows
+use Rattle.sc_group_table.specs.machine.Definitions.{Group, group_of, state_after, applied, frozen_of}
+use Rattle.sc_group_table.proofs.MachineProofs.Lemmas.{state_push}
 use Rattle.sc_node_table.specs.Definitions.{group_of_mail, before_of, standing_by, standing_vote, noted_outcome, voted_to, watched_to, asked_next}
-use Rattle.sc_paxos_words.proofs.Lemmas.{Each-append, Each-weaker, find_found}
+use Rattle.sc_words.proofs.PaxosProofs.Lemmas.{Each-append, Each-weaker, find_found}
 use Rattle.sc_paxos_law.specs.Definitions.{IsLog, IsLawfulHistory}
-use Rattle.sc_sound.specs.Definitions.{Ahead, groups_at, decided_log}
-use Rattle.sc_scenario.specs.declared.scenarios.Scenario.{Scenario}
+use Rattle.sc_meaning.specs.sound.Definitions.{Ahead, groups_at, decided_log}
+use Rattle.sc_scenario.specs.declared.scenario.scenarios.Scenario.{Scenario}
 use Rattle.sc_law_entries.specs.ring.Definitions.{Sources, IsAllowed, BeginInPlace, Story, Stories, unsigned, unsigned_watch}
 use Rattle.sc_law_entries.specs.logs.Definitions.{AllowsAsItStands, MakesAllowed, GroupAllows, Rows, DecideInTurn}
 use Rattle.sc_law_entries.proofs.LogsProofs.Lemmas.{prefixes_allow, states_allow, groups_allow_others}

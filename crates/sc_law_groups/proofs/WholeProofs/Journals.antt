@@ -4,15 +4,15 @@ use Rattle.std.specs.Prelude.{is_some, slice_get}
 use Rattle.std.proofs.lemmas.Bool.{cond-false}
 use Rattle.sc_base.specs.Definitions.{Among, Drawer, next_name, is_member}
 use Rattle.sc_node_table.specs.Values.{Draw, Op, Reply, Call, Base, Route, Order, OrderLine, Mail, Event, Tick, Row, Node as ANode}
-use Rattle.sc_cmd.specs.declared.orders.Order.TheVariants as An
+use Rattle.sc_words.specs.declared.commands.orders.Order.TheVariants as An
 use Rattle.sc_actor.specs.declared.rows.Event.TheVariants.{Told}
 use Rattle.sc_actor.specs.Definitions.{IsStep, value, place_after}
 use Rattle.sc_actor.proofs.Lemmas.{MayAdd-step, lawful-induction, lawful-prefix, lawful-last}
 use Rattle.sc_node_table.specs.Definitions.{NodeState, names_after_ticks, ordered_command, wished_line, names_after_tick, ReplicaState, name_of, members, settled}
-use Rattle.sc_paxos_words.proofs.Lemmas.{Each-among}
-use Rattle.sc_sound.specs.Definitions.{Ahead, Lawful, node_seat, player_table, system_of, schedule, AreNamedApart, groups_at, kept_replies, HasRun, AllHaveRun}
-use Rattle.sc_scenario.specs.declared.scenarios.Asks.{Asks}
-use Rattle.sc_scenario.specs.declared.scenarios.Scenario.{Scenario}
+use Rattle.sc_words.proofs.PaxosProofs.Lemmas.{Each-among}
+use Rattle.sc_meaning.specs.sound.Definitions.{Ahead, Lawful, node_seat, player_table, system_of, schedule, AreNamedApart, groups_at, kept_replies, HasRun, AllHaveRun}
+use Rattle.sc_scenario.specs.declared.scenario.scenarios.Asks.{Asks}
+use Rattle.sc_scenario.specs.declared.scenario.scenarios.Scenario.{Scenario}
 use Rattle.sc_law_entries.specs.ring.Definitions.{Sources, IsAllowed, BeginInPlace}
 use Rattle.sc_law_entries.specs.logs.Definitions.{HasOneValue, IsIssuedIn, IsDecidedBefore, HoldsBeside, Rows, added_by}
 use Rattle.sc_law_entries.specs.names.Definitions.{waited, wished_at}

@@ -3,7 +3,7 @@ use Rattle.sc_law_groups.proofs.WholeProofs.Sound.{lawful_journals_are_sound as 
 use Rattle.sc_law_entries.proofs.LogsProofs.Lemmas.{journals_in_turn_are_sound, entries_are_allowed_logs_logs}
 use Rattle.sc_law_groups.specs.whole.Definitions.{LawfulJournalsAreSound, ValidJournalsAreSound, ValidEntriesAreLogs}
 use Rattle.sc_law_groups.proofs.WholeProofs.Valid.{valid_sound, valid_logs}
-use Rattle.sc_scenario.proofs.Lemmas.{valid_scenarios_are_bounded}
+use Rattle.sc_scenario.proofs.ScenarioProofs.Lemmas.{valid_scenarios_are_bounded}
 use Rattle.sc_law_groups.proofs.WholeProofs.StartLaws.{valid_scenarios_begin_well}
 use Rattle.sc_law_entries.proofs.NamesProofs.Lemmas.{orders_are_allowed_allowed, orders_are_allowed_wishes, orders_are_allowed_positions, names_have_one_owner_others}
 

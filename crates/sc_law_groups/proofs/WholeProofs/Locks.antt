@@ -5,9 +5,9 @@ use Rattle.std.proofs.lemmas.Bool.{cond-true, cond-false, cond_both}
 use Rattle.sc_base.specs.Definitions.{Among, same_draw}
 use Rattle.sc_node_table.specs.Values.{Draw, Offer, Watch, Command, Join, Leave, Watched, Core, Lock, Free, Coordinating, Promised, Watching, Effect, No, Outcome, Past}
 use Rattle.sc_base.proofs.Lemmas.{draw_is, same_name}
-use Rattle.sc_cmd.specs.declared.effects.Effect.TheVariants as Was
-use Rattle.sc_cmd.specs.declared.votes.Past.TheVariants as Cast
-use Rattle.sc_machine_table.specs.Definitions.{closed, Group, state_after, applied, refusal_of, with_node, without_node, has_voted, offer_no, watch_no, vote_of, watch_vote_of, past_of, bound_by}
+use Rattle.sc_words.specs.declared.commands.effects.Effect.TheVariants as Was
+use Rattle.sc_words.specs.declared.commands.votes.Past.TheVariants as Cast
+use Rattle.sc_group_table.specs.machine.Definitions.{closed, Group, state_after, applied, refusal_of, with_node, without_node, has_voted, offer_no, watch_no, vote_of, watch_vote_of, past_of, bound_by}
 use Rattle.sc_paxos_law.proofs.Lemmas.{Among-either}
 use Rattle.sc_law_groups.proofs.GroupProofs.Lemmas.{ordered_if}
 use Rattle.sc_law_entries.proofs.HistoryProofs.Lemmas.{free_by, free_by_no}

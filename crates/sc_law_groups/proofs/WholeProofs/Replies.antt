@@ -6,14 +6,14 @@ use Rattle.std.proofs.lemmas.List.{append_cancel_left}
 use Rattle.std.proofs.lemmas.Option.{slice_get_cases}
 use Rattle.sc_base.specs.Definitions.{Among}
 use Rattle.sc_node_table.specs.Values.{Draw, Reply, Call, Base, Route, OrderLine, Mail, Seat, Row, Client as AClient}
-use Rattle.sc_client_table.specs.Definitions.{Client, born_client}
-use Rattle.sc_lookup.specs.Definitions.{KnownGroups, new_way}
-use Rattle.sc_lookup.specs.declared.ways.Way.{Way}
+use Rattle.sc_client_table.specs.table.Definitions.{Client, born_client}
+use Rattle.sc_client_table.specs.lookup.Definitions.{KnownGroups, new_way}
+use Rattle.sc_client_table.specs.declared.lookup.ways.Way.{Way}
 use Rattle.sc_node_table.specs.Definitions.{numbers_from}
 use Rattle.sc_paxos_law.specs.Definitions.{IsLawfulHistory}
-use Rattle.sc_sound.specs.Definitions.{Ahead, Player, node_seat, client_seat, client_seats, route_of, groups_at, decided_log, kept_replies, kept_reply, answered_from, answer_row}
-use Rattle.sc_scenario.specs.declared.scenarios.Asks.{Asks}
-use Rattle.sc_scenario.specs.declared.scenarios.Scenario.{Scenario}
+use Rattle.sc_meaning.specs.sound.Definitions.{Ahead, Player, node_seat, client_seat, client_seats, route_of, groups_at, decided_log, kept_replies, kept_reply, answered_from, answer_row}
+use Rattle.sc_scenario.specs.declared.scenario.scenarios.Asks.{Asks}
+use Rattle.sc_scenario.specs.declared.scenario.scenarios.Scenario.{Scenario}
 use Rattle.sc_law_entries.specs.logs.Definitions.{IsDecidedBefore, RepliesAreDecided, Rows}
 use Rattle.sc_law_groups.proofs.GroupProofs.Lemmas.{IsAnswered, h_of, rule, first}
 use Rattle.sc_law_groups.specs.whole.Definitions.{HasSeats}

@@ -4,10 +4,10 @@ use Rattle.std.specs.Prelude.{AllPairs, IsTrue, map, ◌⊎◌}
 use Rattle.std.proofs.lemmas.Bool.{cases_lt, lt-ltb, ltb-true}
 use Rattle.sc_base.specs.Definitions.{Among, Arc, IsArc, holds, offset}
 use Rattle.sc_node_table.specs.Values.{Base}
-use Rattle.sc_log_entries.specs.declared.Cut.{Cut}
-use Rattle.sc_log_entries.specs.Definitions.{Covers, first_cut}
-use Rattle.sc_sound.specs.Definitions.{AreNamedApart}
-use Rattle.sc_paxos_words.proofs.Lemmas.{Each-among}
+use Rattle.sc_meaning.specs.declared.entries.Cut.{Cut}
+use Rattle.sc_meaning.specs.entries.Definitions.{Covers, first_cut}
+use Rattle.sc_meaning.specs.sound.Definitions.{AreNamedApart}
+use Rattle.sc_words.proofs.PaxosProofs.Lemmas.{Each-among}
 
 -- ---- positions from a start on
 

@@ -2,16 +2,16 @@
 use Rattle.std.proofs.Common.{ℕ, List, [], ◌∷◌, ◌++◌, map, inl, refl, sym, subst}
 use Rattle.sc_base.specs.Definitions.{Each, next_name}
 use Rattle.sc_node_table.specs.Values.{Order, OrderLine, Mail, Row}
-use Rattle.sc_cmd.specs.declared.orders.Order.TheVariants as An
+use Rattle.sc_words.specs.declared.commands.orders.Order.TheVariants as An
 use Rattle.sc_node_table.specs.Definitions.{group_of_order, names_after_ticks, ordered_command, name_of}
-use Rattle.sc_paxos_words.proofs.Lemmas.{Each-among, Each-append, Each-from_All}
+use Rattle.sc_words.proofs.PaxosProofs.Lemmas.{Each-among, Each-append, Each-from_All}
 use Rattle.sc_paxos_law.proofs.Lemmas.{Among-right}
-use Rattle.sc_sound.specs.Definitions.{Ahead, Lawful, line_of, schedule, system_of}
-use Rattle.sc_scenario.specs.Definitions.{IsBounded, IsBoundedLine, IsBoundedOrder}
-use Rattle.sc_scenario.specs.declared.scenarios.Asks.{Asks}
-use Rattle.sc_scenario.specs.declared.scenarios.Scenario.{Scenario}
-use Rattle.sc_scenario.specs.declared.scenarios.SchedLine.{SchedLine}
-use Rattle.sc_scenario.specs.declared.scenarios.SchedLine.TheVariants as scheduled
+use Rattle.sc_meaning.specs.sound.Definitions.{Ahead, Lawful, line_of, schedule, system_of}
+use Rattle.sc_scenario.specs.scenario.Definitions.{IsBounded, IsBoundedLine, IsBoundedOrder}
+use Rattle.sc_scenario.specs.declared.scenario.scenarios.Asks.{Asks}
+use Rattle.sc_scenario.specs.declared.scenario.scenarios.Scenario.{Scenario}
+use Rattle.sc_scenario.specs.declared.scenario.scenarios.SchedLine.{SchedLine}
+use Rattle.sc_scenario.specs.declared.scenario.scenarios.SchedLine.TheVariants as scheduled
 use Rattle.sc_law_entries.specs.ring.Definitions.{IsAllowed}
 use Rattle.sc_law_entries.specs.names.Definitions.{IsAtPosition, TakesOrder, TakenOrdersAreAllowed, TakesWish, TakenWishesAreAllowed, WishesAreAtPositions, owner_in}
 use Rattle.sc_law_groups.proofs.GroupProofs.Lemmas.{GivesAllowedOrder, TellsSo, told_induction}

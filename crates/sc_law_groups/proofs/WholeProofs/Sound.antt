@@ -2,8 +2,8 @@
 use Rattle.std.proofs.Common.{◌≡◌, ◌∷◌, ◌++◌, ◌∙◌, ap, append_assoc}
 use Rattle.sc_node_table.specs.Values.{OrderLine, Mail, Row}
 use Rattle.sc_actor.proofs.Lemmas.{lawful-prefix}
-use Rattle.sc_sound.specs.Definitions.{Ahead, system_of, schedule}
-use Rattle.sc_scenario.specs.declared.scenarios.Scenario.{Scenario}
+use Rattle.sc_meaning.specs.sound.Definitions.{Ahead, system_of, schedule}
+use Rattle.sc_scenario.specs.declared.scenario.scenarios.Scenario.{Scenario}
 use Rattle.sc_law_entries.specs.ring.Definitions.{Sources}
 use Rattle.sc_law_entries.specs.logs.Definitions.{Rows, JournalsInTurnAreSound}
 use Rattle.sc_law_groups.specs.whole.Definitions.{LawfulJournalsDecideInTurn, LawfulJournalsHoldBeside, LawfulJournalsAreSound, OrdersAreAllowed}

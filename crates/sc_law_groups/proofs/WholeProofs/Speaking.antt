@@ -4,13 +4,13 @@ use Rattle.std.proofs.lemmas.Bool.{le-leb, cond-true, cond_both}
 use Rattle.std.proofs.lemmas.Option.{same_Some}
 use Rattle.sc_base.specs.Definitions.{same_draw, united}
 use Rattle.sc_node_table.specs.Values.{Draw, Body, Offer, Watch, Command, Split, Begin, Prepared, RecordVote, GiveUp, Finish, Watched, RecordWatch, Core, Lock, Free, Coordinating, Promised, Watching, Effect, Link, Heard, No, Outcome, Past, Vote, Mail, MailBody, TxVote, TxOutcome, TxWatched}
-use Rattle.sc_cmd.specs.declared.bodies.Body.TheVariants as By
-use Rattle.sc_cmd.specs.declared.effects.Effect.TheVariants as Was
-use Rattle.sc_cmd.specs.declared.votes.Outcome.TheVariants as Is
-use Rattle.sc_cmd.specs.declared.votes.Past.TheVariants as Cast
-use Rattle.sc_cmd.specs.declared.votes.Vote.TheVariants as Vows
-use Rattle.sc_cmd.specs.Definitions.{decided_in, cast_in}
-use Rattle.sc_machine_table.specs.Definitions.{Group, applied, frozen_of, can_split, merged_link, right_link, begun_group, decided_group, aborted, is_coordinating, asks_watcher, watch_recorded, vote_of, watch_vote_of, past_of}
+use Rattle.sc_words.specs.declared.commands.bodies.Body.TheVariants as By
+use Rattle.sc_words.specs.declared.commands.effects.Effect.TheVariants as Was
+use Rattle.sc_words.specs.declared.commands.votes.Outcome.TheVariants as Is
+use Rattle.sc_words.specs.declared.commands.votes.Past.TheVariants as Cast
+use Rattle.sc_words.specs.declared.commands.votes.Vote.TheVariants as Vows
+use Rattle.sc_words.specs.commands.Definitions.{decided_in, cast_in}
+use Rattle.sc_group_table.specs.machine.Definitions.{Group, applied, frozen_of, can_split, merged_link, right_link, begun_group, decided_group, aborted, is_coordinating, asks_watcher, watch_recorded, vote_of, watch_vote_of, past_of}
 use Rattle.sc_node_table.specs.declared.Before.{Before}
 use Rattle.sc_node_table.specs.Definitions.{sent_all, offer_of, question, asked_first, both_link, split_watch, child_link, union_watch, reminders, voted_to, watched_to, asked_on, begun_asks, vote_sent, watch_sent, aborted_to, aborted_watcher, given_up_by, vote_answered, released_to, watch_answered_by, went_on}
 use Rattle.sc_law_entries.specs.ring.Definitions.{Sources, IsAllowed, IsShared, Groups, Facts, LockOk, Story, Stories, unsigned, watch_with}

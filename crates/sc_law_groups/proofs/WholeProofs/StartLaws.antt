@@ -1,6 +1,6 @@
 -- What a lawful journal begins with: groups in place under names of their own, to which nothing has happened, and players that are seated; and that every valid scenario begins so.
 use Rattle.sc_law_groups.proofs.WholeProofs.StartValid.{valid_begin_well}
-use Rattle.sc_scenario.proofs.Lemmas.{valid_scenarios_are_bounded}
+use Rattle.sc_scenario.proofs.ScenarioProofs.Lemmas.{valid_scenarios_are_bounded}
 use Rattle.sc_law_groups.specs.whole.Definitions.{ValidScenariosBeginWell}
 
 -- Every valid scenario begins well.

@@ -4,14 +4,14 @@ use Rattle.std.specs.Prelude.{slice_get}
 use Rattle.sc_base.specs.Definitions.{Among, Each}
 use Rattle.sc_node_table.specs.Values.{Draw, Op, Reply, Command, Noop, Call, Prepared, RecordVote, Finish, Watched, RecordWatch, Base, Route, OrderLine, Mail, MailBody, TxPrepare, TxVote, TxOutcome, TxWatch, TxWatched, Row}
 use Rattle.sc_actor.specs.Definitions.{IsStep}
-use Rattle.sc_machine_table.specs.Definitions.{Group, group_of, state_after, applied}
-use Rattle.sc_log_entries.specs.Definitions.{birth_of, StoreWorld, named_group}
-use Rattle.sc_log_entries.proofs.Lemmas.{births_are_children}
-use Rattle.sc_paxos_words.proofs.Lemmas.{Each-among, Each-weaker}
+use Rattle.sc_group_table.specs.machine.Definitions.{Group, group_of, state_after, applied}
+use Rattle.sc_meaning.specs.entries.Definitions.{birth_of, StoreWorld, named_group}
+use Rattle.sc_meaning.proofs.EntriesProofs.Lemmas.{births_are_children}
+use Rattle.sc_words.proofs.PaxosProofs.Lemmas.{Each-among, Each-weaker}
 use Rattle.sc_paxos_law.proofs.Lemmas.{Among-left, Among-right, get_pushed}
-use Rattle.sc_scenario.specs.declared.scenarios.Asks.{Asks}
-use Rattle.sc_scenario.specs.declared.scenarios.Scenario.{Scenario}
-use Rattle.sc_sound.specs.Definitions.{Ahead, system_of, replies_of, children_of, groups_at, birth_at, entries_at, world_at, decided_log, decided_state, issues, kept_replies}
+use Rattle.sc_scenario.specs.declared.scenario.scenarios.Asks.{Asks}
+use Rattle.sc_scenario.specs.declared.scenario.scenarios.Scenario.{Scenario}
+use Rattle.sc_meaning.specs.sound.Definitions.{Ahead, system_of, replies_of, children_of, groups_at, birth_at, entries_at, world_at, decided_log, decided_state, issues, kept_replies}
 use Rattle.sc_law_entries.specs.ring.Definitions.{Sources, IsAllowed, first_recorded, recorded_after, BeginInPlace}
 use Rattle.sc_law_entries.proofs.RingProofs.Lemmas.{at_start, kept_after, store_after, some_none}
 use Rattle.sc_law_entries.specs.logs.Definitions.{Rows, added_by, newborn_by, AreFound, IsNewborn, DecidesInTurn, DecideInTurn}

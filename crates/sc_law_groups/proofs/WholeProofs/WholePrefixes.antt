@@ -2,7 +2,7 @@
 use Rattle.std.proofs.Common.{◌≡◌, List, ◌++◌, length, drop}
 use Rattle.sc_node_table.specs.Values.{Command, Base}
 use Rattle.sc_paxos_law.specs.Definitions.{IsLog, IsLawfulHistory}
-use Rattle.sc_sound.specs.Definitions.{Ahead, decided_log}
+use Rattle.sc_meaning.specs.sound.Definitions.{Ahead, decided_log}
 use Rattle.sc_law_groups.proofs.GroupProofs.Lemmas.{h_of, rule, first, Journal, split_at, prefix_is}
 
 -- a log of the steps is a prefix of the decided one

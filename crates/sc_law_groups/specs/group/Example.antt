@@ -1,11 +1,11 @@
 -- A worked journal of three nodes and one client: two nodes accept a value, another node is elected, and it offers that value again.
 use Rattle.std.specs.Prelude.{ℕ, false, List, [], ◌∷◌}
 use Rattle.sc_node_table.specs.Values.{Command, Call, Base, OrderLine, Mail, MailBody, Request, Prepare, Promise, Accept, Accepted, Row, Deliver, Tick, Go}
-use Rattle.sc_scenario.specs.Definitions.{lone_name, lone_group}
-use Rattle.sc_scenario.specs.declared.scenarios.SchedLine.TheVariants as line
-use Rattle.sc_scenario.specs.declared.scenarios.Scenario.{Scenario}
+use Rattle.sc_scenario.specs.scenario.Definitions.{lone_name, lone_group}
+use Rattle.sc_scenario.specs.declared.scenario.scenarios.SchedLine.TheVariants as line
+use Rattle.sc_scenario.specs.declared.scenario.scenarios.Scenario.{Scenario}
 use Rattle.sc_paxos_law.specs.Definitions.{first, second}
-use Rattle.sc_sound.specs.Definitions.{put_it, mail, row}
+use Rattle.sc_meaning.specs.sound.Definitions.{put_it, mail, row}
 
 -- one group of the nodes 1 to 3, which has the whole ring
 abbrev pub three_nodes : Base

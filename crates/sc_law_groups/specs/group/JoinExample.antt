@@ -1,14 +1,14 @@
 -- A worked journal of two nodes: the one member of a group gets the order that the other joins, decides it, and sends the state.
 use Rattle.std.specs.Prelude.{false, List, [], ◌∷◌}
 use Rattle.sc_node_table.specs.Values.{Ballot, Command, Join, OrderLine, Mail, Accept, Accepted, Install, Told as ToldMail, Row, Deliver}
-use Rattle.sc_cmd.specs.declared.orders.Order.TheVariants as An
-use Rattle.sc_cmd.specs.declared.orders.OrderResult.TheVariants as Tells
-use Rattle.sc_machine_table.specs.Definitions.{Group, group_of, base_of, with_node}
+use Rattle.sc_words.specs.declared.commands.orders.Order.TheVariants as An
+use Rattle.sc_words.specs.declared.commands.orders.OrderResult.TheVariants as Tells
+use Rattle.sc_group_table.specs.machine.Definitions.{Group, group_of, base_of, with_node}
 use Rattle.sc_actor.specs.declared.rows.Event.TheVariants.{Told}
-use Rattle.sc_scenario.specs.Definitions.{lone_name}
-use Rattle.sc_scenario.specs.declared.scenarios.SchedLine.TheVariants as line
-use Rattle.sc_scenario.specs.declared.scenarios.Scenario.{Scenario}
-use Rattle.sc_sound.specs.Definitions.{alone, mail, row}
+use Rattle.sc_scenario.specs.scenario.Definitions.{lone_name}
+use Rattle.sc_scenario.specs.declared.scenario.scenarios.SchedLine.TheVariants as line
+use Rattle.sc_scenario.specs.declared.scenario.scenarios.Scenario.{Scenario}
+use Rattle.sc_meaning.specs.sound.Definitions.{alone, mail, row}
 
 -- the order that node 2 joins the group
 abbrev pub join_order : OrderLine

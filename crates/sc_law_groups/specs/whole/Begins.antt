@@ -3,9 +3,9 @@ use Rattle.std.specs.Prelude.{◌≡◌, ◌==◌, ℕ, ◌-◌, ◌≤◌, List
 use Rattle.sc_base.specs.Definitions.{Among, Each, most_nodes, IsRoster}
 use Rattle.sc_node_table.specs.Values.{Op, Get, Base, Free, Route}
 use Rattle.sc_node_table.specs.Definitions.{numbers_from, slots_ahead}
-use Rattle.sc_sound.specs.Definitions.{Ahead, node_seat, client_seat, births, route_of, AreNamedApart}
-use Rattle.sc_scenario.specs.declared.scenarios.Asks.{Asks}
-use Rattle.sc_scenario.specs.declared.scenarios.Scenario.{Scenario}
+use Rattle.sc_meaning.specs.sound.Definitions.{Ahead, node_seat, client_seat, births, route_of, AreNamedApart}
+use Rattle.sc_scenario.specs.declared.scenario.scenarios.Asks.{Asks}
+use Rattle.sc_scenario.specs.declared.scenario.scenarios.Scenario.{Scenario}
 use Rattle.sc_law_entries.specs.history.Definitions.{BeginBare}
 use Rattle.sc_law_entries.specs.ring.Definitions.{Sources, BeginInPlace}
 

@@ -5,8 +5,8 @@ use Rattle.sc_node_table.specs.Values.{OrderLine, Mail, Tick, Row, Node}
 use Rattle.sc_actor.specs.declared.rows.Event.TheVariants.{Told}
 use Rattle.sc_actor.specs.Definitions.{value}
 use Rattle.sc_node_table.specs.Definitions.{NodeState, group_of_order, names_after_ticks, replica_of, ordered_command, untaken, ReplicaState, name_of}
-use Rattle.sc_sound.specs.Definitions.{Ahead, node_seat, player_table}
-use Rattle.sc_scenario.specs.declared.scenarios.Scenario.{Scenario}
+use Rattle.sc_meaning.specs.sound.Definitions.{Ahead, node_seat, player_table}
+use Rattle.sc_scenario.specs.declared.scenario.scenarios.Scenario.{Scenario}
 use Rattle.sc_law_entries.specs.ring.Definitions.{Sources, IsAllowed, Stories}
 use Rattle.sc_law_entries.specs.names.Definitions.{waited, wished_at}
 use Rattle.sc_law_entries.specs.logs.Definitions.{Rows}

@@ -1,7 +1,7 @@
 -- What stories say of the parties of one transaction, beside what each of them has promised.
 use Rattle.std.specs.Prelude.{◌≡◌, ◌≤◌, length, Some}
 use Rattle.sc_node_table.specs.Values.{Draw, Offer, Watch, Frozen, Yes}
-use Rattle.sc_cmd.specs.declared.bodies.Body.TheVariants.{Merge}
+use Rattle.sc_words.specs.declared.commands.bodies.Body.TheVariants.{Merge}
 use Rattle.sc_base.specs.Definitions.{united}
 use Rattle.sc_law_entries.specs.ring.Definitions.{Story, Stories}
 

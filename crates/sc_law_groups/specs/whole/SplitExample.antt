@@ -1,16 +1,16 @@
 -- A worked journal of two nodes: a lone group splits, the second node makes the child, and a client that asks the parent for a key of the child is sent on to the child, which decides the request.
 use Rattle.std.specs.Prelude.{ℕ, false, List, [], ◌∷◌}
 use Rattle.sc_node_table.specs.Values.{Ballot, Draw, Op, Put, Command, Call, Split, Base, Link, OrderLine, Mail, Request, Answer, Accept, Accepted, Learn, Told as ToldMail, Row, Deliver, Go}
-use Rattle.sc_cmd.specs.declared.orders.Order.TheVariants as An
-use Rattle.sc_cmd.specs.declared.orders.OrderResult.TheVariants as Tells
+use Rattle.sc_words.specs.declared.commands.orders.Order.TheVariants as An
+use Rattle.sc_words.specs.declared.commands.orders.OrderResult.TheVariants as Tells
 use Rattle.sc_mail.specs.declared.bodies.AnswerBody.TheVariants as Says
-use Rattle.sc_machine_table.specs.Definitions.{group_of, child_of}
+use Rattle.sc_group_table.specs.machine.Definitions.{group_of, child_of}
 use Rattle.sc_actor.specs.declared.rows.Event.TheVariants.{Told}
-use Rattle.sc_log_entries.specs.declared.Cut.{Cut}
-use Rattle.sc_scenario.specs.Definitions.{lone_group, lone_name}
-use Rattle.sc_scenario.specs.declared.scenarios.SchedLine.TheVariants as line
-use Rattle.sc_scenario.specs.declared.scenarios.Scenario.{Scenario}
-use Rattle.sc_sound.specs.Definitions.{mail, row}
+use Rattle.sc_meaning.specs.declared.entries.Cut.{Cut}
+use Rattle.sc_scenario.specs.scenario.Definitions.{lone_group, lone_name}
+use Rattle.sc_scenario.specs.declared.scenario.scenarios.SchedLine.TheVariants as line
+use Rattle.sc_scenario.specs.declared.scenario.scenarios.Scenario.{Scenario}
+use Rattle.sc_meaning.specs.sound.Definitions.{mail, row}
 
 -- the group: both nodes, with the whole ring
 abbrev pub pair : Base

@@ -2,9 +2,9 @@
 use Rattle.std.specs.Prelude.{◌≡◌, Option, None}
 use Rattle.sc_node_table.specs.Values.{Draw}
 use Rattle.sc_node_table.specs.Definitions.{slots_ahead}
-use Rattle.sc_sound.specs.Definitions.{Ahead}
-use Rattle.sc_scenario.specs.Definitions.{IsValid}
-use Rattle.sc_scenario.specs.declared.scenarios.Scenario.{Scenario}
+use Rattle.sc_meaning.specs.sound.Definitions.{Ahead}
+use Rattle.sc_scenario.specs.scenario.Definitions.{IsValid}
+use Rattle.sc_scenario.specs.declared.scenario.scenarios.Scenario.{Scenario}
 use Rattle.sc_law_groups.specs.whole.Begins.{IsReady, section_op}
 
 -- each valid scenario is ready, with the requests of its clients' sections, for any owners of names that own no name of the scenario's groups

@@ -1,9 +1,9 @@
 -- A worked journal of two groups on one node: a client asks the first, is sent on to the second, and the node ticks, which each of its replicas does in turn.
 use Rattle.std.specs.Prelude.{ℕ, false, List, [], ◌∷◌, None}
 use Rattle.sc_node_table.specs.Values.{Draw, Command, Call, Base, Free, Link, OrderLine, NotMine, Mail, Request, Answer, Accept, Accepted, Row, Deliver, Tick, Go}
-use Rattle.sc_scenario.specs.declared.scenarios.SchedLine.TheVariants as line
-use Rattle.sc_scenario.specs.declared.scenarios.Scenario.{Scenario}
-use Rattle.sc_sound.specs.Definitions.{ballot, put_it, mail, row}
+use Rattle.sc_scenario.specs.declared.scenario.scenarios.SchedLine.TheVariants as line
+use Rattle.sc_scenario.specs.declared.scenario.scenarios.Scenario.{Scenario}
+use Rattle.sc_meaning.specs.sound.Definitions.{ballot, put_it, mail, row}
 
 -- the name of the first group
 abbrev pub one : Draw

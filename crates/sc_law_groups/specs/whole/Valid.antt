@@ -1,9 +1,9 @@
 -- What holds of every lawful journal of a valid scenario.
 use Rattle.std.specs.Prelude.{◌≡◌, ℕ}
 use Rattle.sc_node_table.specs.Definitions.{slots_ahead}
-use Rattle.sc_sound.specs.Definitions.{Ahead, Lawful, IsSoundThroughout}
-use Rattle.sc_scenario.specs.Definitions.{IsValid}
-use Rattle.sc_scenario.specs.declared.scenarios.Scenario.{Scenario}
+use Rattle.sc_meaning.specs.sound.Definitions.{Ahead, Lawful, IsSoundThroughout}
+use Rattle.sc_scenario.specs.scenario.Definitions.{IsValid}
+use Rattle.sc_scenario.specs.declared.scenario.scenarios.Scenario.{Scenario}
 use Rattle.sc_law_entries.specs.logs.Definitions.{Rows, AreItsLogs}
 
 -- each prefix of a lawful journal of a valid scenario is sound, whatever its orders are and whatever words storms draw, where as many slots are open as a created child has

@@ -7,9 +7,9 @@ use Rattle.sc_base.proofs.Lemmas.{draw_is}
 use Rattle.sc_node_table.specs.Values.{Draw, Row, Event, Deliver, Base, Command, OrderLine, Mail, MailBody, Accept, Report}
 use Rattle.sc_actor.specs.Definitions.{mails, numbered}
 use Rattle.sc_paxos_law.specs.Definitions.{Rule, members_of, voters_of, lesser_of, found_in, chosen_at, top_slot, with_next_entries, Step, Prepared, Promised, Offered, Accepted, Cut}
-use Rattle.sc_paxos_words.proofs.Lemmas.{Each-append}
-use Rattle.sc_paxos_words.specs.Definitions.{below}
-use Rattle.sc_sound.specs.Definitions.{Ahead, is_accepted, accepts_of, accepts_got, accepts_at, accepts_from, accepts, rule_of, decided_log}
+use Rattle.sc_words.proofs.PaxosProofs.Lemmas.{Each-append}
+use Rattle.sc_words.specs.paxos.Definitions.{below}
+use Rattle.sc_meaning.specs.sound.Definitions.{Ahead, is_accepted, accepts_of, accepts_got, accepts_at, accepts_from, accepts, rule_of, decided_log}
 use Rattle.sc_law_entries.specs.names.Definitions.{Opt}
 use Rattle.sc_law_entries.proofs.NamesProofs.Lists.{opt_map, opt_get}
 use Rattle.sc_law_walks.proofs.Ways.{either_way}

@@ -9,12 +9,12 @@ use Rattle.sc_actor.specs.declared.rows.Event.TheVariants.{Tick as TickEvent, Go
 use Rattle.sc_actor.specs.declared.rows.Input.TheVariants.{Tick, Go, Told}
 use Rattle.sc_actor.specs.Definitions.{mails, numbered, acted, input_of, value, IsStep}
 use Rattle.sc_actor.proofs.Lemmas.{lawful-induction, value-snoc, mails-snoc}
-use Rattle.sc_client_table.specs.Definitions.{Client as ClientState}
-use Rattle.sc_client_table.proofs.TurnLemmas.{sends_in_turn}
+use Rattle.sc_client_table.specs.table.Definitions.{Client as ClientState}
+use Rattle.sc_client_table.proofs.TableProofs.TurnLemmas.{sends_in_turn}
 use Rattle.sc_node_table.specs.Definitions.{NodeState, ReplicaState, name_of, node_table, born_replica, slots_ahead, settled, one_tick_more, patience}
-use Rattle.sc_paxos_words.proofs.Lemmas.{Each-among, Each-append, Each-from, find_found}
-use Rattle.sc_scenario.specs.declared.scenarios.Scenario.{Scenario}
-use Rattle.sc_sound.specs.Definitions.{Ahead, Lawful, Player, births, decided_log, node_seat, player_table, schedule, system_of}
+use Rattle.sc_words.proofs.PaxosProofs.Lemmas.{Each-among, Each-append, Each-from, find_found}
+use Rattle.sc_scenario.specs.declared.scenario.scenarios.Scenario.{Scenario}
+use Rattle.sc_meaning.specs.sound.Definitions.{Ahead, Lawful, Player, births, decided_log, node_seat, player_table, schedule, system_of}
 use Rattle.sc_law_entries.specs.names.Definitions.{Opt}
 use Rattle.sc_law_entries.proofs.NamesProofs.Lists.{opt_get}
 use Rattle.sc_law_entries.proofs.NamesProofs.Fresh.{IsClient, IsSeat, seats_are, replay_client, no_node}

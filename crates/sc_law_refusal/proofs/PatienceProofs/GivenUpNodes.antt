@@ -6,7 +6,7 @@ use Rattle.sc_base.specs.Definitions.{Drawer, Each, same_draw}
 use Rattle.sc_base.proofs.Lemmas.{draw_is}
 use Rattle.sc_node_table.specs.Values.{Draw, Input, Got, Base, Body, Lock, Free, Coordinating, Promised, Watching, GiveUp, Heard, OrderLine, Mail, MailBody, Request, Prepare, Promise, Accept, Accepted, Nack, Learn, Install, TxPrepare, TxWatch}
 use Rattle.sc_actor.specs.declared.rows.Input.TheVariants.{Tick, Go, Told}
-use Rattle.sc_paxos_words.proofs.Lemmas.{Each-append, Each-among, Each-weaker, find_found}
+use Rattle.sc_words.proofs.PaxosProofs.Lemmas.{Each-append, Each-among, Each-weaker, find_found}
 use Rattle.sc_node_table.specs.Definitions.{NodeState, ReplicaState, Place, name_of, slots_ahead, last_slot, born_replica, installed_replica, forgotten, made_by, named, replica_of, with_replica, is_before, with_new, with_born, with_children, with_made, unknown, may_come, taken_by, routed, group_of_mail, group_of_order, ordered_of, ordered_row, mailed, ticked, tick_row, names_after_tick, node_table, settled, waited_in, with_act, has_act, one_tick_more, patience}
 use Rattle.sc_law_walks.proofs.Ways.{either_way}
 use Rattle.sc_law_walks.proofs.PlaceWalks.{Before, After, Hears}

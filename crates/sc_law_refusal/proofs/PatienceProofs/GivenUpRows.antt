@@ -2,9 +2,9 @@
 use Rattle.std.proofs.Common.{◌≡◌, ℕ, ◌-◌, ◌+◌, nat_le, nat_lt, eqb, cond, Bool, true, false, true≢false, refl, sym, ◌∙◌, subst, List, [], ◌∷◌, ◌++◌, Option, Some, None}
 use Rattle.sc_base.specs.Definitions.{Each}
 use Rattle.sc_node_table.specs.Values.{Ballot, Draw, Command, Noop, Call, Base, AnswerBody, NotLeader, Mail, MailBody, Prepare, Promise, Accept, Accepted, Learn, Chosen, Flight, Report}
-use Rattle.sc_paxos_words.specs.declared.answers.Learnt.{Learnt}
-use Rattle.sc_paxos_words.proofs.Lemmas.{Each-append, Each-filter, Each-weaker}
-use Rattle.sc_paxos_words.specs.Definitions.{below, counted, entry_at, LogState, learnt, next_of, reports_from, with_flight_at, after_accept, after_promise}
+use Rattle.sc_words.specs.declared.paxos.answers.Learnt.{Learnt}
+use Rattle.sc_words.proofs.PaxosProofs.Lemmas.{Each-append, Each-filter, Each-weaker}
+use Rattle.sc_words.specs.paxos.Definitions.{below, counted, entry_at, LogState, learnt, next_of, reports_from, with_flight_at, after_accept, after_promise}
 use Rattle.sc_node_table.specs.Definitions.{ReplicaState, Place, name_of, next, entered, forgotten, jumped, put_back, sent, under_way, answered_all, ended, offered, open_nodes, without_request}
 use Rattle.sc_law_entries.specs.names.Definitions.{Opt}
 use Rattle.sc_law_entries.proofs.NamesProofs.Lists.{opt_slot, report_with}

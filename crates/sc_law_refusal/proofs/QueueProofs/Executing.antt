@@ -3,7 +3,7 @@ use Rattle.std.proofs.Common.{ℕ, eqb, Bool, true, cond, List, Option, Some, No
 use Rattle.sc_node_table.specs.Values.{Command, Call, Effect, Route, OrderResult, AnswerBody}
 use Rattle.sc_mail.specs.declared.bodies.AnswerBody.TheVariants as Says
 use Rattle.sc_base.specs.Definitions.{is_member, least_of}
-use Rattle.sc_machine_table.specs.Definitions.{applied}
+use Rattle.sc_group_table.specs.machine.Definitions.{applied}
 use Rattle.sc_node_table.specs.declared.Before.{Before}
 use Rattle.sc_node_table.specs.Definitions.{elected, stopped, entered, answer_of, answered_or_put_back, order_result, effect_reported, announced, learnt_to, welcomed, landed, left_gone, left, is_among, looked_for, looked, executed_one, executed, ReplicaState, Place, next, members, forgotten, before_of, spoken}
 use Rattle.sc_law_refusal.specs.queue.OneCall.{KeepsOneCall}

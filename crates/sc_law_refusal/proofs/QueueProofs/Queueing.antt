@@ -4,8 +4,8 @@ use Rattle.std.specs.Prelude.{is_some}
 use Rattle.std.specs.List.{list_any}
 use Rattle.sc_node_table.specs.Values.{Ballot, Op, Command, Call, AnswerBody, Must, Gap}
 use Rattle.sc_mail.specs.declared.bodies.AnswerBody.TheVariants as Says
-use Rattle.sc_paxos_words.specs.declared.answers.Must.TheVariants.{Value, Free as Open}
-use Rattle.sc_paxos_words.specs.Definitions.{below, must}
+use Rattle.sc_words.specs.declared.paxos.answers.Must.TheVariants.{Value, Free as Open}
+use Rattle.sc_words.specs.paxos.Definitions.{below, must}
 use Rattle.sc_node_table.specs.Definitions.{has_act, with_act, act_queued, elected, ended, saw, install_to, asked_to_promise, welcomed_all, Found, is_act, from_backlog, from_acts, from_queues, found_by, found_for, offered, pumped_from, pumped, queued_number, without_request, request_before, put_back, ReplicaState, Place, next, settled, may_offer, taken_at, under_way, is_idle, last_slot}
 use Rattle.sc_law_refusal.specs.queue.OneCall.{KeepsOneCall}
 use Rattle.sc_law_refusal.proofs.QueueProofs.Lists.{One, one_none, one_rest, one_first, one_without, none_left, none_found}

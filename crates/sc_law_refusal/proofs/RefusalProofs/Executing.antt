@@ -2,14 +2,14 @@
 use Rattle.std.proofs.Common.{◌≡◌, ◌≤◌, ℕ, ◌&&◌, ◌||◌, eqb, Bool, true, false, cond, List, [], ◌∷◌, ◌++◌, Option, Some, None, refl, sym, ap, subst, ◌∙◌, arith}
 use Rattle.std.specs.List.{list_any}
 use Rattle.std.specs.Option.{option_map}
-use Rattle.sc_paxos_words.specs.Definitions.{LeaderState, flight_at, LogState}
+use Rattle.sc_words.specs.paxos.Definitions.{LeaderState, flight_at, LogState}
 use Rattle.sc_node_table.specs.Values.{Flight, Ballot, Draw, Command, Noop, Call, Join, Leave, Split, Begin, Prepared, RecordVote, GiveUp, Finish, Watched, RecordWatch, Effect, Route, OrderResult, AnswerBody, Mail, Learn}
 use Rattle.sc_node_table.specs.Definitions.{same_command, elected, ended, stopped, entered, answer_of, answered_or_put_back, order_result, effect_reported, announced, learnt_to, welcomed, slot_lost, landed, left_gone, left, is_among, looked_for, looked, executed_one, next_child, has_room, next_ready, ending, executed_ready, all_ready, executed, sent_others, answer_to, order_number, put_back, ReplicaState, Place, Executed, childless, name_of, next, members, flying, forgotten, at_slot, before_of, spoken}
 use Rattle.std.proofs.lemmas.Bool.{cond_both, eqb-true, eq-eqb, or_parts, or_left, and_parts, true≢false}
 use Rattle.sc_mail.specs.declared.bodies.AnswerBody.TheVariants as Says
 use Rattle.sc_base.specs.Definitions.{is_member, least_of}
-use Rattle.sc_machine_table.specs.Definitions.{Group, state_after, applied}
-use Rattle.sc_machine_table.proofs.Lemmas.{state_push}
+use Rattle.sc_group_table.specs.machine.Definitions.{Group, state_after, applied}
+use Rattle.sc_group_table.proofs.MachineProofs.Lemmas.{state_push}
 use Rattle.sc_node_table.specs.declared.Before.{Before}
 use Rattle.sc_law_entries.proofs.NamesProofs.Lemmas.{opt_slot, slot_without, flight_without}
 use Rattle.sc_law_walks.proofs.Lemmas.{welcomed_place, cleared, either_way}

@@ -5,8 +5,8 @@ use Rattle.sc_base.specs.Definitions.{Each, Drawer, client_actor}
 use Rattle.sc_node_table.specs.Values.{Ballot, Draw, Input, Got, Op, Command, Call, GiveUp, OrderLine, AnswerBody, Mail, MailBody, Request, Answer, Prepare, Promise, Accept, Accepted, Nack, Learn, Ask, Install, TxPrepare, TxVote, TxOutcome, TxElsewhere, TxWatch, TxWatched, Told}
 use Rattle.sc_actor.specs.declared.rows.Input.TheVariants.{Tick, Told as Tells}
 use Rattle.sc_mail.specs.declared.bodies.AnswerBody.TheVariants as Says
-use Rattle.sc_paxos_words.proofs.Lemmas.{Each-append, Each-from, Each-weaker}
-use Rattle.sc_machine_table.specs.Definitions.{applied}
+use Rattle.sc_words.proofs.PaxosProofs.Lemmas.{Each-append, Each-from, Each-weaker}
+use Rattle.sc_group_table.specs.machine.Definitions.{applied}
 use Rattle.sc_node_table.specs.Definitions.{same_command, queued_number, ReplicaState, Place, Executed, childless, name_of, next, flying, last_slot, listed, settled, refused_at, queued, requested, request_row, learn_row, mailed, stepped, entered, announced, executed, sent}
 use Rattle.sc_node_table.specs.declared.ReplicaInput.{ReplicaInput}
 use Rattle.sc_node_table.specs.declared.ReplicaInput.TheVariants as Given

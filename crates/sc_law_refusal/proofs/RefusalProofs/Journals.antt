@@ -9,17 +9,17 @@ use Rattle.sc_actor.specs.declared.rows.Event.TheVariants as event
 use Rattle.sc_actor.specs.declared.rows.Input.TheVariants.{Go}
 use Rattle.sc_actor.specs.Definitions.{mails, numbered, acted, input_of, value, IsStep, IsOpen, IsLoose, has_started, is_go, place_after}
 use Rattle.sc_actor.proofs.Lemmas.{MayAdd-step, lawful-induction, value-snoc, lawful-prefix, lawful-last}
-use Rattle.sc_client_table.specs.Definitions.{Client as ClientState, table}
+use Rattle.sc_client_table.specs.table.Definitions.{Client as ClientState, table}
 use Rattle.sc_node_table.specs.Definitions.{NodeState, node_table, ReplicaState, name_of, numbers_from}
-use Rattle.sc_paxos_words.proofs.Lemmas.{Each-among, Each-append, Each-weaker, find_found}
-use Rattle.sc_scenario.specs.declared.scenarios.Asks.{Asks}
-use Rattle.sc_scenario.specs.declared.scenarios.Scenario.{Scenario}
-use Rattle.sc_sound.specs.Definitions.{Ahead, Lawful, Player, births, client_seat, client_seats, node_seat, player_table, route_of, schedule, system_of}
+use Rattle.sc_words.proofs.PaxosProofs.Lemmas.{Each-among, Each-append, Each-weaker, find_found}
+use Rattle.sc_scenario.specs.declared.scenario.scenarios.Asks.{Asks}
+use Rattle.sc_scenario.specs.declared.scenario.scenarios.Scenario.{Scenario}
+use Rattle.sc_meaning.specs.sound.Definitions.{Ahead, Lawful, Player, births, client_seat, client_seats, node_seat, player_table, route_of, schedule, system_of}
 use Rattle.sc_law_refusal.specs.queue.OneCall.{QueuesKeepOneCall}
 use Rattle.sc_law_refusal.specs.refusal.Definitions.{MayGiveUp, IsImpatient, ends_queued, KeepsTurn, Rows, Acts, ticks_in, RowHasCauses, ValidJournalsRefuseWithCause, AnswersHaveCauses, ActsHaveCauses, NodeHasCauses, TakesRequests, counted_ticks}
 use Rattle.sc_law_refusal.proofs.RefusalProofs.NodeSteps.{Keeps, running_of, nodes_have_causes}
 use Rattle.sc_law_refusal.proofs.RefusalProofs.Locking.{allowed}
-use Rattle.sc_sound.proofs.Lemmas.{any_push}
+use Rattle.sc_meaning.proofs.SoundProofs.Lemmas.{any_push}
 use Rattle.sc_law_refusal.proofs.RefusalProofs.Ticking.{IsKnown, counts, node_known, no_client}
 use Rattle.sc_law_refusal.proofs.PatienceProofs.GivenUpJournals.{lawful_give_up}
 use Rattle.sc_law_refusal.proofs.RefusalProofs.Turning.{InPlace, keeps_turn, in_place}

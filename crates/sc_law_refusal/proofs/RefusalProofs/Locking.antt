@@ -5,13 +5,13 @@ use Rattle.std.specs.FinMap.{get}
 use Rattle.sc_base.specs.Definitions.{same_draw, holds}
 use Rattle.sc_node_table.specs.Values.{Ballot, Draw, Noted, Op, Body, Offer, Command, Noop, Call, Join, Leave, Split, Begin, Prepared, RecordVote, GiveUp, Finish, Watched, RecordWatch, Lock, Free, Coordinating, Promised, Watching, Effect, Route, OrderRefusal, Frozen, Heard, No, Outcome, Past, Vote}
 use Rattle.sc_base.proofs.Lemmas.{draw_is}
-use Rattle.sc_ideal.specs.Definitions.{key_of, holds_key}
-use Rattle.sc_cmd.specs.declared.bodies.Body.TheVariants as At
-use Rattle.sc_cmd.specs.declared.votes.Outcome.TheVariants as Is
-use Rattle.sc_cmd.specs.declared.votes.Past.TheVariants as Cast
-use Rattle.sc_cmd.specs.declared.votes.Vote.TheVariants as Vows
-use Rattle.sc_machine_table.specs.Definitions.{Group, served_by_note, served, called, ordered_by, split_group, applied, locked_in, refusal_of, ordered, Plan, may_merge, closing_group, closing_plan, merged_route, merged_group, giving_plan, taking_plan, can_repart, giving_group, taking_group, part_gift, has_key_of, taken, can_migrate, migrated_group, can_split, left_group, participant_after, settled_in, finished, committed, granted, participant_answered, vote_recorded, released, watch_answered, watch_recorded, offer_no, watch_no, no_of, vote_of, watch_vote_of, voted_on, bound_by}
-use Rattle.sc_cmd.specs.Definitions.{is_alone}
+use Rattle.sc_words.specs.ideal.Definitions.{key_of, holds_key}
+use Rattle.sc_words.specs.declared.commands.bodies.Body.TheVariants as At
+use Rattle.sc_words.specs.declared.commands.votes.Outcome.TheVariants as Is
+use Rattle.sc_words.specs.declared.commands.votes.Past.TheVariants as Cast
+use Rattle.sc_words.specs.declared.commands.votes.Vote.TheVariants as Vows
+use Rattle.sc_group_table.specs.machine.Definitions.{Group, served_by_note, served, called, ordered_by, split_group, applied, locked_in, refusal_of, ordered, Plan, may_merge, closing_group, closing_plan, merged_route, merged_group, giving_plan, taking_plan, can_repart, giving_group, taking_group, part_gift, has_key_of, taken, can_migrate, migrated_group, can_split, left_group, participant_after, settled_in, finished, committed, granted, participant_answered, vote_recorded, released, watch_answered, watch_recorded, offer_no, watch_no, no_of, vote_of, watch_vote_of, voted_on, bound_by}
+use Rattle.sc_words.specs.commands.Definitions.{is_alone}
 use Rattle.sc_node_table.specs.Definitions.{waits_in}
 
 -- ---- what a lock allows

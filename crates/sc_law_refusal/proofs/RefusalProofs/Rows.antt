@@ -5,14 +5,14 @@ use Rattle.std.specs.Prelude.{is_some}
 use Rattle.std.proofs.lemmas.Bool.{cond_both, leb-true, and_parts, not-true, not-false}
 use Rattle.sc_base.specs.Definitions.{Drawer, next_name, client_actor, is_member}
 use Rattle.sc_node_table.specs.Values.{Ballot, Draw, Op, Body, Offer, Watch, Command, Call, GiveUp, Prepared, RecordVote, Finish, Watched, RecordWatch, Lock, Free, Coordinating, Promised, Watching, Route, Order, OrderLine, OrderRefusal, Heard, Outcome, Past, Vote, AnswerBody, Mail, Answer, TxOutcome, TxElsewhere, Told}
-use Rattle.sc_ideal.specs.Definitions.{key_of, holds_key}
-use Rattle.sc_cmd.specs.declared.orders.Order.TheVariants as An
-use Rattle.sc_cmd.specs.declared.orders.OrderResult.TheVariants as Tells
-use Rattle.sc_cmd.specs.declared.votes.Past.TheVariants as Cast
-use Rattle.sc_cmd.specs.declared.votes.Vote.TheVariants as Vows
+use Rattle.sc_words.specs.ideal.Definitions.{key_of, holds_key}
+use Rattle.sc_words.specs.declared.commands.orders.Order.TheVariants as An
+use Rattle.sc_words.specs.declared.commands.orders.OrderResult.TheVariants as Tells
+use Rattle.sc_words.specs.declared.commands.votes.Past.TheVariants as Cast
+use Rattle.sc_words.specs.declared.commands.votes.Vote.TheVariants as Vows
 use Rattle.sc_mail.specs.declared.bodies.AnswerBody.TheVariants as Says
-use Rattle.sc_paxos_words.proofs.Lemmas.{Each-append}
-use Rattle.sc_paxos_words.specs.Definitions.{entry_at}
+use Rattle.sc_words.proofs.PaxosProofs.Lemmas.{Each-append}
+use Rattle.sc_words.specs.paxos.Definitions.{entry_at}
 use Rattle.sc_node_table.specs.Definitions.{has_act, is_of_kind, with_act, act_queued, elected, sent, ordered_command, untaken, queued_or_refused, ordered_row, wished_line, with_command, with_line, wishing, admits_requests, pumped, queued_number, without_request, patience, one_tick_more, waited_in, reminders, reminded, ReplicaState, Place, name_of, next, listed, members, open_slots, settled, taken_at, taken_from, is_idle, request_refusal, refused_at, queued, requested, request_row, asked_again, last_entry_sent, tick_row, noted_outcome, standing_vote, sent_elsewhere, offered_by, offer_row, watched_by, watch_row, awaits_vote, awaits_watch, outcome_sent, vote_queued, vote_met, vote_row, watch_queued, watch_met, watched_row, asked_next, elsewhere_row, is_bound, outcome_row}
 use Rattle.sc_law_walks.proofs.Lemmas.{either_way}
 use Rattle.sc_law_refusal.specs.refusal.Definitions.{LacksKey}

@@ -2,11 +2,11 @@
 use Rattle.std.proofs.Common.{◌≡◌, ℕ, ◌+◌, ◌-◌, ◌^◌, refl, arith, ◌&&◌, eqb, Bool, true, false, cond, List, [], ◌∷◌, Option, Some}
 use Rattle.sc_base.specs.Definitions.{client_actor}
 use Rattle.sc_node_table.specs.Values.{Ballot, Draw, Op, Command, Call, Join, Leave, Split, Begin, AnswerBody, Mail, Answer, Prepare, Install}
-use Rattle.sc_cmd.specs.declared.orders.OrderRefusal.TheVariants as Why
-use Rattle.sc_cmd.specs.declared.orders.OrderResult.TheVariants as Tells
+use Rattle.sc_words.specs.declared.commands.orders.OrderRefusal.TheVariants as Why
+use Rattle.sc_words.specs.declared.commands.orders.OrderResult.TheVariants as Tells
 use Rattle.sc_mail.specs.declared.bodies.AnswerBody.TheVariants as Says
-use Rattle.sc_machine_table.specs.Definitions.{base_of}
-use Rattle.sc_paxos_words.specs.Definitions.{below, new_leader}
+use Rattle.sc_group_table.specs.machine.Definitions.{base_of}
+use Rattle.sc_words.specs.paxos.Definitions.{below, new_leader}
 use Rattle.sc_node_table.specs.Definitions.{open_nodes, elected, ended, stopped, saw, install_to, asked_to_promise, welcomed_all, sent, answered, answered_all, order_reported, dismissed, dismissed_all, ReplicaState, Place, name_of, next, under_way}
 use Rattle.sc_law_walks.proofs.Lemmas.{either_way}
 use Rattle.sc_law_refusal.proofs.RefusalProofs.Keeping.{Kept, KeptAll, way_kept, fewer_due}

@@ -4,17 +4,17 @@ use Rattle.std.proofs.lemmas.Bool.{cond_both}
 use Rattle.std.specs.Prelude.{if◌then◌else◌}
 use Rattle.sc_base.specs.Definitions.{Among, Drawer, least_of, next_name}
 use Rattle.sc_node_table.specs.Values.{Draw, Body, Offer, Watch, Command, Noop, Call, Join, Leave, Split, Begin, Prepared, RecordVote, GiveUp, Watched, RecordWatch, Core, Lock, Free, Coordinating, Promised, Watching, Effect, Link, Route, OrderLine, OrderRefusal, OrderResult, Heard, Outcome, Past, Vote, AnswerBody, Mail, MailBody, TxPrepare, TxOutcome}
-use Rattle.sc_cmd.specs.declared.bodies.Body.TheVariants as At
-use Rattle.sc_cmd.specs.declared.effects.Effect.TheVariants as Was
-use Rattle.sc_cmd.specs.declared.orders.OrderRefusal.TheVariants.{NotLeader}
-use Rattle.sc_cmd.specs.declared.orders.OrderResult.TheVariants.{Done, Refused}
-use Rattle.sc_cmd.specs.declared.votes.Outcome.TheVariants as Is
-use Rattle.sc_cmd.specs.declared.votes.Past.TheVariants as Cast
-use Rattle.sc_cmd.specs.declared.votes.Vote.TheVariants as Says
-use Rattle.sc_cmd.specs.Definitions.{cast_in, decided_in, is_alone, is_changed, refused_result, result_of}
-use Rattle.sc_machine_table.specs.Definitions.{Group, applied, begun_group, has_named, ordered, refusal_of, split_group, with_node, without_node}
-use Rattle.sc_paxos_words.proofs.Lemmas.{Each-append}
-use Rattle.sc_policy.specs.Definitions.{is_reported}
+use Rattle.sc_words.specs.declared.commands.bodies.Body.TheVariants as At
+use Rattle.sc_words.specs.declared.commands.effects.Effect.TheVariants as Was
+use Rattle.sc_words.specs.declared.commands.orders.OrderRefusal.TheVariants.{NotLeader}
+use Rattle.sc_words.specs.declared.commands.orders.OrderResult.TheVariants.{Done, Refused}
+use Rattle.sc_words.specs.declared.commands.votes.Outcome.TheVariants as Is
+use Rattle.sc_words.specs.declared.commands.votes.Past.TheVariants as Cast
+use Rattle.sc_words.specs.declared.commands.votes.Vote.TheVariants as Says
+use Rattle.sc_words.specs.commands.Definitions.{cast_in, decided_in, is_alone, is_changed, refused_result, result_of}
+use Rattle.sc_group_table.specs.machine.Definitions.{Group, applied, begun_group, has_named, ordered, refusal_of, split_group, with_node, without_node}
+use Rattle.sc_words.proofs.PaxosProofs.Lemmas.{Each-append}
+use Rattle.sc_group_table.specs.policy.Definitions.{is_reported}
 use Rattle.sc_node_table.specs.declared.Before.{Before}
 use Rattle.sc_node_table.specs.Definitions.{ReplicaState, Place, name_of, under_way, sent, answered, answered_all, answer_of, answered_or_put_back, order_result, effect_reported, announced, entered, before_of, before_in, begun_result, decided_result, dismissed, dismissed_all, ended, order_number, ordered_row, outcome_result, spoken, spoken_mails, spoken_number, begun_reported, result_sent, order_reported, result_reported, untaken, queued_or_refused, ordered_command, offer_of, heard_question, question, asked_first, outcome_sent, asked_on, begun_asks, vote_sent, watch_sent, aborted_to, aborted_watcher, given_up_by, vote_answered, released_to, watch_answered_by, went_on}
 use Rattle.sc_law_walks.proofs.Ways.{either_way}

@@ -4,8 +4,8 @@ use Rattle.sc_base.specs.Definitions.{Each}
 use Rattle.sc_node_table.specs.Values.{Command, OrderLine, Mail, Input, Row, Node}
 use Rattle.sc_actor.specs.Definitions.{value}
 use Rattle.sc_node_table.specs.Definitions.{NodeState, node_table, is_request_of, ReplicaState}
-use Rattle.sc_scenario.specs.declared.scenarios.Scenario.{Scenario}
-use Rattle.sc_sound.specs.Definitions.{Ahead, node_seat, player_table}
+use Rattle.sc_scenario.specs.declared.scenario.scenarios.Scenario.{Scenario}
+use Rattle.sc_meaning.specs.sound.Definitions.{Ahead, node_seat, player_table}
 
 -- the number of these commands that are requests of a client
 abbrev pub calls_of : ℕ → List Command → ℕ

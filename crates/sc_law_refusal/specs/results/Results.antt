@@ -2,12 +2,12 @@
 use Rattle.std.specs.Prelude.{◌≡◌, ℕ, true, Bool, List, [], Option, None, Some, ◌⊎◌}
 use Rattle.sc_base.specs.Definitions.{Among, Drawer, Each}
 use Rattle.sc_node_table.specs.Values.{Draw, Body, Command, Noop, Call, Join, Leave, Split, Begin, Prepared, RecordVote, GiveUp, Finish, Watched, RecordWatch, Core, Coordinating, Route, OrderLine, OrderRefusal, OrderResult, Heard, Outcome, AnswerBody, Mail, MailBody, Request, Answer, Prepare, Promise, Accept, Accepted, Nack, Learn, Ask, Install, TxPrepare, TxVote, TxOutcome, TxElsewhere, TxWatch, TxWatched, Told}
-use Rattle.sc_cmd.specs.declared.effects.Effect.TheVariants as Was
-use Rattle.sc_cmd.specs.declared.orders.OrderRefusal.TheVariants.{NotLeader}
-use Rattle.sc_cmd.specs.declared.orders.OrderResult.TheVariants.{Done, Committed, Aborted, Refused}
-use Rattle.sc_cmd.specs.declared.votes.Outcome.TheVariants as Is
-use Rattle.sc_cmd.specs.Definitions.{is_alone}
-use Rattle.sc_machine_table.specs.Definitions.{Group, applied, refusal_of}
+use Rattle.sc_words.specs.declared.commands.effects.Effect.TheVariants as Was
+use Rattle.sc_words.specs.declared.commands.orders.OrderRefusal.TheVariants.{NotLeader}
+use Rattle.sc_words.specs.declared.commands.orders.OrderResult.TheVariants.{Done, Committed, Aborted, Refused}
+use Rattle.sc_words.specs.declared.commands.votes.Outcome.TheVariants as Is
+use Rattle.sc_words.specs.commands.Definitions.{is_alone}
+use Rattle.sc_group_table.specs.machine.Definitions.{Group, applied, refusal_of}
 use Rattle.sc_node_table.specs.Definitions.{ReplicaState, announced, before_of, ended, entered, ordered_row, spoken, result_sent, untaken}
 
 -- ---- how an entry ends an order

@@ -6,7 +6,7 @@ use Rattle.sc_actor.specs.Definitions.{mails, row_of}
 use Rattle.sc_live_orderly.specs.Definitions.{AreInTime}
 use Rattle.sc_live_orderly.proofs.Lemmas.{by_time, last_in_time}
 use Rattle.sc_node_table.specs.Definitions.{first_ballot, slots_ahead}
-use Rattle.sc_sound.specs.Definitions.{Player, player_table, births, as_nodes}
+use Rattle.sc_meaning.specs.sound.Definitions.{Player, player_table, births, as_nodes}
 use Rattle.sc_live_steps.specs.calm.Definitions.{players, Rows}
 use Rattle.sc_live_steps.specs.following.Definitions.{Mark, Course, Progress, Sets, members_at, IsFollowing, Tellers, IsRow, IsIdle, begun, marks_for}
 use Rattle.sc_live_steps.proofs.FollowingProofs.Lemmas.{begins, taught_is_kept}

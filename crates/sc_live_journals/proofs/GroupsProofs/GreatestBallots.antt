@@ -4,10 +4,10 @@ use Rattle.std.proofs.lemmas.Bool.{cond_both, and_from, eqb-true}
 use Rattle.sc_base.specs.Definitions.{Each}
 use Rattle.sc_node_table.specs.Values.{Ballot, Draw, Command, Base, Mail, OrderLine, Row}
 use Rattle.sc_actor.specs.Definitions.{replay}
-use Rattle.sc_paxos_words.specs.Definitions.{IsAtLeast, below, LeaderState, promise_counted, counted}
-use Rattle.sc_paxos_words.proofs.Lemmas.{at_least_itself, at_least_trans, at_least_from_below, below_from}
+use Rattle.sc_words.specs.paxos.Definitions.{IsAtLeast, below, LeaderState, promise_counted, counted}
+use Rattle.sc_words.proofs.PaxosProofs.Lemmas.{at_least_itself, at_least_trans, at_least_from_below, below_from}
 use Rattle.sc_node_table.specs.Definitions.{entered, jumped, forgotten, ReplicaState, replica_of, installed_replica, first_ballot}
-use Rattle.sc_sound.specs.Definitions.{Player, player_table}
+use Rattle.sc_meaning.specs.sound.Definitions.{Player, player_table}
 use Rattle.sc_law_walks.specs.Definitions.{IsKept, GoesOn}
 use Rattle.sc_law_walks.proofs.Lemmas.{StateParts, ended_replica, promise_ballot, counted_ballot, StateBirths}
 use Rattle.sc_live_journals.proofs.RowsProofs.Players as players

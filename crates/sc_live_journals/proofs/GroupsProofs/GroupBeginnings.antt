@@ -4,10 +4,10 @@ use Rattle.std.proofs.lemmas.Bool.{cases_Bool, cond-true, cond-false, cond_both,
 use Rattle.sc_base.specs.Definitions.{Among, is_member}
 use Rattle.sc_node_table.specs.Values.{Ballot, Base, Seat}
 use Rattle.sc_live_orderly.specs.Definitions.{rest}
-use Rattle.sc_scenario.specs.Definitions.{IsBounded}
-use Rattle.sc_scenario.specs.declared.scenarios.Scenario.{Scenario}
+use Rattle.sc_scenario.specs.scenario.Definitions.{IsBounded}
+use Rattle.sc_scenario.specs.declared.scenario.scenarios.Scenario.{Scenario}
 use Rattle.sc_node_table.specs.Definitions.{ReplicaState, first_ballot, born_replica, slots_ahead}
-use Rattle.sc_sound.specs.Definitions.{Player, births, as_nodes}
+use Rattle.sc_meaning.specs.sound.Definitions.{Player, births, as_nodes}
 use Rattle.sc_live_steps.specs.calm.Definitions.{players, Rows}
 use Rattle.sc_live_steps.specs.following.Definitions.{AreLow, Mark, Progress, Sets, members_at, IsFollowing, Tellers, IsLeadOf, IsOrderly, IsRow, IsIdle, begun}
 use Rattle.sc_live_steps.proofs.FollowingProofs.Lemmas.{leaders_begin, nothing, hints_are_kept, begins, idle-keeps, own_is_kept}

@@ -5,7 +5,7 @@ use Rattle.sc_node_table.specs.Values.{Base, OrderLine, Seat, Event}
 use Rattle.sc_base.specs.Definitions.{IsRoster, is_member}
 use Rattle.sc_live_orderly.specs.Definitions.{AreInTime}
 use Rattle.sc_node_table.specs.Definitions.{ReplicaState, born_replica, slots_ahead}
-use Rattle.sc_sound.specs.Definitions.{Player}
+use Rattle.sc_meaning.specs.sound.Definitions.{Player}
 use Rattle.sc_live_steps.specs.calm.Definitions.{players, Rows}
 use Rattle.sc_live_steps.specs.following.Definitions.{Course, Sets, Tellers, IsOrderly}
 use Rattle.sc_live_steps.proofs.FollowingProofs.Lemmas.{leaders_begin}

@@ -2,7 +2,7 @@
 use Rattle.std.proofs.Common.{◌≡◌, ℕ, ◌&&◌, not, Bool, true, false, cond, List, [], ◌∷◌, ◌++◌, refl, ap}
 use Rattle.sc_base.specs.Definitions.{Drawer, same_ballot, is_member}
 use Rattle.sc_node_table.specs.Values.{Ballot, Command, OrderLine, MailBody, Promise, Report}
-use Rattle.sc_paxos_words.specs.Definitions.{LeaderState, promise_counted}
+use Rattle.sc_words.specs.paxos.Definitions.{LeaderState, promise_counted}
 use Rattle.sc_node_table.specs.declared.ReplicaInput.TheVariants as Given
 use Rattle.sc_node_table.specs.Definitions.{pumped, ReplicaState, name_of, next, mailed, stepped, leads, promise_row}
 use Rattle.sc_live_steps.specs.following.Definitions.{Progress, Sets, IsLeadOf, IsAside, MayOffer}

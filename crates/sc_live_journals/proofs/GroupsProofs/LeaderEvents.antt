@@ -7,7 +7,7 @@ use Rattle.sc_actor.specs.declared.rows.Event.TheVariants.{Told}
 use Rattle.sc_actor.specs.Definitions.{mails}
 use Rattle.sc_live_orderly.specs.Definitions.{AreInTime}
 use Rattle.sc_node_table.specs.Definitions.{NodeState, replica_of, group_of_mail, group_of_order, ordered_row, ReplicaState, Place, name_of, next, mailed}
-use Rattle.sc_sound.specs.Definitions.{Player}
+use Rattle.sc_meaning.specs.sound.Definitions.{Player}
 use Rattle.sc_live_steps.specs.calm.Definitions.{players, Rows}
 use Rattle.sc_live_steps.specs.following.Definitions.{AsksLow, Mark, Votes, Promises, mark_of, Course, Progress, Sets, members_at, Tellers, LeavesLast, IsLeadOf, LeadsInto, IsAside, DecidesNext, IsOrderly, CountsOwn}
 use Rattle.sc_live_steps.proofs.FollowingProofs.Lemmas.{acts_stop_alone, rows_ask_next, rows_lead, same_mark, order_is_kept, leaders_count_own, leaders_leave_last}

@@ -5,11 +5,11 @@ use Rattle.std.proofs.lemmas.Bool.{cases_lt, and_parts, leb-true}
 use Rattle.sc_base.specs.Definitions.{Each, most_nodes, IsRoster, is_member, least_of}
 use Rattle.sc_node_table.specs.Values.{Ballot, Draw, Command, Base, Route, Mail, Learn, Seat, Deliver}
 use Rattle.sc_actor.specs.Definitions.{mails}
-use Rattle.sc_paxos_words.specs.Definitions.{below}
-use Rattle.sc_paxos_words.proofs.Lemmas.{below_from, at_least_below}
+use Rattle.sc_words.specs.paxos.Definitions.{below}
+use Rattle.sc_words.proofs.PaxosProofs.Lemmas.{below_from, at_least_below}
 use Rattle.sc_node_table.specs.Definitions.{entered, is_among, NodeState, group_of_mail, is_node, ReplicaState, Place, name_of, next, members, last_slot, forgotten, mailed}
 use Rattle.sc_law_walks.proofs.Lemmas.{entered_next}
-use Rattle.sc_sound.specs.Definitions.{Player}
+use Rattle.sc_meaning.specs.sound.Definitions.{Player}
 use Rattle.sc_live_steps.specs.calm.Definitions.{players, Rows}
 use Rattle.sc_live_steps.specs.following.Definitions.{Dated, IsNoPrepare, dated_for, Mark, Asks, Votes, Tells, Installs, Prepares, Promises, mark_of, pledged, Course, Progress, Sets, members_at, IsOpen, IsHeir, Tellers, hint_by, AreAt, AreLearntLast, IsInTime, Stays, MayElect, next_ballot}
 use Rattle.sc_live_steps.proofs.FollowingProofs.Lemmas.{elections_ask_next, tables_elect, elections_lead, nodes_heed, least_in, tables, same_mark, hints_follow, heirs_elect}

@@ -8,9 +8,9 @@ use Rattle.sc_node_table.specs.Values.{Ballot, Draw, Command, Base, OrderLine, M
 use Rattle.sc_actor.specs.declared.rows.Event.TheVariants.{Told}
 use Rattle.sc_actor.specs.Definitions.{mails, row_of}
 use Rattle.sc_live_orderly.specs.Definitions.{AreInTime}
-use Rattle.sc_paxos_words.specs.Definitions.{below, LeaderState, flight_at, promise_counted}
+use Rattle.sc_words.specs.paxos.Definitions.{below, LeaderState, flight_at, promise_counted}
 use Rattle.sc_node_table.specs.Definitions.{NodeState, replica_of, group_of_mail, group_of_order, ordered_row, pumped, ReplicaState, Place, Executed, childless, listed, either, taken_at, name_of, next, first_ballot, set_at, mailed, made_by, at_slot, leads, promise_row, voted, accepted_row}
-use Rattle.sc_sound.specs.Definitions.{Player, player_table}
+use Rattle.sc_meaning.specs.sound.Definitions.{Player, player_table}
 use Rattle.sc_live_steps.specs.calm.Definitions.{players, Rows}
 use Rattle.sc_live_steps.specs.following.Definitions.{from_slot_of, Mark, Asks, Votes, Installs, Prepares, Promises, mark_of, Course, Progress, Sets, members_at, Tellers, hint_by, AreHeeded, IsOther, GoesBy, IsAside, AreApart, HasBallot, IsOrderly, IsRow, IsCount, marks_for, StepsBy}
 use Rattle.sc_live_steps.proofs.FollowingProofs.Lemmas.{prepares_are_known, nodes_heed, tables, same_mark, states, hints_follow}

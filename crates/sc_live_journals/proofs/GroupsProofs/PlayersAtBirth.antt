@@ -2,11 +2,11 @@
 use Rattle.std.proofs.Common.{ℕ, eqb, List, [], ◌∷◌, map, refl}
 use Rattle.sc_base.specs.Definitions.{Each}
 use Rattle.sc_node_table.specs.Values.{Base, Seat}
-use Rattle.sc_paxos_words.proofs.Lemmas.{Each-among, Each-append, find_found}
-use Rattle.sc_scenario.specs.declared.scenarios.Asks.{Asks as Requests}
-use Rattle.sc_scenario.specs.declared.scenarios.Scenario.{Scenario}
+use Rattle.sc_words.proofs.PaxosProofs.Lemmas.{Each-among, Each-append, find_found}
+use Rattle.sc_scenario.specs.declared.scenario.scenarios.Asks.{Asks as Requests}
+use Rattle.sc_scenario.specs.declared.scenario.scenarios.Scenario.{Scenario}
 use Rattle.sc_node_table.specs.Definitions.{numbers_from}
-use Rattle.sc_sound.specs.Definitions.{Player, births, as_nodes, node_seat, client_seat, client_seats, route_of}
+use Rattle.sc_meaning.specs.sound.Definitions.{Player, births, as_nodes, node_seat, client_seat, client_seats, route_of}
 use Rattle.sc_live_journals.proofs.RowsProofs.Lemmas.{births_alone, nodes_born}
 use Rattle.sc_live_journals.specs.groups.Definitions.{IsWellPlayer, ScenariosAreWellBorn}
 

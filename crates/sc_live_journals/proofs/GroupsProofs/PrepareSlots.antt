@@ -8,7 +8,7 @@ use Rattle.sc_actor.specs.Definitions.{mails, numbered, is_delivery, System, row
 use Rattle.sc_live_orderly.specs.Definitions.{IsTidy, IsCalmRow, IsCalmEvent, rest, mail_for, taken, AreInTime}
 use Rattle.sc_live_orderly.proofs.Lemmas.{in_time_before, in_time_tidy, last_in_time, takes_first, is_born-from, rest-calm}
 use Rattle.sc_node_table.specs.Definitions.{listed}
-use Rattle.sc_sound.specs.Definitions.{Player, player_table}
+use Rattle.sc_meaning.specs.sound.Definitions.{Player, player_table}
 use Rattle.sc_live_steps.specs.calm.Definitions.{players, Rows}
 use Rattle.sc_live_steps.specs.following.Definitions.{Dated, from_slot_of, dated_of, dated_for, IsDatedRow, Mark, mark_of, Course}
 use Rattle.sc_live_journals.specs.rows.Definitions.{next_in, progress_at, mark_in, taken_mark, IsSeat}

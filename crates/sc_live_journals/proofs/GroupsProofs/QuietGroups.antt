@@ -6,9 +6,9 @@ use Rattle.sc_base.specs.Definitions.{is_majority, IsRoster, is_member}
 use Rattle.sc_actor.specs.Definitions.{is_quiet}
 use Rattle.sc_live_orderly.specs.Definitions.{is_born, AreInTime}
 use Rattle.sc_live_orderly.proofs.Lemmas.{in_time_tidy, quiet-empty}
-use Rattle.sc_paxos_words.specs.Definitions.{below}
+use Rattle.sc_words.specs.paxos.Definitions.{below}
 use Rattle.sc_node_table.specs.Definitions.{ReplicaState, next, first_set, may_offer, settled}
-use Rattle.sc_sound.specs.Definitions.{Player}
+use Rattle.sc_meaning.specs.sound.Definitions.{Player}
 use Rattle.sc_live_steps.specs.calm.Definitions.{players, MayVote, Rows}
 use Rattle.sc_live_steps.specs.following.Definitions.{marks_of, Course, Progress, Sets, members_at, IsOpen, Tellers, hinted, AreAt, IsLeadOf}
 use Rattle.sc_live_steps.proofs.CalmProofs.Lemmas.{unbound_new}

@@ -5,7 +5,7 @@ use Rattle.std.specs.Option.{option_map}
 use Rattle.std.proofs.lemmas.Bool.{eq-eqb, lt-ltb, le-ltb, cases_lt}
 use Rattle.sc_base.specs.Definitions.{Each}
 use Rattle.sc_node_table.specs.Values.{Command, Flight}
-use Rattle.sc_paxos_words.specs.Definitions.{flight_at, kept_voters}
+use Rattle.sc_words.specs.paxos.Definitions.{flight_at, kept_voters}
 use Rattle.sc_node_table.specs.Definitions.{has_room, ReplicaState, next, last_slot, either, flying, taken_at, at_slot}
 use Rattle.sc_live_steps.specs.following.Definitions.{Progress, Sets, IsLeadOf}
 use Rattle.sc_live_journals.specs.rows.Definitions.{IsEvenAt, progress_at}

@@ -4,11 +4,11 @@ use Rattle.std.proofs.lemmas.Bool.{eqb-true}
 use Rattle.sc_base.specs.Definitions.{Each}
 use Rattle.sc_node_table.specs.Values.{Draw, Base, Node, Client, Seat}
 use Rattle.sc_actor.specs.Definitions.{value}
-use Rattle.sc_paxos_words.proofs.Lemmas.{Each-among, Each-append, find_found}
-use Rattle.sc_scenario.specs.declared.scenarios.Asks.{Asks as Requests}
-use Rattle.sc_scenario.specs.declared.scenarios.Scenario.{Scenario}
+use Rattle.sc_words.proofs.PaxosProofs.Lemmas.{Each-among, Each-append, find_found}
+use Rattle.sc_scenario.specs.declared.scenario.scenarios.Asks.{Asks as Requests}
+use Rattle.sc_scenario.specs.declared.scenario.scenarios.Scenario.{Scenario}
 use Rattle.sc_node_table.specs.Definitions.{replica_of, ReplicaState, numbers_from}
-use Rattle.sc_sound.specs.Definitions.{Player, player_table, births, as_nodes, node_seat, client_seat, client_seats, route_of}
+use Rattle.sc_meaning.specs.sound.Definitions.{Player, player_table, births, as_nodes, node_seat, client_seat, client_seats, route_of}
 use Rattle.sc_live_journals.specs.rows.Definitions.{replicas_of, replica_in}
 use Rattle.sc_live_journals.specs.groups.Definitions.{IsKeptPlayer, ScenariosAreKeptBorn, ReplicasAreKept, KeptLeadersRest, IsSlotKept, IsTopKept}
 use Rattle.sc_live_journals.proofs.GroupsProofs.QuietLeaders.{quiet_leaders_rest}

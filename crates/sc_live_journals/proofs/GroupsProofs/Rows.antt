@@ -7,7 +7,7 @@ use Rattle.sc_node_table.specs.Values.{Ballot, Draw, Base, OrderLine, Mail, Seat
 use Rattle.sc_actor.specs.Definitions.{mails, row_of}
 use Rattle.sc_live_orderly.specs.Definitions.{rest}
 use Rattle.sc_node_table.specs.Definitions.{ReplicaState, Place, listed}
-use Rattle.sc_sound.specs.Definitions.{Player, player_table}
+use Rattle.sc_meaning.specs.sound.Definitions.{Player, player_table}
 use Rattle.sc_live_steps.specs.calm.Definitions.{players, Rows}
 use Rattle.sc_live_steps.specs.following.Definitions.{Dated, from_slot_of, dated_of, dated_for, marks_in, IsNoPrepare, AreLow, IsAskedLow, IsDatedRow, Mark, mark_of, marks_of, Course, Progress, Sets, IsFollowing, Tellers, GoesBy, IsOrderly, IsRow, IsIdle, Takes, Leads, Elects, IsOffered, marks_for}
 use Rattle.sc_live_steps.proofs.FollowingProofs.Lemmas.{slots_are_kept, prepares_are_known, hints_are_kept, idle-keeps, own_is_kept}

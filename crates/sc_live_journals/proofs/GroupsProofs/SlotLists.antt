@@ -3,8 +3,8 @@ use Rattle.std.proofs.Common.{◌≡◌, ℕ, ◌+◌, ◌<◌, ◌≤◌, eqb, 
 use Rattle.std.proofs.lemmas.Bool.{eqb-true, eqb-false, ltb-true, ltb-false, ne_eqb}
 use Rattle.sc_base.specs.Definitions.{Each}
 use Rattle.sc_node_table.specs.Values.{Command, Flight}
-use Rattle.sc_paxos_words.specs.Definitions.{flight_at, without_flight, with_voters}
-use Rattle.sc_paxos_words.proofs.Lemmas.{Each-append, Each-weaker}
+use Rattle.sc_words.specs.paxos.Definitions.{flight_at, without_flight, with_voters}
+use Rattle.sc_words.proofs.PaxosProofs.Lemmas.{Each-append, Each-weaker}
 use Rattle.sc_node_table.specs.Definitions.{at_slot, with_slot, without_slot}
 use Rattle.sc_law_walks.proofs.Lemmas.{either_way}
 use Rattle.sc_live_steps.specs.following.Definitions.{AreApart}

@@ -6,7 +6,7 @@ use Rattle.sc_node_table.specs.Values.{Draw, Input, Got, Row, Base, OrderLine, M
 use Rattle.sc_actor.specs.declared.rows.Input.TheVariants.{Tick, Go, Told}
 use Rattle.sc_actor.specs.Definitions.{acted, input_of, replay}
 use Rattle.sc_node_table.specs.Definitions.{NodeState, born_replicas, replica_of, with_replica, is_before, with_new, group_of_mail, with_made, unknown, may_come, with_born, with_children, taken_by, routed, on_mail, group_of_order, ordered_of, ticked, ordered_row, names_after_tick, ReplicaState, Place, Executed, name_of, last_slot, born_replica, made_by, tick_row, mailed, slots_ahead}
-use Rattle.sc_sound.specs.Definitions.{Player, player_table}
+use Rattle.sc_meaning.specs.sound.Definitions.{Player, player_table}
 use Rattle.sc_law_walks.proofs.Lemmas.{either_way}
 use Rattle.sc_live_journals.specs.groups.Definitions.{IsSlotKept, NodesKeepSlots, NodesAreBornSlotted}
 use Rattle.sc_live_journals.proofs.GroupsProofs.SlotParts.{K}

@@ -5,14 +5,14 @@ use Rattle.sc_node_table.specs.Values.{Command, Base, Route, OrderLine, Mail, Ma
 use Rattle.sc_actor.specs.declared.rows.Event.TheVariants.{Told}
 use Rattle.sc_actor.specs.Definitions.{IsStep}
 use Rattle.sc_actor.proofs.Lemmas.{lawful-induction}
-use Rattle.sc_machine_table.specs.Definitions.{group_of, state_after}
-use Rattle.sc_log_entries.proofs.Lemmas.{births_are_children}
+use Rattle.sc_group_table.specs.machine.Definitions.{group_of, state_after}
+use Rattle.sc_meaning.proofs.EntriesProofs.Lemmas.{births_are_children}
 use Rattle.sc_node_table.specs.Definitions.{names_after_tick, waited_in, ReplicaState}
-use Rattle.sc_paxos_words.proofs.Lemmas.{Each-among, Each-append, Each-from_All}
+use Rattle.sc_words.proofs.PaxosProofs.Lemmas.{Each-among, Each-append, Each-from_All}
 use Rattle.sc_paxos_law.proofs.Lemmas.{Among-right}
-use Rattle.sc_scenario.specs.Definitions.{IsBounded, IsBoundedLine, IsUpTo}
-use Rattle.sc_scenario.specs.declared.scenarios.Scenario.{Scenario}
-use Rattle.sc_sound.specs.Definitions.{groups_at, birth_at, decided_log, decided_state, Ahead, Lawful, schedule, system_of}
+use Rattle.sc_scenario.specs.scenario.Definitions.{IsBounded, IsBoundedLine, IsUpTo}
+use Rattle.sc_scenario.specs.declared.scenario.scenarios.Scenario.{Scenario}
+use Rattle.sc_meaning.specs.sound.Definitions.{groups_at, birth_at, decided_log, decided_state, Ahead, Lawful, schedule, system_of}
 use Rattle.sc_law_entries.specs.ring.Definitions.{Sources}
 use Rattle.sc_law_entries.proofs.RingProofs.Lemmas.{some_none}
 use Rattle.sc_law_entries.specs.logs.Definitions.{Rows, added_by, AreFound, IsNewborn, DecidesInTurn}

@@ -5,13 +5,13 @@ use Rattle.sc_node_table.specs.Values.{Ballot, Draw, Command, Base, Route, Order
 use Rattle.sc_base.proofs.Lemmas.{draw_is}
 use Rattle.sc_actor.specs.Definitions.{mails, value}
 use Rattle.sc_actor.proofs.Lemmas.{mails-append, lawful-prefix}
-use Rattle.sc_paxos_words.specs.Definitions.{kept_voters}
-use Rattle.sc_paxos_words.proofs.Lemmas.{Each-among, Each-weaker, find_found}
+use Rattle.sc_words.specs.paxos.Definitions.{kept_voters}
+use Rattle.sc_words.proofs.PaxosProofs.Lemmas.{Each-among, Each-weaker, find_found}
 use Rattle.sc_paxos_law.proofs.Lemmas.{Among-left, Among-right, Among-either, from_map, later_logs}
 use Rattle.sc_paxos_law.specs.Definitions.{members_of, IsLog}
-use Rattle.sc_scenario.specs.declared.scenarios.Scenario.{Scenario}
+use Rattle.sc_scenario.specs.declared.scenario.scenarios.Scenario.{Scenario}
 use Rattle.sc_node_table.specs.Definitions.{NodeState, ReplicaState, name_of, next, numbers_from, slots_ahead}
-use Rattle.sc_sound.specs.Definitions.{groups_at, decided_log, Ahead, Player, Lawful, births, node_seat, client_seat, player_table, system_of, schedule, accepts_at}
+use Rattle.sc_meaning.specs.sound.Definitions.{groups_at, decided_log, Ahead, Player, Lawful, births, node_seat, client_seat, player_table, system_of, schedule, accepts_at}
 use Rattle.sc_law_entries.specs.ring.Definitions.{Sources}
 use Rattle.sc_law_entries.specs.logs.Definitions.{Rows, AreFound, StayRecorded, DecideInTurn}
 use Rattle.sc_law_entries.proofs.LogsProofs.Lemmas.{groups_are_found, deciding_rows_stay}

@@ -3,14 +3,14 @@ use Rattle.std.proofs.Common.{◌≡◌, ℕ, ◌+◌, ◌<◌, ◌≤◌, true,
 use Rattle.sc_node_table.specs.Values.{Ballot, Command, Base, Route, Mail, MailBody, Accepted as AcceptedMail, Learn, Install, Seat}
 use Rattle.sc_base.specs.Definitions.{Each, IsRoster}
 use Rattle.sc_base.proofs.Lemmas.{same_name}
-use Rattle.sc_machine_table.specs.Definitions.{Group}
+use Rattle.sc_group_table.specs.machine.Definitions.{Group}
 use Rattle.sc_actor.specs.Definitions.{mails, numbered}
 use Rattle.sc_paxos_law.specs.Definitions.{needed, IsLog, IsLawfulHistory}
 use Rattle.sc_paxos_law.proofs.Lemmas.{earlier}
-use Rattle.sc_scenario.specs.Definitions.{ValidScenariosAreBounded, IsUpTo}
-use Rattle.sc_scenario.specs.declared.scenarios.Scenario.{Scenario}
+use Rattle.sc_scenario.specs.scenario.Definitions.{ValidScenariosAreBounded, IsUpTo}
+use Rattle.sc_scenario.specs.declared.scenario.scenarios.Scenario.{Scenario}
 use Rattle.sc_node_table.specs.Definitions.{entered, NodeState, ReplicaState, next, slots_ahead, with_slot}
-use Rattle.sc_sound.specs.Definitions.{decided_log, Ahead, Player, route_of}
+use Rattle.sc_meaning.specs.sound.Definitions.{decided_log, Ahead, Player, route_of}
 use Rattle.sc_law_entries.proofs.HistoryProofs.Lemmas.{state_same}
 use Rattle.sc_law_entries.specs.logs.Definitions.{Rows}
 use Rattle.sc_law_entries.specs.ring.Definitions.{Sources}
@@ -26,7 +26,7 @@ use Rattle.sc_live_journals.proofs.LogsProofs.CountedMajorities.{counted_learnt,
 use Rattle.sc_live_journals.proofs.LogsProofs.Journals.{part, roster, prefixes, sent_in, along, opens, many, flying}
 use Rattle.sc_live_journals.proofs.LogsProofs.Nodes.{slots_have_nodes}
 use Rattle.sc_live_journals.proofs.LogsProofs.Nodes as so
-use Rattle.sc_paxos_words.proofs.Lemmas.{Each-weaker}
+use Rattle.sc_words.proofs.PaxosProofs.Lemmas.{Each-weaker}
 use Rattle.sc_live_journals.proofs.LogsProofs.NodeNumbers.{up_to_node, has}
 
 -- what the laws under this one say of valid scenarios

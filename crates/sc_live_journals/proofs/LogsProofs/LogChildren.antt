@@ -2,10 +2,10 @@
 use Rattle.std.proofs.Common.{[], ◌≡◌, List, ◌∷◌, ◌++◌, Some, inl, refl, sym, subst, option_to_list}
 use Rattle.sc_base.specs.Definitions.{Among}
 use Rattle.sc_node_table.specs.Values.{Command, Base}
-use Rattle.sc_machine_table.specs.Definitions.{Group, state_after, applied}
-use Rattle.sc_log_entries.specs.Definitions.{birth_of}
+use Rattle.sc_group_table.specs.machine.Definitions.{Group, state_after, applied}
+use Rattle.sc_meaning.specs.entries.Definitions.{birth_of}
 use Rattle.sc_paxos_law.proofs.Lemmas.{Among-left, Among-right}
-use Rattle.sc_sound.specs.Definitions.{children_of}
+use Rattle.sc_meaning.specs.sound.Definitions.{children_of}
 use Rattle.sc_live_journals.proofs.LogsProofs.Journals.{prefix}
 
 pub child_in : (group : Group) (prefix : List Command) (c : Command) (child : Base) → birth_of (state_after group prefix) c (applied (state_after group prefix) c).1 ≡ Some child → Among child (children_of group (prefix ++ c ∷ []))

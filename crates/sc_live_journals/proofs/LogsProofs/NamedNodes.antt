@@ -5,15 +5,15 @@ use Rattle.std.specs.Option.{option_map}
 use Rattle.std.proofs.lemmas.Bool.{cond_both}
 use Rattle.sc_base.specs.Definitions.{Each, same_draw}
 use Rattle.sc_node_table.specs.Values.{Draw, Body, Offer, Watch, Command, Split, Begin, Prepared, RecordVote, GiveUp, Watched, RecordWatch, Base, Core, Lock, Free, Coordinating, Promised, Watching, Effect, Link, Heard, Outcome, Abort, Past, Vote, Mail, MailBody, TxPrepare, TxVote, TxOutcome, TxElsewhere, TxWatch, TxWatched}
-use Rattle.sc_cmd.specs.declared.bodies.Body.TheVariants as At
-use Rattle.sc_cmd.specs.declared.votes.Past.TheVariants as Cast
-use Rattle.sc_cmd.specs.declared.votes.Vote.TheVariants as Says
-use Rattle.sc_cmd.specs.Definitions.{is_changed, decided_in, cast_in}
-use Rattle.sc_machine_table.specs.Definitions.{Group, group_of, state_after, applied, frozen_of}
+use Rattle.sc_words.specs.declared.commands.bodies.Body.TheVariants as At
+use Rattle.sc_words.specs.declared.commands.votes.Past.TheVariants as Cast
+use Rattle.sc_words.specs.declared.commands.votes.Vote.TheVariants as Says
+use Rattle.sc_words.specs.commands.Definitions.{is_changed, decided_in, cast_in}
+use Rattle.sc_group_table.specs.machine.Definitions.{Group, group_of, state_after, applied, frozen_of}
 use Rattle.sc_node_table.specs.declared.Before.{Before}
 use Rattle.sc_node_table.specs.Definitions.{sent_all, question, asked_first, asked_link, asked_node, reminders, before_of, asked_on, vote_sent, watch_sent, aborted_to, aborted_watcher, given_up_by, vote_answered, released_to, watch_answered_by, went_on, noted_outcome, voted_to, watched_to, next_asked, asked_next}
-use Rattle.sc_paxos_words.proofs.Lemmas.{Each-among, Each-append, find_found}
-use Rattle.sc_sound.specs.Definitions.{Ahead}
+use Rattle.sc_words.proofs.PaxosProofs.Lemmas.{Each-among, Each-append, find_found}
+use Rattle.sc_meaning.specs.sound.Definitions.{Ahead}
 use Rattle.sc_law_groups.proofs.GroupProofs.Lemmas.{Steps, birth, IsSaid, AreSaid, Meets, Speaks}
 use Rattle.sc_live_journals.proofs.LogsProofs.Nodes.{AreNodes, MovesNode, BringsNodes, HasNodes, SaysNodes, IfMoves, nodes_stay_nodes, voted_moves, watched_moves, log_nodes}
 

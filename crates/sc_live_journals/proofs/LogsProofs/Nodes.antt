@@ -3,17 +3,17 @@ use Rattle.std.proofs.Common.{◌≡◌, ℕ, ◌-◌, ◌&&◌, not, nat_lt, na
 use Rattle.std.proofs.lemmas.Bool.{cond_both, and_parts}
 use Rattle.sc_base.specs.Definitions.{Each, same_draw, holds, is_member, with_member, with_any, united}
 use Rattle.sc_node_table.specs.Values.{Draw, Noted, Op, Body, Offer, Command, Noop, Call, Join, Leave, Split, Begin, Prepared, RecordVote, GiveUp, Finish, Watched, RecordWatch, Lock, Free, Coordinating, Promised, Watching, Effect, Route, OrderRefusal, Frozen, Gift, Heard, No, Outcome, Abort, Merged, Moved, Migrated, Divided, Past, Vote, Core, MailBody, TxVote, TxOutcome, Base}
-use Rattle.sc_ideal.specs.Definitions.{key_of, holds_key}
+use Rattle.sc_words.specs.ideal.Definitions.{key_of, holds_key}
 use Rattle.std.specs.FinMap.{get}
-use Rattle.sc_cmd.specs.declared.bodies.Body.TheVariants as At
-use Rattle.sc_cmd.specs.declared.effects.Effect.TheVariants as Was
-use Rattle.sc_cmd.specs.declared.votes.Past.TheVariants as Cast
-use Rattle.sc_cmd.specs.declared.votes.Vote.TheVariants as Says
-use Rattle.sc_cmd.specs.Definitions.{is_alone, decided_in}
-use Rattle.sc_machine_table.specs.Definitions.{state_after, Group, group_of, served_by_note, served, called, ordered_by, split_group, applied, refusal_of, with_node, without_node, has_named, left_group, staying, Plan, can_cut, has_key_of, taken, taking_group, can_split, split_plan, may_merge, merge_plan, closing_plan, can_repart, giving_plan, taking_plan, repart_plan, can_migrate, migrate_plan, begun_group, decided, committed, granted, participant_answered, asks_watcher, vote_recorded, released, watch_answered, watch_recorded, is_coordinating, has_voted, bound_by, voted_on, can_gain, gained_group, lost_group, welcomed_group, moved, participant_after, settled_in, finished}
-use Rattle.sc_paxos_words.proofs.Lemmas.{Each-among, Each-append, Each-filter}
+use Rattle.sc_words.specs.declared.commands.bodies.Body.TheVariants as At
+use Rattle.sc_words.specs.declared.commands.effects.Effect.TheVariants as Was
+use Rattle.sc_words.specs.declared.commands.votes.Past.TheVariants as Cast
+use Rattle.sc_words.specs.declared.commands.votes.Vote.TheVariants as Says
+use Rattle.sc_words.specs.commands.Definitions.{is_alone, decided_in}
+use Rattle.sc_group_table.specs.machine.Definitions.{state_after, Group, group_of, served_by_note, served, called, ordered_by, split_group, applied, refusal_of, with_node, without_node, has_named, left_group, staying, Plan, can_cut, has_key_of, taken, taking_group, can_split, split_plan, may_merge, merge_plan, closing_plan, can_repart, giving_plan, taking_plan, repart_plan, can_migrate, migrate_plan, begun_group, decided, committed, granted, participant_answered, asks_watcher, vote_recorded, released, watch_answered, watch_recorded, is_coordinating, has_voted, bound_by, voted_on, can_gain, gained_group, lost_group, welcomed_group, moved, participant_after, settled_in, finished}
+use Rattle.sc_words.proofs.PaxosProofs.Lemmas.{Each-among, Each-append, Each-filter}
 use Rattle.sc_paxos_law.proofs.Lemmas.{member-among}
-use Rattle.sc_sound.specs.Definitions.{decided_log, Ahead}
+use Rattle.sc_meaning.specs.sound.Definitions.{decided_log, Ahead}
 use Rattle.sc_law_groups.proofs.GroupProofs.Lemmas.{ordered_if}
 use Rattle.sc_law_entries.specs.logs.Definitions.{Rows}
 use Rattle.sc_live_journals.specs.logs.Definitions.{logged_sets}

@@ -4,14 +4,14 @@ use Rattle.std.proofs.lemmas.Bool.{and_parts, cond_both}
 use Rattle.std.proofs.lemmas.List.{length_push, take-take}
 use Rattle.sc_base.specs.Definitions.{Among, Each, IsRoster}
 use Rattle.sc_node_table.specs.Values.{Command, Base, Mail}
-use Rattle.sc_machine_table.specs.Definitions.{Group, group_of, applied, state_after}
-use Rattle.sc_machine_table.proofs.Lemmas.{state_push}
-use Rattle.sc_paxos_words.specs.Definitions.{without_flight_at}
-use Rattle.sc_paxos_words.proofs.Lemmas.{Each-among}
+use Rattle.sc_group_table.specs.machine.Definitions.{Group, group_of, applied, state_after}
+use Rattle.sc_group_table.proofs.MachineProofs.Lemmas.{state_push}
+use Rattle.sc_words.specs.paxos.Definitions.{without_flight_at}
+use Rattle.sc_words.proofs.PaxosProofs.Lemmas.{Each-among}
 use Rattle.sc_paxos_law.specs.Definitions.{needed, members_of, IsLog, IsLawfulHistory}
 use Rattle.sc_paxos_law.proofs.Lemmas.{earlier, longer_log}
 use Rattle.sc_node_table.specs.Definitions.{ended, entered, learnt_to, welcomed, landed, left, looked, executed_one, has_room, next_ready, ReplicaState, Place, name_of, next, members, forgotten, slots_ahead, at_slot, without_slot, before_of, spoken}
-use Rattle.sc_sound.specs.Definitions.{Ahead}
+use Rattle.sc_meaning.specs.sound.Definitions.{Ahead}
 use Rattle.sc_law_entries.proofs.HistoryProofs.Lemmas.{state_same}
 use Rattle.sc_law_walks.specs.Definitions.{IfThere}
 use Rattle.sc_law_walks.proofs.Lemmas.{entered_next}

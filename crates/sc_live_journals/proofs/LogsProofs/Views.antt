@@ -4,9 +4,9 @@ use Rattle.std.proofs.lemmas.Bool.{eqb-true}
 use Rattle.std.specs.List.{find}
 use Rattle.sc_node_table.specs.Values.{Draw, Node, Client, Seat}
 use Rattle.sc_actor.specs.Definitions.{value}
-use Rattle.sc_paxos_words.proofs.Lemmas.{find_found}
+use Rattle.sc_words.proofs.PaxosProofs.Lemmas.{find_found}
 use Rattle.sc_node_table.specs.Definitions.{NodeState, replica_of, ReplicaState}
-use Rattle.sc_sound.specs.Definitions.{Player, births, player_table}
+use Rattle.sc_meaning.specs.sound.Definitions.{Player, births, player_table}
 use Rattle.sc_live_journals.specs.rows.Definitions.{replicas_of, replica_in}
 use Rattle.sc_live_journals.specs.logs.Definitions.{HasReplica, ViewsAreReplicas}
 

@@ -3,8 +3,8 @@ use Rattle.std.proofs.Common.{◌≡◌, ℕ, ◌+◌, ◌≤◌, nat_le, nat_lt
 use Rattle.std.proofs.lemmas.List.{length_push}
 use Rattle.sc_base.specs.Definitions.{Each, same_ballot, is_member}
 use Rattle.sc_node_table.specs.Values.{Ballot, Command, Base, Flight, Report}
-use Rattle.sc_paxos_words.specs.Definitions.{reports_from, LeaderState, promise_counted, LogState, installed, log_cut, next_of}
-use Rattle.sc_paxos_words.proofs.Lemmas.{Each-append, Each-filter, Each-weaker}
+use Rattle.sc_words.specs.paxos.Definitions.{reports_from, LeaderState, promise_counted, LogState, installed, log_cut, next_of}
+use Rattle.sc_words.proofs.PaxosProofs.Lemmas.{Each-append, Each-filter, Each-weaker}
 use Rattle.sc_node_table.specs.Definitions.{floor_of, at_slot}
 use Rattle.sc_law_walks.proofs.Lemmas.{entry_is, floor_under, cut_next, either_way}
 use Rattle.sc_live_journals.proofs.RowsProofs.Lemmas.{floor_most}

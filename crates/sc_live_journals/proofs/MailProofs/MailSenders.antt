@@ -5,12 +5,12 @@ use Rattle.sc_base.specs.Definitions.{Each, most_nodes}
 use Rattle.sc_node_table.specs.Values.{Base, Mail, MailBody, Request, Node, Client, Seat, Row}
 use Rattle.sc_actor.specs.Definitions.{mails, row_of, value}
 use Rattle.sc_live_orderly.proofs.Lemmas.{last_in_time, in_time_before}
-use Rattle.sc_paxos_words.proofs.Lemmas.{Each-among, Each-append, Each-weaker, find_found, find_nothing}
-use Rattle.sc_scenario.specs.declared.scenarios.Asks.{Asks as Requests}
-use Rattle.sc_scenario.specs.declared.scenarios.Scenario.{Scenario}
+use Rattle.sc_words.proofs.PaxosProofs.Lemmas.{Each-among, Each-append, Each-weaker, find_found, find_nothing}
+use Rattle.sc_scenario.specs.declared.scenario.scenarios.Asks.{Asks as Requests}
+use Rattle.sc_scenario.specs.declared.scenario.scenarios.Scenario.{Scenario}
 use Rattle.sc_node_table.specs.Definitions.{may_come, is_node, numbers_from}
-use Rattle.sc_client_table.specs.Definitions.{Client as ClientState}
-use Rattle.sc_sound.specs.Definitions.{Player, player_table, node_seat, client_seat, client_seats, route_of, births, as_nodes}
+use Rattle.sc_client_table.specs.table.Definitions.{Client as ClientState}
+use Rattle.sc_meaning.specs.sound.Definitions.{Player, player_table, node_seat, client_seat, client_seats, route_of, births, as_nodes}
 use Rattle.sc_live_steps.specs.calm.Definitions.{players, Rows}
 use Rattle.sc_live_orderly.specs.Definitions.{AreInTime}
 use Rattle.sc_live_journals.specs.rows.Definitions.{IsSeat}

@@ -2,8 +2,8 @@
 use Rattle.std.proofs.Common.{◌≡◌, ℕ, ◌+◌, ◌-◌, ◌<◌, ◌≤◌, true, List, [], ◌∷◌, Option, Some}
 use Rattle.sc_base.specs.Definitions.{Each, client_actor}
 use Rattle.sc_node_table.specs.Values.{Ballot, Draw, Offer, Watch, Command, Base, OrderResult, Outcome, Past, Vote, AnswerBody, MailBody, Answer, Prepare, Promise, Accept, Accepted, Nack, Learn, Ask, Install, TxPrepare, TxVote, TxOutcome, TxElsewhere, TxWatch, TxWatched, Told, Report}
-use Rattle.sc_machine_table.specs.Definitions.{Group, group_of, base_of, applied}
-use Rattle.sc_paxos_words.specs.Definitions.{AcceptorState, born_acceptor, reports_from, after_promise, after_accept, after_cut, below, LeaderState, first_leader, new_leader, promise_counted, with_flight_at, without_flight_at, LogState, empty_log, installed, entry_at, log_cut, next_of, counted}
+use Rattle.sc_group_table.specs.machine.Definitions.{Group, group_of, base_of, applied}
+use Rattle.sc_words.specs.paxos.Definitions.{AcceptorState, born_acceptor, reports_from, after_promise, after_accept, after_cut, below, LeaderState, first_leader, new_leader, promise_counted, with_flight_at, without_flight_at, LogState, empty_log, installed, entry_at, log_cut, next_of, counted}
 use Rattle.sc_node_table.specs.Definitions.{with_entry, named, ReplicaState, first_ballot, floor_of, slots_ahead, at_slot, with_slot, without_slot}
 use Rattle.sc_law_walks.proofs.Lemmas.{IsReported as Reported}
 

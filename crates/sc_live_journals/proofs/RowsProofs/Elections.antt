@@ -4,9 +4,9 @@ use Rattle.std.specs.Option.{option_map}
 use Rattle.sc_node_table.specs.Values.{Draw, Command, Learn, Deliver, Flight}
 use Rattle.sc_base.specs.Definitions.{IsRoster, is_member, least_of}
 use Rattle.sc_law_entries.proofs.HistoryProofs.Lemmas.{applied_same}
-use Rattle.sc_paxos_words.specs.Definitions.{LeaderState, flight_at}
+use Rattle.sc_words.specs.paxos.Definitions.{LeaderState, flight_at}
 use Rattle.sc_node_table.specs.Definitions.{entered, group_of_mail, ReplicaState, Place, name_of, next, members, either, forgotten, mailed, at_slot}
-use Rattle.sc_machine_table.specs.Definitions.{Group}
+use Rattle.sc_group_table.specs.machine.Definitions.{Group}
 use Rattle.sc_live_steps.specs.following.Definitions.{IsLed, Tells, mark_of, Course, Progress, Sets, members_at, IsLeadOf, AreAt, ElectsBy, next_ballot}
 use Rattle.sc_live_steps.proofs.FollowingProofs.Lemmas.{tables_elect, least_in, same_mark}
 use Rattle.sc_live_journals.specs.rows.Definitions.{IsPast, IsNextLead, ElectionsKeepFollowing, next_in, promise_in, progress_at, elected_course, with_event}

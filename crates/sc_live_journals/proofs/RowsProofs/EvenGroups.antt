@@ -6,7 +6,7 @@ use Rattle.sc_base.specs.Definitions.{IsRoster}
 use Rattle.sc_actor.specs.Definitions.{is_quiet}
 use Rattle.sc_live_orderly.specs.Definitions.{is_born, AreInTime}
 use Rattle.sc_live_orderly.proofs.Lemmas.{in_time_tidy, quiet-empty}
-use Rattle.sc_sound.specs.Definitions.{Player}
+use Rattle.sc_meaning.specs.sound.Definitions.{Player}
 use Rattle.sc_live_steps.specs.calm.Definitions.{players, Rows}
 use Rattle.sc_live_steps.specs.following.Definitions.{marks_of, Course, Sets, IsEven, IsEvenLed}
 use Rattle.sc_live_steps.proofs.FollowingProofs.Lemmas.{quiet-even}

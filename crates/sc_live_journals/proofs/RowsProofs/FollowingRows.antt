@@ -6,7 +6,7 @@ use Rattle.sc_base.specs.Definitions.{IsRoster}
 use Rattle.sc_actor.specs.Definitions.{mails, row_of}
 use Rattle.sc_live_orderly.specs.Definitions.{AreInTime}
 use Rattle.sc_node_table.specs.Definitions.{ReplicaState, Place, next}
-use Rattle.sc_sound.specs.Definitions.{Player, player_table}
+use Rattle.sc_meaning.specs.sound.Definitions.{Player, player_table}
 use Rattle.sc_live_steps.specs.calm.Definitions.{players, Rows}
 use Rattle.sc_live_steps.specs.following.Definitions.{Course, Progress, Sets, IsLeadOf, IsRow, IsIdle, Takes, Elects, marks_for}
 use Rattle.sc_live_steps.proofs.FollowingProofs.Lemmas.{self_election-keeps, idle-keeps, takes-keeps, leads-keeps}

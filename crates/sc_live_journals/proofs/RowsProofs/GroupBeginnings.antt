@@ -7,14 +7,14 @@ use Rattle.std.proofs.lemmas.Bool.{cases_Bool, cases_eq, cond_both, cond-true, c
 use Rattle.sc_base.specs.Definitions.{Among, same_draw, IsRoster, is_member}
 use Rattle.sc_node_table.specs.Values.{Draw, Base, Command, Flight}
 use Rattle.sc_base.proofs.Lemmas.{draw_is, same_name}
-use Rattle.sc_paxos_words.specs.Definitions.{flight_at, kept_voters}
-use Rattle.sc_paxos_words.proofs.Lemmas.{Each-among, Each-from_All}
+use Rattle.sc_words.specs.paxos.Definitions.{flight_at, kept_voters}
+use Rattle.sc_words.proofs.PaxosProofs.Lemmas.{Each-among, Each-from_All}
 use Rattle.sc_node_table.specs.Definitions.{born_replicas, replica_of, ReplicaState, next, first_ballot, born_replica, slots_ahead, numbers_from, at_slot}
-use Rattle.sc_scenario.specs.Definitions.{base_at, bases_up_to, group_at, IsBounded, IsBoundedGroup, IsUpTo}
-use Rattle.sc_scenario.specs.declared.drafts.GroupLine.{GroupLine}
-use Rattle.sc_scenario.specs.declared.scenarios.Asks.{Asks}
-use Rattle.sc_scenario.specs.declared.scenarios.Scenario.{Scenario}
-use Rattle.sc_sound.specs.Definitions.{node_seat, client_seat, client_seats, route_of, births, as_nodes}
+use Rattle.sc_scenario.specs.scenario.Definitions.{base_at, bases_up_to, group_at, IsBounded, IsBoundedGroup, IsUpTo}
+use Rattle.sc_scenario.specs.declared.scenario.drafts.GroupLine.{GroupLine}
+use Rattle.sc_scenario.specs.declared.scenario.scenarios.Asks.{Asks}
+use Rattle.sc_scenario.specs.declared.scenario.scenarios.Scenario.{Scenario}
+use Rattle.sc_meaning.specs.sound.Definitions.{node_seat, client_seat, client_seats, route_of, births, as_nodes}
 use Rattle.sc_live_steps.specs.calm.Definitions.{players}
 use Rattle.sc_live_steps.specs.following.Definitions.{IsLed, Mark, Sets, Course, Progress, IsFollowing, begun, voters_of, IsLeadOf, AreAt}
 use Rattle.sc_live_steps.proofs.FollowingProofs.Lemmas.{begins, idle-keeps, least_in, among-either}

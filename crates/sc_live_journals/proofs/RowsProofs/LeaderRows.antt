@@ -5,7 +5,7 @@ use Rattle.sc_base.specs.Definitions.{Among}
 use Rattle.sc_node_table.specs.Values.{Base, OrderLine, Seat, Event}
 use Rattle.sc_actor.specs.Definitions.{mails, row_of}
 use Rattle.sc_node_table.specs.Definitions.{ReplicaState, Place, name_of, next}
-use Rattle.sc_sound.specs.Definitions.{Player, player_table}
+use Rattle.sc_meaning.specs.sound.Definitions.{Player, player_table}
 use Rattle.sc_live_steps.specs.calm.Definitions.{Rows}
 use Rattle.sc_live_steps.specs.following.Definitions.{IsLed, Mark, Asks, Course, Progress, Sets, IsLeadOf, progress_by, LeadsInto, IsOffered, Leads, marks_for}
 use Rattle.sc_live_journals.specs.rows.Definitions.{next_in, promise_in, progress_at, taken_mark, led_course, LedBy, StepsLead, with_event, IsReplicasRow}

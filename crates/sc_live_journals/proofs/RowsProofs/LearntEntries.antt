@@ -6,9 +6,9 @@ use Rattle.std.proofs.lemmas.Bool.{cond-true, cond-false, eq-eqb, le-ltb}
 use Rattle.sc_node_table.specs.Values.{Command, Noop, Effect, Route, OrderResult, AnswerBody, Ask, Learn, Must, Gap}
 use Rattle.sc_mail.specs.declared.bodies.AnswerBody.TheVariants as Says
 use Rattle.sc_base.specs.Definitions.{is_member, least_of}
-use Rattle.sc_machine_table.specs.Definitions.{applied}
-use Rattle.sc_paxos_words.specs.declared.answers.Must.TheVariants.{Value, Free as Open}
-use Rattle.sc_paxos_words.specs.Definitions.{must}
+use Rattle.sc_group_table.specs.machine.Definitions.{applied}
+use Rattle.sc_words.specs.declared.paxos.answers.Must.TheVariants.{Value, Free as Open}
+use Rattle.sc_words.specs.paxos.Definitions.{must}
 use Rattle.sc_node_table.specs.declared.Before.{Before}
 use Rattle.sc_node_table.specs.Definitions.{elected, ended, stopped, entered, order_result, effect_reported, announced, learnt_to, welcomed, landed, left_gone, left, is_among, looked_for, looked, executed_one, has_room, next_ready, executed, sent, Found, is_act, from_backlog, from_acts, from_queues, found_by, found_for, offered, pumped_from, pumped, put_back, ReplicaState, Place, Executed, childless, name_of, next, members, settled, may_offer, taken_at, under_way, is_idle, last_slot, forgotten, learn_row, mailed, at_slot, without_slot, before_of, spoken}
 use Rattle.sc_law_walks.proofs.Lemmas.{executed_place, landed_place, either_way}

@@ -6,11 +6,11 @@ use Rattle.sc_node_table.specs.Values.{Ballot, Draw, Command, Base, OrderLine, M
 use Rattle.sc_actor.specs.declared.rows.Event.TheVariants.{Told}
 use Rattle.sc_actor.specs.Definitions.{mails, row_of}
 use Rattle.sc_live_orderly.specs.Definitions.{AreInTime}
-use Rattle.sc_paxos_words.specs.Definitions.{below}
+use Rattle.sc_words.specs.paxos.Definitions.{below}
 use Rattle.sc_node_table.specs.declared.ReplicaInput.TheVariants as Given
 use Rattle.sc_node_table.specs.Definitions.{entered, NodeState, replica_of, group_of_mail, group_of_order, ordered_row, ReplicaState, Place, listed, name_of, next, first_ballot, last_slot, mailed, made_by, stepped}
 use Rattle.sc_law_walks.specs.Definitions.{GoesOn}
-use Rattle.sc_sound.specs.Definitions.{Player, player_table}
+use Rattle.sc_meaning.specs.sound.Definitions.{Player, player_table}
 use Rattle.sc_live_steps.specs.calm.Definitions.{players, Rows}
 use Rattle.sc_live_steps.specs.following.Definitions.{Mark, Asks, Votes, Tells, Installs, Prepares, Promises, mark_of, next_by, promise_by, reached, IsFit, AreFit, Course, Progress, Sets, IsKnown, IsLeadOf, LeadsInto, StopsAlone, IsAside, DecidesNext, IsRow, IsCount, marks_for, StepsBy, Stays}
 use Rattle.sc_live_steps.proofs.FollowingProofs.Lemmas.{rows_lead, tables, reached-least, same_mark, states}

@@ -8,7 +8,7 @@ use Rattle.sc_base.proofs.Lemmas.{draw_is, same_name}
 use Rattle.sc_actor.specs.Definitions.{mails, value, acted, input_of, row_of}
 use Rattle.sc_actor.proofs.Lemmas.{find-who, value-snoc}
 use Rattle.sc_node_table.specs.Definitions.{NodeState, replica_of, is_before, with_new, with_born, with_children, ReplicaState, name_of, born_replica, slots_ahead}
-use Rattle.sc_sound.specs.Definitions.{Player, player_table}
+use Rattle.sc_meaning.specs.sound.Definitions.{Player, player_table}
 use Rattle.sc_live_steps.specs.calm.Definitions.{Rows}
 use Rattle.sc_live_steps.proofs.CalmProofs.Lemmas.{apart}
 use Rattle.sc_law_walks.proofs.Lemmas.{either_way}

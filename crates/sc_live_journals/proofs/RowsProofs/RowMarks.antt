@@ -7,7 +7,7 @@ use Rattle.sc_actor.specs.Definitions.{mails, is_delivery, System, row_of}
 use Rattle.sc_live_orderly.specs.Definitions.{IsTidy, IsCalmRow, IsCalmEvent, rest, mail_for, taken}
 use Rattle.sc_live_orderly.proofs.Lemmas.{in_time_before, in_time_tidy, last_in_time, takes_first, is_born-from, rest-calm}
 use Rattle.sc_node_table.specs.Definitions.{listed}
-use Rattle.sc_sound.specs.Definitions.{Player, player_table}
+use Rattle.sc_meaning.specs.sound.Definitions.{Player, player_table}
 use Rattle.sc_live_steps.specs.calm.Definitions.{players, Rows}
 use Rattle.sc_live_steps.specs.following.Definitions.{mark_of, marks_of, Course, IsRow, marks_for}
 use Rattle.sc_live_journals.specs.rows.Definitions.{next_in, promise_in, progress_at, marks_at, mark_in, taken_mark, IsSeat, RowsAreOfGroups}

@@ -6,8 +6,8 @@ use Rattle.sc_base.specs.Definitions.{Each}
 use Rattle.sc_node_table.specs.Values.{Draw, Op, OrderLine, AnswerBody, Mail, MailBody, Request, Answer, Prepare, Accept, Learn, TxPrepare, TxWatch, Input, Got}
 use Rattle.sc_mail.specs.declared.bodies.AnswerBody.TheVariants as Says
 use Rattle.sc_actor.specs.declared.rows.Input.TheVariants.{Tick, Go, Told}
-use Rattle.sc_client_table.specs.Definitions.{Client, waiting_request, ClientStep, asked_of, sent_to, sent_where, chosen_for, request_sent, started, client_ticked, waits_for, was_asked, redirected, answer_taken, got, table}
-use Rattle.sc_lookup.specs.Definitions.{target_in, preferring, passed_on, learnt_from_not_mine, learnt_from_gone}
+use Rattle.sc_client_table.specs.table.Definitions.{Client, waiting_request, ClientStep, asked_of, sent_to, sent_where, chosen_for, request_sent, started, client_ticked, waits_for, was_asked, redirected, answer_taken, got, table}
+use Rattle.sc_client_table.specs.lookup.Definitions.{target_in, preferring, passed_on, learnt_from_not_mine, learnt_from_gone}
 use Rattle.sc_node_table.specs.Definitions.{absent, ordered_row, name_of, mailed}
 use Rattle.sc_law_walks.proofs.Lemmas.{either_way}
 use Rattle.sc_live_steps.specs.following.Definitions.{Mark, mark_of, marks_of, marks_for}

@@ -3,13 +3,13 @@ use Rattle.std.proofs.Common.{◌≡◌, ℕ, ◌+◌, ◌<◌, ◌&&◌, nat_le
 use Rattle.std.proofs.lemmas.Bool.{eqb-true, eq-eqb}
 use Rattle.sc_node_table.specs.Values.{Ballot, Draw, Command, Base, OrderLine, Prepare, Accept, Seat, Event, AcceptAnswer, PrepareAnswer, Report}
 use Rattle.sc_base.specs.Definitions.{IsRoster, is_member}
-use Rattle.sc_paxos_words.specs.declared.answers.AcceptAnswer.TheVariants as Asked
-use Rattle.sc_paxos_words.specs.declared.answers.PrepareAnswer.TheVariants as Prepared
-use Rattle.sc_paxos_words.specs.Definitions.{accepted as accepted_by, AcceptorState, below, prepared}
+use Rattle.sc_words.specs.declared.paxos.answers.AcceptAnswer.TheVariants as Asked
+use Rattle.sc_words.specs.declared.paxos.answers.PrepareAnswer.TheVariants as Prepared
+use Rattle.sc_words.specs.paxos.Definitions.{accepted as accepted_by, AcceptorState, below, prepared}
 use Rattle.sc_node_table.specs.Definitions.{saw, stopped, install_to, ReplicaState, Place, name_of, next, first_ballot, born_replica, mailed, slots_ahead, hinted, promise_to, promised, prepare_row, accepted_to, took, accept_row}
 use Rattle.sc_law_walks.specs.Definitions.{GoesOn}
 use Rattle.sc_law_walks.proofs.Lemmas.{either_way}
-use Rattle.sc_sound.specs.Definitions.{Player}
+use Rattle.sc_meaning.specs.sound.Definitions.{Player}
 use Rattle.sc_live_steps.specs.calm.Definitions.{Rows}
 use Rattle.sc_live_steps.specs.following.Definitions.{IsLed, Course, Progress, Sets, IsLeadOf}
 use Rattle.sc_live_journals.specs.rows.Definitions.{view_at, next_in, promise_in, progress_at, begun_course, IsLedBy, IsFollowedAt, LeavesLead, LeadsStay, with_event, IsReplicasRow}

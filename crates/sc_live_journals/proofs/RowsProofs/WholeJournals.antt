@@ -3,7 +3,7 @@ use Rattle.std.proofs.Common.{◌≡◌, ℕ, List, [], ◌∷◌, ◌++◌, sym
 use Rattle.sc_node_table.specs.Values.{Base, OrderLine, Mail, Seat, Row}
 use Rattle.sc_live_orderly.specs.Definitions.{AreInTime}
 use Rattle.sc_live_orderly.proofs.Lemmas.{by_time, last_in_time}
-use Rattle.sc_sound.specs.Definitions.{Player}
+use Rattle.sc_meaning.specs.sound.Definitions.{Player}
 use Rattle.sc_live_steps.specs.calm.Definitions.{players, Rows}
 use Rattle.sc_live_steps.specs.following.Definitions.{Sets}
 use Rattle.sc_live_journals.specs.rows.Definitions.{FollowsOn, EventsKeep, GroupsFollowThrough}

@@ -6,7 +6,7 @@ use Rattle.sc_node_table.specs.Values.{Draw, Base, OrderLine, Mail, Install, Nod
 use Rattle.sc_base.specs.Definitions.{is_member}
 use Rattle.sc_actor.specs.Definitions.{acted, input_of, mails}
 use Rattle.sc_node_table.specs.Definitions.{NodeState, with_made, unknown, group_of_mail, may_come, routed, taken_by, on_mail, ReplicaState, Place, name_of, last_slot, installed_replica, forgotten, looked, named, made_by, looked_up, slots_ahead}
-use Rattle.sc_sound.specs.Definitions.{Player, player_table}
+use Rattle.sc_meaning.specs.sound.Definitions.{Player, player_table}
 use Rattle.sc_live_steps.specs.calm.Definitions.{Rows}
 use Rattle.sc_live_steps.specs.orders.Definitions.{errand_by, errands_for}
 use Rattle.sc_live_journals.specs.rows.Definitions.{view_at, with_event, IsWholeState}

@@ -8,7 +8,7 @@ use Rattle.std.proofs.Common.{◌≡◌, ◌⊎◌, ℕ, Bool, true, false, List
 use Rattle.std.specs.Option.{option_map}
 use Rattle.std.proofs.lemmas.Bool.{cond-true, cond-false}
 use Rattle.sc_node_table.specs.Values.{Draw, Base, OrderLine, Refused, Mail, Node, Client, Seat, Event, Deliver, Got}
-use Rattle.sc_cmd.specs.declared.orders.OrderRefusal.TheVariants.{NotLeader}
+use Rattle.sc_words.specs.declared.commands.orders.OrderRefusal.TheVariants.{NotLeader}
 use Rattle.sc_actor.specs.declared.rows.Event.TheVariants.{Told}
 use Rattle.sc_actor.specs.declared.rows.Input.TheVariants.{Told as ToldInput}
 use Rattle.sc_actor.specs.Definitions.{mails, numbered, value, System, row_of, numbers_of}
@@ -16,7 +16,7 @@ use Rattle.sc_live_orderly.specs.Definitions.{IsCalmRow, is_born}
 use Rattle.sc_live_orderly.proofs.Lemmas.{in_time_before, in_time_tidy, last_in_time, TakesFirst, quiet-empty, is_born-from, takes_first}
 use Rattle.sc_node_table.specs.Definitions.{NodeState, replica_of, with_replica, with_children, group_of_mail, may_come, unknown, taken_by, routed, on_mail, absent, group_of_order, ordered_of, result_sent, ordered_row, ReplicaState, Place, Executed, name_of, mailed}
 use Rattle.sc_law_walks.proofs.Lemmas.{either_way}
-use Rattle.sc_sound.specs.Definitions.{Player, player_table}
+use Rattle.sc_meaning.specs.sound.Definitions.{Player, player_table}
 use Rattle.sc_live_steps.specs.calm.Definitions.{players, Rows}
 use Rattle.sc_live_steps.proofs.CalmProofs.Lemmas.{put_others}
 use Rattle.sc_live_steps.proofs.OrdersProofs.Lemmas.{cases-draw}

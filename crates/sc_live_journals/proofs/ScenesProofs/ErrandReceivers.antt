@@ -6,7 +6,7 @@ use Rattle.sc_node_table.specs.Values.{Draw, OrderLine, Mail, Node, Seat, Event,
 use Rattle.sc_actor.specs.Definitions.{mails, numbers_of, row_of}
 use Rattle.sc_live_orderly.proofs.Lemmas.{last_in_time}
 use Rattle.sc_node_table.specs.Definitions.{NodeState, ReplicaState, Place, listed}
-use Rattle.sc_sound.specs.Definitions.{Player, player_table}
+use Rattle.sc_meaning.specs.sound.Definitions.{Player, player_table}
 use Rattle.sc_live_steps.specs.calm.Definitions.{players, Rows}
 use Rattle.sc_live_steps.specs.orders.Definitions.{Turn, First, Lone, Next, is_watch, Errand, Question, Elsewhere, Reply, Result, Here, Scene, Leg, Mailed, Filed, closing, heard, Stage, Still, Ordered, Asks, SentOn, Weighs, Replied, Recorded, Closes, ClosesBoth, parties_of, IsAt, IsUnderWay, errand_by}
 use Rattle.sc_live_steps.proofs.OrdersProofs.Lemmas.{tokens, tagged, found, among-right}

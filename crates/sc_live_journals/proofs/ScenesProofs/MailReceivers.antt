@@ -12,7 +12,7 @@ use Rattle.sc_actor.specs.Definitions.{mails, numbered, value, acted, input_of, 
 use Rattle.sc_live_orderly.specs.Definitions.{AreInTime}
 use Rattle.sc_node_table.specs.Definitions.{NodeState, replica_of, with_replica, with_new, with_born, with_children, group_of_mail, may_come, unknown, taken_by, routed, on_mail, absent, group_of_order, ordered_of, on_order, ordered_row, ReplicaState, Executed, born_replica, mailed, slots_ahead}
 use Rattle.sc_law_walks.proofs.Lemmas.{either_way}
-use Rattle.sc_sound.specs.Definitions.{Player, player_table}
+use Rattle.sc_meaning.specs.sound.Definitions.{Player, player_table}
 use Rattle.sc_live_steps.specs.calm.Definitions.{players, Rows}
 use Rattle.sc_live_steps.proofs.CalmProofs.Lemmas.{put_others}
 use Rattle.sc_live_steps.specs.orders.Definitions.{Errand, errand_by}

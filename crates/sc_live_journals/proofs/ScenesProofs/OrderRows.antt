@@ -4,7 +4,7 @@ use Rattle.std.specs.Option.{option_map}
 use Rattle.sc_node_table.specs.Values.{Draw, OrderLine, Mail, MailBody, Accept, Prepare, Promise, Nack, Learn, Install, TxPrepare, TxVote, TxOutcome, TxElsewhere, TxWatch, TxWatched, Seat, Event, Deliver}
 use Rattle.sc_actor.specs.Definitions.{mails}
 use Rattle.sc_node_table.specs.Definitions.{NodeState, absent, ReplicaState, Place, name_of, mailed}
-use Rattle.sc_sound.specs.Definitions.{Player}
+use Rattle.sc_meaning.specs.sound.Definitions.{Player}
 use Rattle.sc_live_steps.specs.calm.Definitions.{Rows}
 use Rattle.sc_live_steps.specs.orders.Definitions.{Asking, is_watch, Turn, Errand, Question, Elsewhere, Reply, Result, Work, Answers, Records, Ends, IsOnly, Kind, Rests, PassesOn, AsksOn, Files, work_for, Stage, Still, IsUnderWay, Step, Passes, AsksAgain, IsTaken, OfQuestion, OfVote, OfOutcome, LastTakes, OneTakes, TwoTakes, Comes, IsStepOf, ByPassing, ByAsking, ByTaking, StepsBy, bond_of, is_yes, is_cast_yes, works, errand_by, errands_for, Works}
 use Rattle.sc_live_steps.proofs.OrdersProofs.Lemmas.{tables-file, tables-pass, tables-ask-on, passes-step, asks-step, files-step, tables-rest, promises-keep, rests-step}

@@ -10,7 +10,7 @@ use Rattle.sc_actor.specs.Definitions.{mails, numbers_of, row_of}
 use Rattle.sc_live_orderly.specs.Definitions.{IsCalmRow, IsCalmEvent}
 use Rattle.sc_live_orderly.proofs.Lemmas.{last_in_time}
 use Rattle.sc_node_table.specs.Definitions.{ReplicaState, listed, born_replica, slots_ahead}
-use Rattle.sc_sound.specs.Definitions.{Player, player_table}
+use Rattle.sc_meaning.specs.sound.Definitions.{Player, player_table}
 use Rattle.sc_live_steps.specs.calm.Definitions.{players, Rows}
 use Rattle.sc_live_steps.proofs.CalmProofs.Lemmas.{apart}
 use Rattle.sc_live_steps.specs.orders.Definitions.{Errand, Unbound, IsRow, bond_in as bond_by_lock, bond_of, errand_by, errand_for, errands_for}

@@ -7,7 +7,7 @@ use Rattle.sc_node_table.specs.Values.{Draw, Command, Core, Lock, Free, Coordina
 use Rattle.sc_live_orderly.specs.Definitions.{AreInTime, mail_with, is_born}
 use Rattle.sc_actor.specs.declared.rows.Event.TheVariants.{Told}
 use Rattle.sc_actor.specs.Definitions.{row_of, mails, copies, numbers_of}
-use Rattle.sc_sound.specs.Definitions.{player_table, Player}
+use Rattle.sc_meaning.specs.sound.Definitions.{player_table, Player}
 use Rattle.sc_node_table.specs.Definitions.{group_of_order, ReplicaState, listed}
 use Rattle.sc_live_steps.specs.orders.Definitions.{IsUnderWay, Still, Unbound, Errand, bond_in as bond_by_lock, works_in, works_flying, works_ready, works, errand_by, errand_for, errands_for}
 use Rattle.sc_live_journals.specs.rows.Definitions.{with_event, view_at}

@@ -5,7 +5,7 @@ use Rattle.sc_base.specs.Definitions.{Each}
 use Rattle.sc_node_table.specs.Values.{Draw, OrderLine, Seat, Event}
 use Rattle.sc_actor.specs.Definitions.{mails, numbers_of, row_of}
 use Rattle.sc_node_table.specs.Definitions.{ReplicaState, Place}
-use Rattle.sc_sound.specs.Definitions.{Player, player_table}
+use Rattle.sc_meaning.specs.sound.Definitions.{Player, player_table}
 use Rattle.sc_live_steps.specs.calm.Definitions.{Rows}
 use Rattle.sc_live_steps.specs.orders.Definitions.{First, Lone, Next, is_watch, Bond, Unbound, Asking, Errand, Question, Reply, Work, Opens, Answers, Records, Ends, Scene, IsOnly, bound_by, GoesOn, Executes, results, bond_of, works, errands_for}
 use Rattle.sc_live_journals.specs.rows.Definitions.{view_at, with_event}

@@ -5,8 +5,8 @@ use Rattle.sc_base.specs.Definitions.{Among}
 use Rattle.sc_node_table.specs.Values.{Draw, Seat}
 use Rattle.sc_actor.specs.Definitions.{numbers_of}
 use Rattle.sc_node_table.specs.Definitions.{ReplicaState}
-use Rattle.sc_paxos_words.proofs.Lemmas.{find_found}
-use Rattle.sc_sound.specs.Definitions.{Player}
+use Rattle.sc_words.proofs.PaxosProofs.Lemmas.{find_found}
+use Rattle.sc_meaning.specs.sound.Definitions.{Player}
 use Rattle.sc_live_steps.specs.calm.Definitions.{Rows}
 use Rattle.sc_live_journals.specs.rows.Definitions.{replica_in, view_at, IsSeat}
 use Rattle.sc_live_journals.specs.scenes.Definitions.{is_running, bond_there, works_of, bond_by, work_at, scene_at, LeadsAlone, NoneRuns, ScenesDescribe}

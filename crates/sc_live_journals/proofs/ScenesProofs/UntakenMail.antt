@@ -7,7 +7,7 @@ use Rattle.sc_actor.specs.Definitions.{mails, copies, counts_at, numbered, IsUnd
 use Rattle.sc_actor.proofs.Lemmas.{waiting_one}
 use Rattle.sc_live_orderly.specs.Definitions.{IsCalmEvent, mail_with}
 use Rattle.sc_live_orderly.proofs.Lemmas.{less_at, after-row}
-use Rattle.sc_sound.specs.Definitions.{Player}
+use Rattle.sc_meaning.specs.sound.Definitions.{Player}
 use Rattle.sc_live_steps.specs.calm.Definitions.{players, Rows}
 use Rattle.sc_live_steps.specs.orders.Definitions.{errand_by, errand_for, errands_for}
 use Rattle.sc_live_journals.specs.scenes.Definitions.{left_after}

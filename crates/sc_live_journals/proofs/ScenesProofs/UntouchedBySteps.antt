@@ -4,7 +4,7 @@ use Rattle.sc_base.specs.Definitions.{Among, Each}
 use Rattle.sc_node_table.specs.Values.{Draw, Seat}
 use Rattle.sc_live_steps.specs.orders.Definitions.{Turn, First, Lone, Next, Errand, Question, Elsewhere, Reply, Result, Work, Opens, Scene, IsNone, Deal, Stage, Still, Ordered, Asks, SentOn, Weighs, Replied, Recorded, Closes, ClosesBoth, heard, parties_of, IsAt, closed, IsTaken, OfQuestion, OfVote, OfOutcome, LastTakes, OneTakes, TwoTakes, LastFreed, OneFreed, TwoFreed, IsStepOf, ByRest, ByOrder, ByChange, ByDeal, ByPassing, ByAsking, ByTaking, ByVote, ByNo, ByHearing, ByDeciding, ByEnd}
 use Rattle.sc_live_steps.proofs.OrdersProofs.Lemmas.{tokens, found, errands_of, no-errand}
-use Rattle.sc_sound.specs.Definitions.{Player}
+use Rattle.sc_meaning.specs.sound.Definitions.{Player}
 use Rattle.sc_live_steps.specs.calm.Definitions.{Rows}
 use Rattle.sc_live_journals.specs.scenes.Definitions.{IsHeard, IsFresh, IsThere, AreThere}
 

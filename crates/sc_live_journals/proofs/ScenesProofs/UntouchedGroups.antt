@@ -3,8 +3,8 @@ use Rattle.sc_base.specs.Definitions.{Each, same_draw}
 use Rattle.sc_base.proofs.Lemmas.{same_name}
 use Rattle.std.specs.List.{filter}
 use Rattle.sc_node_table.specs.Values.{AnswerBody, Draw, OrderLine, Mail, MailBody, Request, Answer, Prepare, Promise, Accept, Accepted, Nack, Learn, Ask, Install, TxPrepare, TxVote, TxOutcome, TxElsewhere, TxWatch, TxWatched, Told as ToldMail, Node, Client, Seat, Event, Input}
-use Rattle.sc_client_table.specs.Definitions.{got, table, Client as ClientState}
-use Rattle.sc_paxos_words.proofs.Lemmas.{Each-append}
+use Rattle.sc_client_table.specs.table.Definitions.{got, table, Client as ClientState}
+use Rattle.sc_words.proofs.PaxosProofs.Lemmas.{Each-append}
 use Rattle.sc_live_steps.proofs.CalmProofs.Lemmas.{apart}
 use Rattle.sc_live_steps.specs.orders.Definitions.{is_yes, is_cast_yes, Question, Elsewhere, Reply, Result, Errand, errand_by}
 use Rattle.sc_live_steps.specs.following.Definitions.{Asks, Votes, Tells, Installs, Prepares, Promises, Mark}
@@ -17,7 +17,7 @@ use Rattle.sc_live_orderly.specs.Definitions.{rest, mail_for, taken, AreInTime}
 use Rattle.sc_live_orderly.proofs.Lemmas.{in_time_before, in_time_tidy, last_in_time, rest-calm}
 use Rattle.sc_node_table.specs.Definitions.{NodeState, replica_of, with_made, group_of_mail, unknown, absent, ReplicaState, Place, last_slot, mailed, made_by, slots_ahead, sent_elsewhere}
 use Rattle.sc_law_walks.proofs.Lemmas.{either_way}
-use Rattle.sc_sound.specs.Definitions.{Player, player_table}
+use Rattle.sc_meaning.specs.sound.Definitions.{Player, player_table}
 use Rattle.sc_live_steps.specs.calm.Definitions.{players, Rows}
 use Rattle.sc_live_steps.proofs.OrdersProofs.Lemmas.{offer_is, watch_row_is}
 use Rattle.sc_live_journals.specs.rows.Definitions.{view_at, IsSeat, with_event}

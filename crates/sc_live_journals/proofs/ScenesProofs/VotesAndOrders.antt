@@ -1,10 +1,10 @@
 -- That an order stays under way where a vote is counted, and where an order is given.
 use Rattle.std.proofs.Common.{◌≡◌, ℕ, true, false, cond, List, [], ◌∷◌, ◌++◌, Option, Some, None, ◌⊎◌, inl, inr, refl, sym, ◌∙◌, ap, subst}
 use Rattle.sc_node_table.specs.Values.{Draw, Command, OrderLine, OrderRefusal, Mail, Accepted, Seat, Event, Deliver, Flight}
-use Rattle.sc_machine_table.specs.Definitions.{applied}
+use Rattle.sc_group_table.specs.machine.Definitions.{applied}
 use Rattle.sc_actor.specs.declared.rows.Event.TheVariants.{Told}
 use Rattle.sc_node_table.specs.Definitions.{NodeState, group_of_order, ordered_row, untaken, ReplicaState, Place, listed, mailed, before_of, went_on}
-use Rattle.sc_sound.specs.Definitions.{Player}
+use Rattle.sc_meaning.specs.sound.Definitions.{Player}
 use Rattle.sc_live_steps.specs.calm.Definitions.{Rows}
 use Rattle.sc_live_steps.specs.orders.Definitions.{First, Lone, Next, is_watch, Bond, Unbound, Asking, Errand, Question, Reply, Work, Opens, Answers, Records, Ends, bound_by, Stage, IsAt, Still, Step, BeginsDeal, Votes, Aborts, Hears, IsFreed, LastFreed, OneFreed, TwoFreed, ByOrder, ByChange, ByDeal, ByVote, ByNo, ByHearing, ByDeciding, ByEnd, StepsBy, Kind, Changed, Opened, Voted, Aborted, Decided, Heard, Ended, results, work_by, works_in, works_flying, works_ready, works, bond_of, errands_for, EntryLeaves, FliesLone, Decides, RunsAlone, Works, MayFile}
 use Rattle.sc_live_steps.specs.orders.StageSteps as Follow

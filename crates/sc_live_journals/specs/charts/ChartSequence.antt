@@ -4,7 +4,7 @@ use Rattle.sc_base.specs.Definitions.{Each}
 use Rattle.sc_node_table.specs.Values.{Draw, OrderLine, Mail, MailBody, TxElsewhere, Node, Client, Seat, Row}
 use Rattle.sc_actor.specs.Definitions.{value, is_quiet}
 use Rattle.sc_live_orderly.specs.Definitions.{under_way, AreInTime}
-use Rattle.sc_sound.specs.Definitions.{Player, player_table}
+use Rattle.sc_meaning.specs.sound.Definitions.{Player, player_table}
 use Rattle.sc_live_steps.specs.calm.Definitions.{players, MayFollow, StandsOnce, IsResting, RestsCalm, Rows, is_led}
 use Rattle.sc_live_journals.specs.charts.Charts.{all_replicas, asked_in, names_at, chart_at}
 

@@ -6,7 +6,7 @@ use Rattle.sc_base.specs.Definitions.{same_draw}
 use Rattle.sc_node_table.specs.Values.{Draw, Core, Lock, Free, Coordinating, Promised, Watching, Route, OrderLine, Mail, Node, Client, Seat}
 use Rattle.sc_actor.specs.Definitions.{value, System}
 use Rattle.sc_node_table.specs.Definitions.{replica_of, asked_link, watcher_link, ReplicaState, name_of}
-use Rattle.sc_sound.specs.Definitions.{Player, player_table}
+use Rattle.sc_meaning.specs.sound.Definitions.{Player, player_table}
 use Rattle.sc_live_steps.specs.calm.Definitions.{Chart, Reach, Rows, is_led}
 use Rattle.sc_live_journals.specs.charts.QuietPrefixes.{quiet_prefix}
 

@@ -3,9 +3,9 @@ use Rattle.std.specs.Prelude.{◌≡◌, ℕ, Bool, true, List, Some}
 use Rattle.sc_base.specs.Definitions.{Each}
 use Rattle.sc_node_table.specs.Values.{Base, Node, Seat}
 use Rattle.sc_actor.specs.Definitions.{value}
-use Rattle.sc_paxos_words.specs.Definitions.{IsAtLeast}
+use Rattle.sc_words.specs.paxos.Definitions.{IsAtLeast}
 use Rattle.sc_node_table.specs.Definitions.{NodeState, born_node, ReplicaState, slots_ahead}
-use Rattle.sc_sound.specs.Definitions.{Player, player_table}
+use Rattle.sc_meaning.specs.sound.Definitions.{Player, player_table}
 use Rattle.sc_live_steps.specs.calm.Definitions.{Rows}
 use Rattle.sc_law_walks.specs.Definitions.{IsKept}
 

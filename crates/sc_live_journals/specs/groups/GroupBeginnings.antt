@@ -2,10 +2,10 @@
 use Rattle.std.specs.Prelude.{◌≡◌, ℕ, ◌+◌, ◌<◌, true, false, List, [], None}
 use Rattle.sc_base.specs.Definitions.{Among, IsRoster, is_member}
 use Rattle.sc_node_table.specs.Values.{Base, Seat}
-use Rattle.sc_scenario.specs.Definitions.{IsBounded}
-use Rattle.sc_scenario.specs.declared.scenarios.Scenario.{Scenario}
+use Rattle.sc_scenario.specs.scenario.Definitions.{IsBounded}
+use Rattle.sc_scenario.specs.declared.scenario.scenarios.Scenario.{Scenario}
 use Rattle.sc_node_table.specs.Definitions.{slots_ahead}
-use Rattle.sc_sound.specs.Definitions.{Player, births, as_nodes}
+use Rattle.sc_meaning.specs.sound.Definitions.{Player, births, as_nodes}
 use Rattle.sc_live_steps.specs.calm.Definitions.{players, Rows}
 use Rattle.sc_live_steps.specs.following.Definitions.{Sets, Tellers}
 use Rattle.sc_live_journals.specs.rows.Definitions.{view_at, marks_at, begun_course}

@@ -2,7 +2,7 @@
 use Rattle.std.specs.Prelude.{◌≡◌, ℕ, ◌+◌, ◌-◌, ◌^◌, ◌<◌, ◌≤◌, true, List, length, is_some, ◌⊎◌}
 use Rattle.sc_node_table.specs.Values.{Base}
 use Rattle.sc_base.specs.Definitions.{IsRoster, is_member}
-use Rattle.sc_paxos_words.specs.Definitions.{IsAtLeast}
+use Rattle.sc_words.specs.paxos.Definitions.{IsAtLeast}
 use Rattle.sc_node_table.specs.Definitions.{is_node, ReplicaState, next, members, first_ballot, slots_ahead}
 use Rattle.sc_live_steps.specs.following.Definitions.{Sets, members_at, Tellers, AreAt}
 use Rattle.sc_live_journals.specs.rows.Definitions.{IsWholeState}

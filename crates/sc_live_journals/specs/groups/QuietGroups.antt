@@ -4,9 +4,9 @@ use Rattle.sc_node_table.specs.Values.{Base, Seat}
 use Rattle.sc_base.specs.Definitions.{IsRoster, is_member}
 use Rattle.sc_actor.specs.Definitions.{is_quiet}
 use Rattle.sc_live_orderly.specs.Definitions.{is_born, AreInTime}
-use Rattle.sc_paxos_words.specs.Definitions.{below}
+use Rattle.sc_words.specs.paxos.Definitions.{below}
 use Rattle.sc_node_table.specs.Definitions.{ReplicaState, next, members, settled}
-use Rattle.sc_sound.specs.Definitions.{Player}
+use Rattle.sc_meaning.specs.sound.Definitions.{Player}
 use Rattle.sc_live_steps.specs.calm.Definitions.{players, IsUnbound, MayVote, Rows}
 use Rattle.sc_live_steps.specs.following.Definitions.{Course, Sets, IsOpen, Tellers, IsLeadOf, IsOrderly}
 use Rattle.sc_live_journals.specs.rows.Definitions.{view_at, progress_at, marks_at}

@@ -5,7 +5,7 @@ use Rattle.sc_node_table.specs.Values.{Base, Seat}
 use Rattle.sc_actor.specs.Definitions.{is_quiet}
 use Rattle.sc_live_orderly.specs.Definitions.{is_born, AreInTime}
 use Rattle.sc_node_table.specs.Definitions.{next_ready, ReplicaState, next, last_slot}
-use Rattle.sc_sound.specs.Definitions.{Player}
+use Rattle.sc_meaning.specs.sound.Definitions.{Player}
 use Rattle.sc_live_steps.specs.calm.Definitions.{players, LeadsAtRest, Rows}
 use Rattle.sc_live_steps.specs.following.Definitions.{Course, Sets, Tellers}
 use Rattle.sc_live_journals.specs.rows.Definitions.{view_at, marks_at}

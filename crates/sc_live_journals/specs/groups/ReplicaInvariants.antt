@@ -4,9 +4,9 @@ use Rattle.sc_base.specs.Definitions.{Each, IsRoster}
 use Rattle.sc_node_table.specs.Values.{Draw, Base, Node, Client, Seat}
 use Rattle.sc_actor.specs.Definitions.{is_quiet}
 use Rattle.sc_live_orderly.specs.Definitions.{is_born, AreInTime}
-use Rattle.sc_scenario.specs.declared.scenarios.Scenario.{Scenario}
+use Rattle.sc_scenario.specs.declared.scenario.scenarios.Scenario.{Scenario}
 use Rattle.sc_node_table.specs.Definitions.{ReplicaState, next, last_slot}
-use Rattle.sc_sound.specs.Definitions.{Player, births, as_nodes}
+use Rattle.sc_meaning.specs.sound.Definitions.{Player, births, as_nodes}
 use Rattle.sc_live_steps.specs.calm.Definitions.{players, Rows}
 use Rattle.sc_live_steps.specs.following.Definitions.{Course, Sets, Tellers}
 use Rattle.sc_live_journals.specs.rows.Definitions.{view_at, marks_at, IsSeat}

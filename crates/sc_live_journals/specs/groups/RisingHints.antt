@@ -1,7 +1,7 @@
 -- A replica that has promised the ballot of a leader, and saw no later one, rises to it (`RisesAt`).
 use Rattle.std.specs.Prelude.{◌≡◌, ℕ, true, Some}
 use Rattle.sc_node_table.specs.Values.{Draw}
-use Rattle.sc_paxos_words.specs.Definitions.{IsAtLeast}
+use Rattle.sc_words.specs.paxos.Definitions.{IsAtLeast}
 use Rattle.sc_node_table.specs.Definitions.{ReplicaState}
 use Rattle.sc_live_steps.specs.calm.Definitions.{View, RisesAt}
 use Rattle.sc_live_journals.specs.groups.GreatestBallots.{IsTopKept}

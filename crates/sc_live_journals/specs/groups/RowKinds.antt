@@ -3,7 +3,7 @@ use Rattle.std.specs.Prelude.{◌≡◌, ℕ, true, false, List, Some, None}
 use Rattle.sc_node_table.specs.Values.{Ballot, Base, OrderLine, Seat, Event}
 use Rattle.sc_actor.specs.Definitions.{mails}
 use Rattle.sc_node_table.specs.Definitions.{ReplicaState, Place, made_by}
-use Rattle.sc_sound.specs.Definitions.{Player}
+use Rattle.sc_meaning.specs.sound.Definitions.{Player}
 use Rattle.sc_live_steps.specs.calm.Definitions.{Rows}
 use Rattle.sc_live_steps.specs.following.Definitions.{Mark, Installs, Course, Sets, Tellers, IsIdle, Takes, StepsBy}
 use Rattle.sc_live_journals.specs.rows.Definitions.{IsUnmoved, taken_mark, led_course, elected_course, with_event, IsKind, IsReplicasRow, LeavesOrCreates}

@@ -5,7 +5,7 @@ use Rattle.sc_node_table.specs.Values.{Ballot, Draw, Base, OrderLine, Mail, Inst
 use Rattle.sc_actor.specs.Definitions.{mails}
 use Rattle.sc_live_orderly.specs.Definitions.{AreInTime}
 use Rattle.sc_node_table.specs.Definitions.{ReplicaState, Place, next}
-use Rattle.sc_sound.specs.Definitions.{Player}
+use Rattle.sc_meaning.specs.sound.Definitions.{Player}
 use Rattle.sc_live_steps.specs.calm.Definitions.{players, Rows}
 use Rattle.sc_live_steps.specs.following.Definitions.{dated_for, AsksLow, Tells, Course, Sets, Tellers, GoesBy, LeavesLast, IsLeadOf, IsOrderly, CountsOwn, IsIdle, Takes, Elects}
 use Rattle.sc_live_journals.specs.rows.Definitions.{view_at, progress_at, taken_mark, LeavesLead, led_course, elected_course, LedBy, with_event, IsKind, IsReplicasRow}

@@ -4,7 +4,7 @@ use Rattle.sc_node_table.specs.Values.{Draw, Base, OrderLine, Mail, Seat}
 use Rattle.sc_actor.specs.Definitions.{System}
 use Rattle.sc_live_orderly.specs.Definitions.{rest}
 use Rattle.sc_node_table.specs.Definitions.{ReplicaState}
-use Rattle.sc_sound.specs.Definitions.{Player}
+use Rattle.sc_meaning.specs.sound.Definitions.{Player}
 use Rattle.sc_live_steps.specs.calm.Definitions.{players, Rows}
 use Rattle.sc_live_steps.specs.following.Definitions.{Dated, dated_of, IsAskedLow, Course, Sets, Tellers, IsHeeding, IsOrderly, IsOwnFirst}
 use Rattle.sc_live_journals.specs.rows.Definitions.{view_at, progress_at, marks_at, begun_course, IsFollowedAt}

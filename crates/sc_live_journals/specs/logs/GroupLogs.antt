@@ -4,10 +4,10 @@ use Rattle.sc_base.specs.Definitions.{Among, IsRoster}
 use Rattle.sc_node_table.specs.Values.{Ballot, Command, Base, Mail, Accepted, Learn, Install, Node, Seat}
 use Rattle.sc_actor.specs.Definitions.{mails, numbered, value}
 use Rattle.sc_paxos_law.specs.Definitions.{members_of}
-use Rattle.sc_scenario.specs.Definitions.{IsValid}
-use Rattle.sc_scenario.specs.declared.scenarios.Scenario.{Scenario}
+use Rattle.sc_scenario.specs.scenario.Definitions.{IsValid}
+use Rattle.sc_scenario.specs.declared.scenario.scenarios.Scenario.{Scenario}
 use Rattle.sc_node_table.specs.Definitions.{entered, NodeState, replica_of, ReplicaState, name_of, next, members, first_ballot, slots_ahead}
-use Rattle.sc_sound.specs.Definitions.{groups_at, rule_of, decided_log, Ahead, Player, Lawful, births, player_table}
+use Rattle.sc_meaning.specs.sound.Definitions.{groups_at, rule_of, decided_log, Ahead, Player, Lawful, births, player_table}
 use Rattle.sc_law_entries.specs.logs.Definitions.{Rows}
 use Rattle.sc_live_steps.specs.following.Definitions.{IsNext, AreNext, Sets, members_at, DecidesNext, AreAt}
 use Rattle.sc_live_journals.specs.rows.Definitions.{view_at, IsSeat}

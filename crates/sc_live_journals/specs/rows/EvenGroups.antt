@@ -5,7 +5,7 @@ use Rattle.sc_base.specs.Definitions.{IsRoster}
 use Rattle.sc_actor.specs.Definitions.{is_quiet}
 use Rattle.sc_live_orderly.specs.Definitions.{is_born, AreInTime}
 use Rattle.sc_node_table.specs.Definitions.{ReplicaState}
-use Rattle.sc_sound.specs.Definitions.{Player}
+use Rattle.sc_meaning.specs.sound.Definitions.{Player}
 use Rattle.sc_live_steps.specs.calm.Definitions.{players, Rows}
 use Rattle.sc_live_steps.specs.following.Definitions.{Course, Sets, IsEven, IsEvenLed, IsLeadOf}
 use Rattle.sc_live_journals.specs.rows.Groups.{view_at, progress_at, marks_at, IsFollowedAt}

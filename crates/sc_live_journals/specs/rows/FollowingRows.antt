@@ -5,7 +5,7 @@ use Rattle.sc_base.specs.Definitions.{IsRoster, is_member}
 use Rattle.sc_live_orderly.specs.Definitions.{AreInTime}
 use Rattle.sc_node_table.specs.Definitions.{ReplicaState, Place, name_of, born_replica, mailed, slots_ahead}
 use Rattle.sc_law_walks.specs.Definitions.{GoesOn}
-use Rattle.sc_sound.specs.Definitions.{Player}
+use Rattle.sc_meaning.specs.sound.Definitions.{Player}
 use Rattle.sc_live_steps.specs.calm.Definitions.{players, Rows}
 use Rattle.sc_live_steps.specs.following.Definitions.{Course, Sets, IsLeadOf, IsIdle, Takes, Elects}
 use Rattle.sc_live_journals.specs.rows.Groups.{view_at, progress_at, begun_course, IsLedBy, IsFollowedAt}

@@ -6,7 +6,7 @@ use Rattle.sc_actor.specs.declared.rows.Event.TheVariants.{Told}
 use Rattle.sc_actor.specs.Definitions.{numbered, value, System}
 use Rattle.sc_live_orderly.specs.Definitions.{rest}
 use Rattle.sc_node_table.specs.Definitions.{replica_of, ReplicaState, next, first_ballot}
-use Rattle.sc_sound.specs.Definitions.{Player, player_table}
+use Rattle.sc_meaning.specs.sound.Definitions.{Player, player_table}
 use Rattle.sc_live_steps.specs.calm.Definitions.{players, View, Rows}
 use Rattle.sc_live_steps.specs.following.Definitions.{Mark, mark_of, marks_of, Course, Progress, Sets, IsFollowing, IsLeadOf, begun}
 

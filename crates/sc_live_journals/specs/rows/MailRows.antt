@@ -6,7 +6,7 @@ use Rattle.sc_actor.specs.declared.rows.Event.TheVariants.{Told}
 use Rattle.sc_actor.specs.Definitions.{mails, numbered, value}
 use Rattle.sc_live_orderly.specs.Definitions.{AreInTime}
 use Rattle.sc_node_table.specs.Definitions.{entered, NodeState, replica_of, group_of_mail, may_come, group_of_order, ReplicaState, first_ballot, last_slot, mailed}
-use Rattle.sc_sound.specs.Definitions.{Player, player_table}
+use Rattle.sc_meaning.specs.sound.Definitions.{Player, player_table}
 use Rattle.sc_live_steps.specs.calm.Definitions.{players, Rows}
 use Rattle.sc_live_steps.specs.following.Definitions.{Course, Sets, StopsAlone, IsAside, DecidesNext, Stays}
 use Rattle.sc_live_journals.specs.rows.Groups.{IsFollowedAt, FollowsOn}

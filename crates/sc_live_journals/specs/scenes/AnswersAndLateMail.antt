@@ -4,8 +4,8 @@ use Rattle.sc_base.specs.Definitions.{Among}
 use Rattle.sc_node_table.specs.Values.{Ballot, Draw, Command, Base, Mail, Ask, Accepted, Promise, Nack, Learn, Install, Seat, Deliver, Report}
 use Rattle.sc_law_walks.specs.Definitions.{GoesOn}
 use Rattle.sc_node_table.specs.Definitions.{ReplicaState, next}
-use Rattle.sc_paxos_words.specs.Definitions.{flight_at}
-use Rattle.sc_sound.specs.Definitions.{Player}
+use Rattle.sc_words.specs.paxos.Definitions.{flight_at}
+use Rattle.sc_meaning.specs.sound.Definitions.{Player}
 use Rattle.sc_live_steps.specs.calm.Definitions.{Rows}
 use Rattle.sc_live_steps.specs.orders.Definitions.{Turn, is_watch, Bond, Unbound, Asking, Bound, Errand, Question, Elsewhere, Reply, Result, Here, Scene, IsUnderWay, errand_by}
 use Rattle.sc_live_journals.specs.scenes.OrderRows.{KeepsStage, ComesToLeader, ComesBeside, ComesToNone}

@@ -6,7 +6,7 @@ use Rattle.sc_actor.specs.declared.rows.Event.TheVariants.{Told}
 use Rattle.sc_actor.specs.Definitions.{mails, numbered, value, row_of}
 use Rattle.sc_live_orderly.specs.Definitions.{AreInTime}
 use Rattle.sc_node_table.specs.Definitions.{NodeState, replica_of, group_of_mail, may_come, absent, group_of_order, ordered_row, ReplicaState, mailed}
-use Rattle.sc_sound.specs.Definitions.{Player, player_table}
+use Rattle.sc_meaning.specs.sound.Definitions.{Player, player_table}
 use Rattle.sc_live_steps.specs.calm.Definitions.{players, Rows}
 use Rattle.sc_live_steps.specs.orders.Definitions.{Unbound, Errand, errand_by}
 use Rattle.sc_live_journals.specs.rows.Definitions.{view_at, IsSeat, with_event}

@@ -6,7 +6,7 @@ use Rattle.sc_law_walks.specs.Definitions.{GoesOn}
 use Rattle.sc_actor.specs.declared.rows.Event.TheVariants.{Told}
 use Rattle.sc_actor.specs.Definitions.{mails, numbered}
 use Rattle.sc_node_table.specs.Definitions.{NodeState, replica_of, group_of_mail, group_of_order, ReplicaState, Place, settled, listed, mailed, standing_vote, noted_outcome}
-use Rattle.sc_sound.specs.Definitions.{Player}
+use Rattle.sc_meaning.specs.sound.Definitions.{Player}
 use Rattle.sc_live_steps.specs.calm.Definitions.{Rows}
 use Rattle.sc_live_steps.specs.orders.Definitions.{Turn, is_watch, Asking, Bound, Work, Stage, Still, IsAt, IsUnderWay, IsStepOf, bond_of, works, IsIdle, IsUnbound, MayFile}
 use Rattle.sc_live_journals.specs.rows.Definitions.{with_event}

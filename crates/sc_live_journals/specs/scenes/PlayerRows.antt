@@ -4,7 +4,7 @@ use Rattle.sc_node_table.specs.Values.{Draw, Base, Free, OrderLine, Seat, Event}
 use Rattle.sc_actor.specs.Definitions.{mails, row_of}
 use Rattle.sc_live_orderly.specs.Definitions.{AreInTime}
 use Rattle.sc_node_table.specs.Definitions.{ReplicaState, Place, next, born_replica, slots_ahead}
-use Rattle.sc_sound.specs.Definitions.{Player, player_table}
+use Rattle.sc_meaning.specs.sound.Definitions.{Player, player_table}
 use Rattle.sc_live_steps.specs.calm.Definitions.{players, Rows}
 use Rattle.sc_live_steps.specs.orders.Definitions.{Bond, Unbound, Errand, IsRow, Kind, bond_of, works, errands_for}
 use Rattle.sc_live_journals.specs.rows.Definitions.{view_at, IsSeat, with_event}

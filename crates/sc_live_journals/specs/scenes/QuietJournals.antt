@@ -9,7 +9,7 @@ use Rattle.sc_live_journals.specs.scenes.VotesAndOrders.{IsOrdered}
 use Rattle.sc_live_journals.specs.scenes.OrderRows.{KeepsStage}
 use Rattle.sc_actor.specs.Definitions.{mails, is_quiet}
 use Rattle.sc_live_orderly.specs.Definitions.{is_born, AreInTime}
-use Rattle.sc_sound.specs.Definitions.{Player}
+use Rattle.sc_meaning.specs.sound.Definitions.{Player}
 use Rattle.sc_live_steps.specs.calm.Definitions.{players, Rows}
 use Rattle.sc_live_steps.specs.orders.Definitions.{Unbound, Errand, Work, IsAt, Still, IsUnderWay, work_by, works_in, works, errand_by, FliesLone, IsUnbound}
 use Rattle.sc_live_journals.specs.scenes.Scenes.{scene_at}

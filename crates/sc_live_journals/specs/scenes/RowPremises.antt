@@ -5,13 +5,13 @@ use Rattle.sc_node_table.specs.Values.{Draw, Command, OrderLine, OrderRefusal, M
 use Rattle.sc_law_walks.specs.Definitions.{GoesOn}
 use Rattle.sc_actor.specs.declared.rows.Event.TheVariants.{Told}
 use Rattle.sc_actor.specs.Definitions.{mails, numbered, value}
-use Rattle.sc_client_table.specs.Definitions.{Client as ClientState}
+use Rattle.sc_client_table.specs.table.Definitions.{Client as ClientState}
 use Rattle.sc_live_orderly.specs.Definitions.{AreInTime}
 use Rattle.sc_node_table.specs.Definitions.{NodeState, replica_of, may_come, group_of_order, ordered_row, untaken, ReplicaState, next, settled, listed, mailed, standing_vote, noted_outcome}
-use Rattle.sc_paxos_words.specs.Definitions.{flight_at}
-use Rattle.sc_scenario.specs.Definitions.{IsBounded}
-use Rattle.sc_scenario.specs.declared.scenarios.Scenario.{Scenario}
-use Rattle.sc_sound.specs.Definitions.{Player, player_table, births, as_nodes}
+use Rattle.sc_words.specs.paxos.Definitions.{flight_at}
+use Rattle.sc_scenario.specs.scenario.Definitions.{IsBounded}
+use Rattle.sc_scenario.specs.declared.scenario.scenarios.Scenario.{Scenario}
+use Rattle.sc_meaning.specs.sound.Definitions.{Player, player_table, births, as_nodes}
 use Rattle.sc_live_steps.specs.calm.Definitions.{players, Rows}
 use Rattle.sc_live_steps.specs.orders.Definitions.{Turn, First, Lone, Next, is_watch, Unbound, Asking, Question, Reply, Work, Opens, Answers, Records, Ends, bound_by, IsOrder, Stage, IsAt, IsUnderWay, results, bond_of, works, errand_by, IsIdle, FliesLone, IsUnbound, Works}
 use Rattle.sc_live_journals.specs.rows.Definitions.{view_at, IsSeat, with_event, IsWholeState}

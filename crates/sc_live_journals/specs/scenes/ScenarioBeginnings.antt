@@ -1,8 +1,8 @@
 -- Nothing is under way before the first row of a scenario.
 use Rattle.std.specs.Prelude.{[]}
-use Rattle.sc_scenario.specs.Definitions.{IsBounded}
-use Rattle.sc_scenario.specs.declared.scenarios.Scenario.{Scenario}
-use Rattle.sc_sound.specs.Definitions.{births, as_nodes}
+use Rattle.sc_scenario.specs.scenario.Definitions.{IsBounded}
+use Rattle.sc_scenario.specs.declared.scenario.scenarios.Scenario.{Scenario}
+use Rattle.sc_meaning.specs.sound.Definitions.{births, as_nodes}
 use Rattle.sc_live_steps.specs.orders.Definitions.{IsAt, Still}
 use Rattle.sc_live_journals.specs.scenes.Scenes.{scene_at}
 

@@ -6,7 +6,7 @@ use Rattle.sc_actor.specs.declared.rows.Event.TheVariants.{Told}
 use Rattle.sc_actor.specs.Definitions.{mails, copies, numbered, numbers_of}
 use Rattle.sc_live_orderly.specs.Definitions.{mail_with}
 use Rattle.sc_node_table.specs.Definitions.{ReplicaState, next}
-use Rattle.sc_sound.specs.Definitions.{Player}
+use Rattle.sc_meaning.specs.sound.Definitions.{Player}
 use Rattle.sc_live_steps.specs.calm.Definitions.{Rows}
 use Rattle.sc_live_steps.specs.orders.Definitions.{Bond, Unbound, Errand, Work, Here, Scene, bond_of, works, errand_by, errands_for}
 use Rattle.sc_live_journals.specs.rows.Definitions.{view_at}

@@ -6,7 +6,7 @@ use Rattle.sc_actor.specs.declared.rows.Event.TheVariants.{Told}
 use Rattle.sc_actor.specs.Definitions.{mails, numbered, is_quiet}
 use Rattle.sc_live_orderly.specs.Definitions.{rest, is_born, AreInTime}
 use Rattle.sc_node_table.specs.Definitions.{NodeState, replica_of, group_of_mail, ReplicaState, mailed}
-use Rattle.sc_sound.specs.Definitions.{Player}
+use Rattle.sc_meaning.specs.sound.Definitions.{Player}
 use Rattle.sc_live_steps.specs.calm.Definitions.{players, Rows}
 use Rattle.sc_live_steps.specs.orders.Definitions.{Turn, First, Lone, Next, Errand, Scene, Deal, Stage, Still, Ordered, Asks, SentOn, Weighs, Replied, Recorded, Closes, ClosesBoth, parties_of, IsAt, errand_by}
 use Rattle.sc_live_journals.specs.rows.Definitions.{view_at, IsSeat, with_event}

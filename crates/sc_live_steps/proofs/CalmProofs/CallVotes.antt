@@ -2,8 +2,8 @@
 use Rattle.std.proofs.Common.{◌≡◌, ℕ, ◌≤◌, ◌&&◌, eqb, ltb, Bool, true, false, cond, List, [], ◌∷◌, length, Option, Some, None, refl, sym, ◌∙◌, ap, subst}
 use Rattle.sc_base.specs.Definitions.{Each, is_member}
 use Rattle.sc_node_table.specs.Values.{Op, Command, Noop, Call, Core, Flight}
-use Rattle.sc_machine_table.specs.Definitions.{Group}
-use Rattle.sc_paxos_words.specs.Definitions.{flight_at, without_flight}
+use Rattle.sc_group_table.specs.machine.Definitions.{Group}
+use Rattle.sc_words.specs.paxos.Definitions.{flight_at, without_flight}
 use Rattle.sc_node_table.specs.Definitions.{entered, looked, executed_one, has_room, next_ready, ReplicaState, Place, next, members, at_slot, with_slot, without_slot}
 use Rattle.sc_law_walks.specs.Definitions.{IfThere}
 use Rattle.sc_live_steps.specs.calm.Definitions.{AreBounded, IsServed, IsServedCall, ServesAll, IsPaid, MayGoOn, ArePaid, AllPaid, IsCounting, readied_at, DecidesFreely, Ways}

@@ -2,7 +2,7 @@
 use Rattle.std.proofs.Common.{◌≡◌, ℕ, eqb, Bool, true, false, cond, List, [], ◌∷◌, Option, Some, None, sym, ◌∙◌, ap, subst}
 use Rattle.std.proofs.lemmas.Bool.{cond-true, eq-eqb}
 use Rattle.sc_node_table.specs.Values.{Command, Flight}
-use Rattle.sc_paxos_words.specs.Definitions.{flight_at}
+use Rattle.sc_words.specs.paxos.Definitions.{flight_at}
 use Rattle.sc_node_table.specs.Definitions.{Place, next, with_slot, without_slot}
 use Rattle.sc_live_steps.specs.calm.Definitions.{AreBounded, FliesAlone, readied_at, MayPump, ExecutesFreely, DecidesFreely, Ways}
 use Rattle.sc_live_steps.proofs.CalmProofs.ExecutedEntries.{execution_owes, lone_paid}

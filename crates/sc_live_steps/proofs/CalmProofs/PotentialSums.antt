@@ -3,7 +3,7 @@ use Rattle.std.proofs.Common.{◌≡◌, ℕ, suc, ◌+◌, ◌*◌, ◌≤◌, 
 use Rattle.std.proofs.lemmas.List.Sums.{sum_by_push, sum_by-cons}
 use Rattle.std.proofs.Math.Nat.{suc-mul}
 use Rattle.sc_node_table.specs.Values.{Command, Noop, Mail, MailBody, Flight}
-use Rattle.sc_paxos_words.specs.Definitions.{without_flight}
+use Rattle.sc_words.specs.paxos.Definitions.{without_flight}
 use Rattle.sc_node_table.specs.Definitions.{sent, sent_all, at_slot, with_slot, without_slot}
 use Rattle.sc_live_steps.specs.calm.Definitions.{Ways, command_owes, offered_owes, body_owes, mail_owes, flights_owe, ready_owes}
 

@@ -1,7 +1,7 @@
 -- What replicas are at birth, computed: nothing is under way, and the first member leads.
 use Rattle.std.proofs.Common.{◌&&◌, not, eq-eqb, true, Some, refl, ◌∙◌, ap}
-use Rattle.sc_paxos_words.specs.Definitions.{below}
-use Rattle.sc_paxos_words.proofs.Lemmas.{at_least_itself}
+use Rattle.sc_words.specs.paxos.Definitions.{below}
+use Rattle.sc_words.proofs.PaxosProofs.Lemmas.{at_least_itself}
 use Rattle.sc_node_table.specs.Definitions.{first_ballot}
 use Rattle.sc_live_steps.specs.calm.Definitions.{ReplicasBeginAtRest, FirstMembersLead}
 

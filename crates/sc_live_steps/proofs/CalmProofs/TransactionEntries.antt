@@ -3,14 +3,14 @@ use Rattle.std.proofs.Common.{◌≡◌, ℕ, ◌+◌, ◌*◌, ◌≤◌, not, 
 use Rattle.std.specs.List.{filter}
 use Rattle.sc_base.specs.Definitions.{Among, same_draw, is_member, with_member, least_of, united}
 use Rattle.sc_node_table.specs.Values.{Draw, Body, Offer, Watch, Command, Noop, Call, Join, Leave, Split, Begin, Prepared, RecordVote, GiveUp, Finish, Watched, RecordWatch, Core, Lock, Free, Coordinating, Promised, Watching, Effect, Link, Route, OrderRefusal, OrderResult, Frozen, Heard, No, Outcome, Past, Vote, AnswerBody, Mail, TxPrepare, TxVote, TxOutcome, TxWatched}
-use Rattle.sc_cmd.specs.Definitions.{is_alone, is_changed, decided_in, cast_in}
-use Rattle.sc_cmd.specs.declared.bodies.Body.TheVariants as At
-use Rattle.sc_cmd.specs.declared.effects.Effect.TheVariants as Was
-use Rattle.sc_cmd.specs.declared.orders.OrderRefusal.TheVariants.{NotLeader}
-use Rattle.sc_cmd.specs.declared.votes.Outcome.TheVariants as Is
-use Rattle.sc_cmd.specs.declared.votes.Past.TheVariants as Cast
-use Rattle.sc_cmd.specs.declared.votes.Vote.TheVariants as Says
-use Rattle.sc_machine_table.specs.Definitions.{gained_group, lost_group, welcomed_group, participant_after, settled_in, finished, Group, applied, ordered_by, split_group, refusal_of, ordered, frozen_of, closing_plan, repart_plan, migrate_plan, staying, has_named, left_group, begun_group, decided_group, heard_group, committed, granted, participant_answered, asks_watcher, vote_recorded, has_voted, voted_on, vote_of, watch_vote_of}
+use Rattle.sc_words.specs.commands.Definitions.{is_alone, is_changed, decided_in, cast_in}
+use Rattle.sc_words.specs.declared.commands.bodies.Body.TheVariants as At
+use Rattle.sc_words.specs.declared.commands.effects.Effect.TheVariants as Was
+use Rattle.sc_words.specs.declared.commands.orders.OrderRefusal.TheVariants.{NotLeader}
+use Rattle.sc_words.specs.declared.commands.votes.Outcome.TheVariants as Is
+use Rattle.sc_words.specs.declared.commands.votes.Past.TheVariants as Cast
+use Rattle.sc_words.specs.declared.commands.votes.Vote.TheVariants as Says
+use Rattle.sc_group_table.specs.machine.Definitions.{gained_group, lost_group, welcomed_group, participant_after, settled_in, finished, Group, applied, ordered_by, split_group, refusal_of, ordered, frozen_of, closing_plan, repart_plan, migrate_plan, staying, has_named, left_group, begun_group, decided_group, heard_group, committed, granted, participant_answered, asks_watcher, vote_recorded, has_voted, voted_on, vote_of, watch_vote_of}
 use Rattle.sc_node_table.specs.Definitions.{sent, entered, order_result, effect_reported, answered_or_put_back, announced, answer_of, is_act, offer_of, asked_link, question, asked_first, ReplicaState, Place, members, forgotten, before_of, asked_on, vote_sent, watch_sent, released_to, vote_answered, watch_answered_by, begun_reported, went_on, spoken_mails, spoken}
 use Rattle.sc_live_steps.specs.calm.Definitions.{AreBounded, said_place, newcomers, Ways, mail_owes}
 use Rattle.sc_live_steps.proofs.CalmProofs.PotentialSums.{sent_owes}

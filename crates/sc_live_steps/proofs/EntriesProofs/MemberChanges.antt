@@ -4,12 +4,12 @@ use Rattle.std.proofs.Common.{◌≡◌, ℕ, ◌&&◌, not, Bool, true, false, 
 use Rattle.std.proofs.lemmas.Bool.{cond_both}
 use Rattle.sc_base.specs.Definitions.{holds, same_draw, is_member, with_member, with_any, united}
 use Rattle.sc_node_table.specs.Values.{Draw, Body, Offer, Join, Leave, Split, Lock, Free, Coordinating, Promised, Watching, Effect, Route, OrderRefusal, Frozen, Heard, Outcome, Abort, Merged, Moved, Migrated, Divided, Vote}
-use Rattle.sc_cmd.specs.Definitions.{is_alone, is_changed}
-use Rattle.sc_cmd.specs.declared.bodies.Body.TheVariants as At
-use Rattle.sc_cmd.specs.declared.effects.Effect.TheVariants as Was
-use Rattle.sc_cmd.specs.declared.votes.Past.TheVariants as Cast
-use Rattle.sc_cmd.specs.declared.votes.Vote.TheVariants as Says
-use Rattle.sc_machine_table.specs.Definitions.{can_gain, gained_group, lost_group, welcomed_group, participant_after, settled_in, watch_ended, finished, Group, applied, refusal_of, ordered, with_node, without_node, Plan, closing_plan, closing_group, repart_plan, giving_plan, taking_plan, giving_group, taking_group, can_repart, taken, part_gift, has_key_of, migrate_plan, migrated_group, can_migrate, merge_plan, merged_group, merged_route, may_merge, split_plan, can_split, can_cut, has_named, left_group, begun_group, heard_group, asks_watcher, committed, participant_answered, granted, vote_recorded, watch_recorded, released}
+use Rattle.sc_words.specs.commands.Definitions.{is_alone, is_changed}
+use Rattle.sc_words.specs.declared.commands.bodies.Body.TheVariants as At
+use Rattle.sc_words.specs.declared.commands.effects.Effect.TheVariants as Was
+use Rattle.sc_words.specs.declared.commands.votes.Past.TheVariants as Cast
+use Rattle.sc_words.specs.declared.commands.votes.Vote.TheVariants as Says
+use Rattle.sc_group_table.specs.machine.Definitions.{can_gain, gained_group, lost_group, welcomed_group, participant_after, settled_in, watch_ended, finished, Group, applied, refusal_of, ordered, with_node, without_node, Plan, closing_plan, closing_group, repart_plan, giving_plan, taking_plan, giving_group, taking_group, can_repart, taken, part_gift, has_key_of, migrate_plan, migrated_group, can_migrate, merge_plan, merged_group, merged_route, may_merge, split_plan, can_split, can_cut, has_named, left_group, begun_group, heard_group, asks_watcher, committed, participant_answered, granted, vote_recorded, watch_recorded, released}
 use Rattle.sc_live_steps.proofs.FollowingProofs.Lemmas.{with_kept}
 
 module _ (group : Group) where

@@ -4,8 +4,8 @@ use Rattle.std.proofs.lemmas.Bool.{cases_eq}
 use Rattle.sc_base.specs.Definitions.{Among, Each, IsRoster, is_member}
 use Rattle.sc_node_table.specs.Values.{Ballot}
 use Rattle.sc_node_table.specs.Definitions.{listed}
-use Rattle.sc_paxos_words.specs.Definitions.{IsAtLeast}
-use Rattle.sc_paxos_words.proofs.Lemmas.{at_least_below, at_least_from_below, at_least_itself, not_both, Each-among, Each-weaker}
+use Rattle.sc_words.specs.paxos.Definitions.{IsAtLeast}
+use Rattle.sc_words.proofs.PaxosProofs.Lemmas.{at_least_below, at_least_from_below, at_least_itself, not_both, Each-among, Each-weaker}
 use Rattle.sc_live_steps.specs.following.Definitions.{Mark, Asks, Votes, Tells, Installs, Prepares, Promises, next_by, promise_by, reached, pledged, AreFit, AreAskedFirst, Progress, Sets, members_at, IsOpen, IsKnown, IsFollowing, IsRow, IsLast, Elects}
 use Rattle.sc_live_steps.proofs.FollowingProofs.Marks.{reached-append, pledged-append, fit-append, fit-asks, pledged-most, IsLater}
 use Rattle.sc_live_steps.proofs.FollowingProofs.NodeRows.{goes, each-row, asked-row}

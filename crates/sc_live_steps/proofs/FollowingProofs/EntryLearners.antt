@@ -4,7 +4,7 @@ use Rattle.std.proofs.lemmas.Bool.{cases_eq, cases_lt, cond_both, cond-true}
 use Rattle.sc_base.specs.Definitions.{Among, Each, IsRoster, is_member}
 use Rattle.sc_node_table.specs.Values.{Ballot}
 use Rattle.sc_node_table.specs.Definitions.{listed}
-use Rattle.sc_paxos_words.proofs.Lemmas.{Each-append, Each-weaker}
+use Rattle.sc_words.proofs.PaxosProofs.Lemmas.{Each-append, Each-weaker}
 use Rattle.sc_live_steps.specs.following.Definitions.{Mark, Votes, Tells, Installs, Prepares, Promises, next_by, promise_by, reached, pledged, AreFit, Course, Progress, Sets, members_at, IsFollowing, Tellers, LeavesLast, IsRow, IsIdle, IsCount, Takes, reported_of, told_from, Leads, Elects, begun, IsForMember, IsMemberBy, AreTaught, TaughtIsKept, QuietMembersKnow}
 use Rattle.sc_live_steps.proofs.FollowingProofs.ElectionRows.{self_election-keeps}
 use Rattle.sc_live_steps.proofs.FollowingProofs.NodeRows.{counts_of, each-row, reached_left}

@@ -5,7 +5,7 @@ use Rattle.std.proofs.lemmas.Bool.{cases_Bool, cases_eq, cond_both, cond-true, c
 use Rattle.std.proofs.lemmas.List.Elements.{All-head, All-tail}
 use Rattle.std.proofs.lemmas.List.Kept.{AllPairs-filter, AllPairs-from_increasing}
 use Rattle.sc_node_table.specs.Values.{Draw, Command, Mail, MailBody, Learn, Install, Prepare}
-use Rattle.sc_machine_table.specs.Definitions.{base_of}
+use Rattle.sc_group_table.specs.machine.Definitions.{base_of}
 use Rattle.sc_base.specs.Definitions.{is_member}
 use Rattle.sc_base.proofs.Lemmas.{AllPairs-head, AllPairs-tail}
 use Rattle.sc_node_table.specs.Definitions.{learnt_to, welcomed, install_to, welcomed_all, sent, sent_others, ReplicaState, Place, name_of, next, members}

@@ -6,7 +6,7 @@ use Rattle.std.proofs.lemmas.Bool.{cases_lt, or_left}
 use Rattle.std.proofs.lemmas.List.Folds.{list_any-append}
 use Rattle.sc_node_table.specs.Values.{Ballot, Command, Mail, Flight}
 use Rattle.sc_base.specs.Definitions.{is_member}
-use Rattle.sc_paxos_words.specs.Definitions.{LeaderState, flight_at, promise_counted}
+use Rattle.sc_words.specs.paxos.Definitions.{LeaderState, flight_at, promise_counted}
 use Rattle.sc_node_table.specs.Definitions.{executed_one, next_child, next_ready, ending, executed_ready, executed, pumped, ReplicaState, Place, Executed, childless, next, either, taken_at, flying, mailed, at_slot, leads, promise_row}
 use Rattle.sc_law_walks.specs.Definitions.{IfThere}
 use Rattle.sc_law_walks.proofs.Lemmas.{entered_next, idle_ready, idle_pump}

@@ -4,9 +4,9 @@ use Rattle.std.specs.Option.{option_map}
 use Rattle.std.proofs.lemmas.Bool.{eqb-true, eq-eqb, le-ltb}
 use Rattle.sc_node_table.specs.Values.{Draw, Command, Effect, Route, OrderResult, Mail, Ask, Told, Flight}
 use Rattle.sc_base.specs.Definitions.{least_of}
-use Rattle.sc_policy.specs.Definitions.{is_reported}
-use Rattle.sc_paxos_words.specs.Definitions.{LeaderState, flight_at, without_flight_at}
-use Rattle.sc_machine_table.specs.Definitions.{applied}
+use Rattle.sc_group_table.specs.policy.Definitions.{is_reported}
+use Rattle.sc_words.specs.paxos.Definitions.{LeaderState, flight_at, without_flight_at}
+use Rattle.sc_group_table.specs.machine.Definitions.{applied}
 use Rattle.sc_node_table.specs.declared.Before.{Before}
 use Rattle.sc_node_table.specs.Definitions.{elected, entered, order_result, effect_reported, announced, learnt_to, welcomed, slot_lost, landed, left_gone, left, is_among, looked_for, looked, executed_one, executed_ready, executed, sent, order_reported, result_sent, order_number, pumped, ReplicaState, Place, Executed, childless, name_of, next, members, last_slot, floor_of, forgotten, learn_row, mailed, without_slot, before_of, begun_result, spoken_number, result_reported, begun_reported, spoken_mails, spoken}
 use Rattle.sc_live_steps.specs.following.Definitions.{Tells, marks_for, StepsBy, IsInTime, Stays, TablesFollow}

@@ -4,8 +4,8 @@ use Rattle.std.proofs.lemmas.Bool.{cases_Bool, cases_eq, cases_lt, cond-true}
 use Rattle.sc_base.specs.Definitions.{Each, IsRoster, is_member, least_of}
 use Rattle.sc_node_table.specs.Values.{Ballot}
 use Rattle.sc_node_table.specs.Definitions.{is_among, listed, slots_ahead}
-use Rattle.sc_paxos_words.specs.Definitions.{below}
-use Rattle.sc_paxos_words.proofs.Lemmas.{at_least_below}
+use Rattle.sc_words.specs.paxos.Definitions.{below}
+use Rattle.sc_words.proofs.PaxosProofs.Lemmas.{at_least_below}
 use Rattle.sc_live_steps.specs.following.Definitions.{Mark, promise_by, reached, pledged, Course, Progress, Sets, members_at, IsOpen, IsFollowing, Tellers, hint_by, hinted, MayLeave, AreHeeded, IsOther, IsHeeding, GoesBy, LeavesLast, HintsAreKept, NodesHeed, IsRow, IsIdle, IsCount, Takes, told_from, Leads, Elects, begun}
 use Rattle.sc_live_steps.proofs.FollowingProofs.Hints.{hinted-append, heeded-append, heeded-change, no_more, count-heeded, count-hinted, offers-heeded, offers-hinted, told-heeded, told-hinted}
 use Rattle.sc_live_steps.proofs.FollowingProofs.NodeRows.{counts_of, takes-keeps}

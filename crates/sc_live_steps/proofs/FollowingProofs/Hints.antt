@@ -4,7 +4,7 @@ use Rattle.std.proofs.lemmas.Bool.{cond_both, cond-true}
 use Rattle.sc_base.specs.Definitions.{Each, is_member, least_of}
 use Rattle.sc_node_table.specs.Values.{Ballot}
 use Rattle.sc_node_table.specs.Definitions.{is_among}
-use Rattle.sc_paxos_words.specs.Definitions.{below}
+use Rattle.sc_words.specs.paxos.Definitions.{below}
 use Rattle.sc_live_steps.specs.following.Definitions.{Mark, Asks, Votes, Tells, Installs, Prepares, Promises, promise_by, reached, pledged, AreFit, Course, Sets, members_at, Tellers, hint_by, hinted, MayLeave, IsHeeded, AreHeeded, IsCount, IsOffer, reported_of, told_from}
 use Rattle.sc_live_steps.proofs.FollowingProofs.Marks.{reached-least, told-cases}
 

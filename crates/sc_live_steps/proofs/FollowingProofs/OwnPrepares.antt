@@ -4,8 +4,8 @@ use Rattle.std.proofs.lemmas.Bool.{cases_Bool, cases_eq, cond_both, eqb-true, an
 use Rattle.sc_base.specs.Definitions.{Each}
 use Rattle.sc_node_table.specs.Values.{Ballot}
 use Rattle.sc_node_table.specs.Definitions.{listed, next}
-use Rattle.sc_paxos_words.specs.Definitions.{below, IsAtLeast}
-use Rattle.sc_paxos_words.proofs.Lemmas.{at_least_below, at_least_from_below, not_both, Each-append, Each-split, Each-weaker}
+use Rattle.sc_words.specs.paxos.Definitions.{below, IsAtLeast}
+use Rattle.sc_words.proofs.PaxosProofs.Lemmas.{at_least_below, at_least_from_below, not_both, Each-append, Each-split, Each-weaker}
 use Rattle.sc_live_steps.specs.following.Definitions.{IsNoPrepare, Mark, Asks, Votes, Tells, Installs, Prepares, Promises, Progress, Sets, IsKnown, IsFollowing, IsOtherPrepare, IsOwnPrepare, IsHome, ArePromisedLast, AreLearntLast, IsOwnFirst, CountsOwn, CountsNone, OwnIsKept, LeadersCountOwn, IsRow, IsIdle, IsCount, answered, Takes, told_from, Leads, Elects}
 use Rattle.sc_live_steps.proofs.FollowingProofs.NodeRows.{counts_of, each-row}
 use Rattle.sc_live_steps.proofs.FollowingProofs.Marks.{offers-each, told-each, told-own}

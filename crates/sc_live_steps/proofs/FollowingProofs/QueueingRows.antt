@@ -6,9 +6,9 @@ use Rattle.std.proofs.lemmas.List.Folds.{list_any-append}
 use Rattle.sc_base.specs.Definitions.{Drawer, next_name, client_actor, same_ballot, same_draw, is_member}
 use Rattle.sc_node_table.specs.Values.{Ballot, Draw, Op, Offer, Watch, Command, Call, Prepared, RecordVote, Finish, Watched, RecordWatch, Lock, Free, Coordinating, Promised, Watching, OrderLine, OrderRefusal, Refused, Outcome, Past, Vote, AnswerBody, Mail, MailBody, Request, Answer, Nack, TxPrepare, TxVote, TxOutcome, TxElsewhere, TxWatch, TxWatched, Told, Report}
 use Rattle.sc_base.proofs.Lemmas.{ballot_is, ballot_itself}
-use Rattle.sc_cmd.specs.declared.votes.Past.TheVariants as Cast
-use Rattle.sc_cmd.specs.declared.votes.Vote.TheVariants as Says
-use Rattle.sc_paxos_words.specs.Definitions.{below, LeaderState, promise_counted}
+use Rattle.sc_words.specs.declared.commands.votes.Past.TheVariants as Cast
+use Rattle.sc_words.specs.declared.commands.votes.Vote.TheVariants as Says
+use Rattle.sc_words.specs.paxos.Definitions.{below, LeaderState, promise_counted}
 use Rattle.sc_node_table.specs.declared.ReplicaInput.TheVariants as Given
 use Rattle.sc_node_table.specs.Definitions.{has_act, act_queued, saw, stopped, sent, ordered_command, untaken, queued_or_refused, ordered_row, pumped, queued_number, without_request, asked_link, question, asked_node, ReplicaState, Place, name_of, settled, refused_at, queued, requested, request_row, mailed, stepped, standing_vote, sent_elsewhere, offered_by, offer_row, watched_by, watch_row, awaits_vote, awaits_watch, outcome_sent, noted_outcome, vote_met, vote_row, watch_met, watched_row, next_asked, asked_next, elsewhere_row, is_bound, outcome_row, leads, promise_row, nack_row}
 use Rattle.sc_law_walks.specs.Definitions.{GoesOn}

@@ -4,10 +4,10 @@ use Rattle.std.specs.Prelude.{is_some}
 use Rattle.std.proofs.lemmas.Bool.{cases_eq, eqb-true, eq-eqb, le-ltb, lt-leb, or_from, not_from_true}
 use Rattle.sc_node_table.specs.Values.{Ballot, Command, Base, Route, Mail, Report}
 use Rattle.sc_base.specs.Definitions.{is_member, least_of}
-use Rattle.sc_paxos_words.specs.declared.answers.AcceptAnswer.TheVariants as Asked
-use Rattle.sc_paxos_words.specs.declared.answers.PrepareAnswer.TheVariants as Answers
-use Rattle.sc_paxos_words.specs.Definitions.{accepted as accepted_by, after_accept, after_promise, reports_from, below, prepared}
-use Rattle.sc_paxos_words.proofs.Lemmas.{at_least_itself}
+use Rattle.sc_words.specs.declared.paxos.answers.AcceptAnswer.TheVariants as Asked
+use Rattle.sc_words.specs.declared.paxos.answers.PrepareAnswer.TheVariants as Answers
+use Rattle.sc_words.specs.paxos.Definitions.{accepted as accepted_by, after_accept, after_promise, reports_from, below, prepared}
+use Rattle.sc_words.proofs.PaxosProofs.Lemmas.{at_least_itself}
 use Rattle.sc_node_table.specs.Definitions.{elected, stopped, entered, is_among, looked_for, looked, executed_one, executed_ready, executed, install_to, jumped, pumped, ReplicaState, Place, Executed, next, members, last_slot, forgotten, looked_up, took_over, install_row, mailed, promise_to, promised, prepare_row, accepted_to, took, accept_row}
 use Rattle.sc_law_walks.specs.Definitions.{GoesOn}
 use Rattle.sc_law_walks.proofs.Lemmas.{idle_ready, idle_pump}

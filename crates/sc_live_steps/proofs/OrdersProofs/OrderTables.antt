@@ -2,7 +2,7 @@
 use Rattle.std.proofs.Common.{◌≡◌, ℕ, [], ◌∷◌, ◌++◌, Some, None, refl, sym, ◌∙◌, ap, subst}
 use Rattle.sc_base.specs.Definitions.{Drawer, next_name}
 use Rattle.sc_node_table.specs.Values.{Draw, Command, Order, OrderLine, OrderRefusal, Refused, Told}
-use Rattle.sc_cmd.specs.declared.orders.Order.TheVariants as An
+use Rattle.sc_words.specs.declared.commands.orders.Order.TheVariants as An
 use Rattle.sc_node_table.specs.Definitions.{ordered_command, ordered_row, queued_or_refused, untaken, pumped, with_order_queued, ReplicaState, listed}
 use Rattle.sc_live_steps.specs.orders.Definitions.{Work, Changes, Opens, IsOrder, work_by, works_in, works_flying, works_ready, works, Works, MayFile, TablesOrder}
 use Rattle.sc_live_steps.proofs.OrdersProofs.Errands.{errands-none}

@@ -4,7 +4,7 @@ use Rattle.sc_base.specs.Definitions.{Each}
 use Rattle.sc_node_table.specs.Values.{Draw, OrderLine, Mail, Node, Client, Seat}
 use Rattle.sc_actor.specs.Definitions.{value, System, system}
 use Rattle.sc_live_orderly.specs.Definitions.{under_way}
-use Rattle.sc_sound.specs.Definitions.{Player, player_table, receiver_of}
+use Rattle.sc_meaning.specs.sound.Definitions.{Player, player_table, receiver_of}
 use Rattle.sc_live_steps.specs.calm.NodePotential.{node_owes}
 use Rattle.sc_live_steps.specs.calm.Potential.{Ways, mail_owes}
 use Rattle.sc_live_steps.specs.calm.ClientReach.{Reach, client_owes}

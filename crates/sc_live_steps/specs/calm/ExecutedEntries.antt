@@ -2,11 +2,11 @@
 use Rattle.std.specs.Prelude.{◌≡◌, ℕ, ◌≤◌, true, false, List, [], ◌∷◌, length, None, Some, ◌⊎◌}
 use Rattle.sc_base.specs.Definitions.{Each, is_member}
 use Rattle.sc_node_table.specs.Values.{Ballot, Draw, Op, Command, Noop, Call, Join, Leave, Split, Begin, Prepared, RecordVote, GiveUp, Finish, Watched, RecordWatch, Core, Free, Route, Past, Accepted, Flight}
-use Rattle.sc_ideal.specs.Definitions.{key_of, holds_key}
-use Rattle.sc_cmd.specs.declared.votes.Past.TheVariants as Cast
-use Rattle.sc_cmd.specs.Definitions.{is_alone, is_changed}
-use Rattle.sc_machine_table.specs.Definitions.{applied}
-use Rattle.sc_paxos_words.specs.Definitions.{without_flight}
+use Rattle.sc_words.specs.ideal.Definitions.{key_of, holds_key}
+use Rattle.sc_words.specs.declared.commands.votes.Past.TheVariants as Cast
+use Rattle.sc_words.specs.commands.Definitions.{is_alone, is_changed}
+use Rattle.sc_group_table.specs.machine.Definitions.{applied}
+use Rattle.sc_words.specs.paxos.Definitions.{without_flight}
 use Rattle.sc_node_table.specs.Definitions.{admits_requests, entered, executed_one, next_ready, ReplicaState, Place, next, members, without_slot, before_of}
 use Rattle.sc_law_walks.specs.Definitions.{IfThere}
 use Rattle.sc_live_steps.specs.calm.Laws.{newcomers, IsCounting, LeadsOn, StopsAfter, MayPump, Lowers, readied_at, ExecutesFreely}

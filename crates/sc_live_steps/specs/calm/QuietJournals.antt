@@ -2,8 +2,8 @@
 use Rattle.std.specs.Prelude.{◌≡◌, ℕ, ◌<◌, ◌≤◌, Bool, true, false, List, [], length, Option, Some, None, ◌⊎◌}
 use Rattle.sc_base.specs.Definitions.{Among, Each, end_of, is_member}
 use Rattle.sc_node_table.specs.Values.{Draw, Base, Free, Route}
-use Rattle.sc_paxos_words.specs.Definitions.{below}
-use Rattle.sc_client_table.specs.Definitions.{Client as ClientState, born_client}
+use Rattle.sc_words.specs.paxos.Definitions.{below}
+use Rattle.sc_client_table.specs.table.Definitions.{Client as ClientState, born_client}
 use Rattle.sc_node_table.specs.Definitions.{ReplicaState, next, members, settled, born_replica}
 use Rattle.sc_live_steps.specs.calm.Laws.{IsUnbound}
 

@@ -4,7 +4,7 @@ use Rattle.sc_base.specs.Definitions.{Each}
 use Rattle.sc_node_table.specs.Values.{OrderLine, Node, Client, Seat, Line}
 use Rattle.sc_actor.specs.Definitions.{value, are_apart, IsLawful, is_quiet, unsettled}
 use Rattle.sc_live_orderly.specs.Definitions.{HasRoom, deliveries, AreSpaced, Nothing, AreInTime, orders_given}
-use Rattle.sc_sound.specs.Definitions.{Player, player_table}
+use Rattle.sc_meaning.specs.sound.Definitions.{Player, player_table}
 use Rattle.sc_live_steps.specs.calm.Charts.{players, Chart, run_owes}
 use Rattle.sc_live_steps.specs.calm.RowPremises.{KeepCalm}
 use Rattle.sc_live_steps.specs.calm.QuietJournals.{IsAtRest}

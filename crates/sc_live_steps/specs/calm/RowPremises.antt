@@ -7,7 +7,7 @@ use Rattle.sc_actor.specs.Definitions.{mails, numbered, value, System, are_apart
 use Rattle.sc_live_orderly.specs.Definitions.{deliveries, under_way, AreInTime, IsMeasure}
 use Rattle.sc_node_table.specs.Definitions.{NodeState, replica_of, group_of_mail, may_come, group_of_order, ReplicaState, name_of, next}
 use Rattle.sc_law_walks.specs.Definitions.{GoesOn}
-use Rattle.sc_sound.specs.Definitions.{Player, player_table}
+use Rattle.sc_meaning.specs.sound.Definitions.{Player, player_table}
 use Rattle.sc_live_steps.specs.calm.Charts.{players, Chart, run_owes, MayFollow}
 use Rattle.sc_live_steps.specs.calm.ExecutedEntries.{AreBounded, ServesAll, FliesAlone}
 use Rattle.sc_live_steps.specs.calm.Laws.{Lowers, MayPump, Follows, Points, AsksAs}

@@ -1,8 +1,8 @@
 -- What the stages of an order give of what rows of calm journals have to find.
 use Rattle.std.specs.Prelude.{◌≡◌, ℕ, ◌≤◌, true, [], length, Some, None, ◌⊎◌}
 use Rattle.sc_node_table.specs.Values.{Draw, Command, Noop, Call, Join, Leave, Split, Begin, Prepared, RecordVote, GiveUp, Finish, Watched, RecordWatch, Free, Flight}
-use Rattle.sc_cmd.specs.declared.votes.Past.TheVariants as Cast
-use Rattle.sc_machine_table.specs.Definitions.{applied}
+use Rattle.sc_words.specs.declared.commands.votes.Past.TheVariants as Cast
+use Rattle.sc_group_table.specs.machine.Definitions.{applied}
 use Rattle.sc_base.specs.Definitions.{is_member}
 use Rattle.sc_node_table.specs.Definitions.{ReplicaState, members, before_of}
 use Rattle.sc_live_steps.specs.calm.Definitions.{MayCount, newcomers, MayPump, AsksAs, Ways}

@@ -3,7 +3,7 @@ use Rattle.std.specs.Prelude.{◌≡◌, ℕ, suc, ◌+◌, ◌<◌, ◌≤◌, 
 use Rattle.sc_node_table.specs.Values.{Ballot}
 use Rattle.sc_base.specs.Definitions.{IsRoster, is_member, least_of}
 use Rattle.sc_node_table.specs.Definitions.{is_among}
-use Rattle.sc_paxos_words.specs.Definitions.{below}
+use Rattle.sc_words.specs.paxos.Definitions.{below}
 use Rattle.sc_live_steps.specs.following.MailUnderWay.{Mark, Asks, Votes, Tells, Installs, Prepares, Promises, promise_by, Course, Progress, Sets, members_at, IsOpen, IsFollowing}
 use Rattle.sc_live_steps.specs.following.Rows.{IsRow, IsIdle, Takes, Leads, Elects, begun}
 

@@ -3,7 +3,7 @@ use Rattle.std.specs.Prelude.{◌≡◌, ℕ, suc, ◌<◌, ◌≤◌, true, fal
 use Rattle.sc_base.specs.Definitions.{Each}
 use Rattle.sc_node_table.specs.Values.{Ballot}
 use Rattle.sc_node_table.specs.Definitions.{ReplicaState, Place}
-use Rattle.sc_paxos_words.specs.Definitions.{IsAtLeast}
+use Rattle.sc_words.specs.paxos.Definitions.{IsAtLeast}
 use Rattle.sc_live_steps.specs.following.PrepareSlots.{IsNoPrepare}
 use Rattle.sc_live_steps.specs.following.MailUnderWay.{Mark, Asks, Votes, Tells, Installs, Prepares, Promises, Course, Progress, Sets, members_at, IsFollowing}
 use Rattle.sc_live_steps.specs.following.LeaderTables.{IsLeadOf, progress_by, LeadsInto}

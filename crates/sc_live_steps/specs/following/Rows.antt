@@ -3,7 +3,7 @@ use Rattle.std.specs.Prelude.{◌≡◌, ℕ, zero, suc, ◌+◌, ◌<◌, ◌�
 use Rattle.sc_base.specs.Definitions.{Among, Each, IsRoster, is_member, least_of}
 use Rattle.sc_node_table.specs.Values.{Ballot}
 use Rattle.sc_node_table.specs.Definitions.{listed, slots_ahead}
-use Rattle.sc_paxos_words.specs.Definitions.{below}
+use Rattle.sc_words.specs.paxos.Definitions.{below}
 use Rattle.sc_live_steps.specs.following.MailUnderWay.{Mark, Asks, Votes, Tells, Installs, Prepares, Promises, next_by, promise_by, Course, Progress, Sets, members_at, IsOpen, IsInFlight, IsFollowing}
 
 -- A row of a node that takes a mail of the group, or none: the other nodes stay where they are, and what the row sends to each node is appended to its mail.

@@ -3,7 +3,7 @@ use Rattle.std.specs.Prelude.{◌≡◌, ℕ, suc, ◌+◌, ◌-◌, ◌^◌, �
 use Rattle.sc_node_table.specs.Values.{Ballot, Draw, Command, Base, Route, Mail, Prepare, Accept, Learn, Install}
 use Rattle.sc_base.specs.Definitions.{IsRoster, is_member, least_of}
 use Rattle.sc_node_table.specs.Definitions.{open_nodes, entered, learnt_to, welcomed, is_among, ReplicaState, Place, name_of, next, members, first_ballot, last_slot, mailed, made_by}
-use Rattle.sc_paxos_words.specs.Definitions.{new_leader}
+use Rattle.sc_words.specs.paxos.Definitions.{new_leader}
 use Rattle.sc_live_steps.specs.following.MailUnderWay.{Mark, Asks, Tells, Installs, Prepares, marks_of, next_by, promise_by, IsFit, Course, Sets, members_at}
 use Rattle.sc_live_steps.specs.following.Rows.{answered, reported_of}
 use Rattle.sc_law_walks.specs.Definitions.{GoesOn}

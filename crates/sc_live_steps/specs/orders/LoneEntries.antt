@@ -3,7 +3,7 @@ use Rattle.std.specs.Prelude.{◌≡◌, ℕ, true, false, [], ◌∷◌, List, 
 use Rattle.sc_base.specs.Definitions.{Drawer, next_name, is_member}
 use Rattle.sc_node_table.specs.Values.{Ballot, Draw, Command, Base, OrderLine, OrderRefusal, Accept, Accepted, Install, Learn, Nack, Prepare, Promise, Flight}
 use Rattle.sc_law_walks.specs.Definitions.{GoesOn}
-use Rattle.sc_machine_table.specs.Definitions.{applied}
+use Rattle.sc_group_table.specs.machine.Definitions.{applied}
 use Rattle.sc_node_table.specs.Definitions.{executed, ordered_command, ordered_row, untaken, ReplicaState, Place, next, listed, mailed, before_of, went_on}
 use Rattle.sc_live_steps.specs.orders.Scenes.{Work, IsOnly}
 use Rattle.sc_live_steps.specs.orders.Parts.{work_by, works_in, works, errands_for}

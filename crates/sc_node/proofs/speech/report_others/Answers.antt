@@ -1,5 +1,5 @@
 use Rattle.std.proofs.Common.{[], Option, ap, ◌∙◌}
-use Rattle.sc_cmd.specs.declared.orders.OrderResult.{OrderResult}
+use Rattle.sc_words.specs.declared.commands.orders.OrderResult.{OrderResult}
 use Rattle.sc_node_table.specs.Execute.{effect_reported}
 use Rattle.sc_node.proofs.Saying.{others_none}
 use Rattle.sc_node.proofs.speech.report_others.Goals as goal

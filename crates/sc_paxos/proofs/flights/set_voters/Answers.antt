@@ -1,5 +1,5 @@
 use Rattle.std.proofs.Common.{◌∙◌, sym, ap, position, set}
-use Rattle.sc_paxos_words.specs.declared.flights.Flight.{Flight}
+use Rattle.sc_words.specs.declared.paxos.flights.Flight.{Flight}
 use Rattle.sc_paxos.proofs.Places.{At, changed, at_place, at_none}
 use Rattle.sc_paxos.proofs.flights.set_voters.Goals as goal
 

@@ -1,7 +1,7 @@
 use Rattle.std.proofs.Common.{◌≡◌, ◌≤◌, ◌<◌, true, IfOk, sym, subst, All}
 use Rattle.sc_actor.specs.System.{are_apart}
-use Rattle.sc_drive.specs.Working.{HasOpened}
-use Rattle.sc_sound.specs.Players.{most_actor}
+use Rattle.sc_thread_drive.specs.Working.{HasOpened}
+use Rattle.sc_meaning.specs.sound.Players.{most_actor}
 use Rattle.sc_run.proofs.begun.begin.Goals as goal
 
 pub births-requires-clause-ordered : goal.births-requires-clause-ordered

@@ -1,7 +1,7 @@
 use Rattle.std.proofs.Common.{subst, sym, ◌∙◌, ap, refl, Some}
-use Rattle.sc_report.specs.Report.{report_lines}
+use Rattle.sc_scenario.specs.report.Report.{report_lines}
 use Rattle.std.specs.Prelude.{IfSome}
-use Rattle.sc_command_line.specs.Causes.{said_by}
+use Rattle.sc_cli.specs.Causes.{said_by}
 use Rattle.sc_run.specs.declared.done.Text.{Text}
 use Rattle.sc_run.specs.Played.{HasFilled, IsPlayed}
 use Rattle.sc_run.specs.Run.{Comes, ShowsReport, journal_limit}

@@ -1,6 +1,6 @@
 use Rattle.std.proofs.Common.{subst, sym, ◌∙◌, ap, refl, Some}
 use Rattle.std.specs.Prelude.{IfSome}
-use Rattle.sc_command_line.specs.Causes.{said_by}
+use Rattle.sc_cli.specs.Causes.{said_by}
 use Rattle.sc_run.specs.declared.done.Text.{Text}
 use Rattle.sc_run.specs.Played.{HasFilled, IsPlayed}
 use Rattle.sc_run.specs.Run.{Comes, ShowsFile, journal_limit}

@@ -1,5 +1,5 @@
 use Rattle.std.proofs.lemmas.Result.{IfOk-weaker}
-use Rattle.sc_edges.specs.Uses.{SourceUse}
+use Rattle.sc_texts.specs.edges.Uses.{SourceUse}
 use Rattle.sc_run.proofs.Readings.{explained, refused_explained}
 use Rattle.sc_run.proofs.saying.explain_input.Goals as goal
 

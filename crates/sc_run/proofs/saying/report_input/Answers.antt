@@ -1,5 +1,5 @@
 use Rattle.std.proofs.lemmas.Result.{IfOk-weaker}
-use Rattle.sc_edges.specs.Uses.{SourceUse}
+use Rattle.sc_texts.specs.edges.Uses.{SourceUse}
 use Rattle.sc_run.proofs.Readings.{reported, refused_scenario}
 use Rattle.sc_run.proofs.saying.report_input.Goals as goal
 

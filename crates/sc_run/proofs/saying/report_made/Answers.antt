@@ -1,8 +1,8 @@
 use Rattle.std.proofs.Common.{rules, ◌≡◌, subst}
 use Rattle.std.proofs.lemmas.Result.{IfOk-weaker}
-use Rattle.sc_scenario.specs.Made.{made_scenario}
-use Rattle.sc_scenario.specs.Valid.{IsValid}
-use Rattle.sc_scenario.specs.declared.scenarios.Scenario.{Scenario}
+use Rattle.sc_scenario.specs.scenario.Made.{made_scenario}
+use Rattle.sc_scenario.specs.scenario.Valid.{IsValid}
+use Rattle.sc_scenario.specs.declared.scenario.scenarios.Scenario.{Scenario}
 use Rattle.sc_run.specs.Run.{Comes, ShowsReport}
 use Rattle.sc_run.proofs.saying.report_made.Goals as goal
 

@@ -1,7 +1,7 @@
 use Rattle.std.proofs.Common.{subst, sym}
 use Rattle.std.proofs.lemmas.Result.{IfOk-weaker}
-use Rattle.sc_edges.specs.Uses.{SourceUse}
-use Rattle.sc_command_line.specs.Inputs.{ReadsText}
+use Rattle.sc_texts.specs.edges.Uses.{SourceUse}
+use Rattle.sc_cli.specs.Inputs.{ReadsText}
 use Rattle.sc_run.proofs.Readings.{stored, refused_text}
 use Rattle.sc_run.proofs.saying.store_input.Goals as goal
 

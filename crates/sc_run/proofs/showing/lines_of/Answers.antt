@@ -1,8 +1,8 @@
 use Rattle.std.proofs.Common.{take, drop, sym, subst}
 use Rattle.std.proofs.lemmas.List.{take-append-drop}
-use Rattle.sc_log_entries.specs.Worlds.{CoverThroughout}
-use Rattle.sc_sound.specs.GroupsOf.{entries_at}
-use Rattle.sc_sound.specs.Players.{as_nodes}
+use Rattle.sc_meaning.specs.entries.Worlds.{CoverThroughout}
+use Rattle.sc_meaning.specs.sound.GroupsOf.{entries_at}
+use Rattle.sc_meaning.specs.sound.Players.{as_nodes}
 use Rattle.sc_run.proofs.showing.lines_of.Goals as goal
 
 pub scan-requires : goal.scan-requires

@@ -1,14 +1,14 @@
 use Rattle.std.proofs.Common.{◌≡◌, List, length, take, subst, sym, ◌∙◌, ap, refl, Some}
 use Rattle.std.specs.Prelude.{IfSome}
 use Rattle.sc_actor.specs.declared.rows.Row.{Row}
-use Rattle.sc_cmd.specs.declared.orders.OrderLine.{OrderLine}
+use Rattle.sc_words.specs.declared.commands.orders.OrderLine.{OrderLine}
 use Rattle.sc_mail.specs.declared.bodies.Mail.{Mail}
-use Rattle.sc_scan.specs.Scan.{entries_in, scan_of}
-use Rattle.sc_scan.specs.Text.{scan_lines}
-use Rattle.sc_sound.specs.GroupsOf.{entries_at, world_at}
-use Rattle.sc_sound.specs.Players.{as_nodes}
-use Rattle.sc_sound.specs.Soundness.{IsSoundThroughout}
-use Rattle.sc_command_line.specs.Causes.{said_by}
+use Rattle.sc_world_entries.specs.scan.Scan.{entries_in, scan_of}
+use Rattle.sc_world_entries.specs.scan.Text.{scan_lines}
+use Rattle.sc_meaning.specs.sound.GroupsOf.{entries_at, world_at}
+use Rattle.sc_meaning.specs.sound.Players.{as_nodes}
+use Rattle.sc_meaning.specs.sound.Soundness.{IsSoundThroughout}
+use Rattle.sc_cli.specs.Causes.{said_by}
 use Rattle.sc_run.specs.declared.done.Text.{Text}
 use Rattle.sc_run.specs.Played.{HasFilled, HasPlayedToEnd, IsPlayed}
 use Rattle.sc_run.specs.Run.{Comes, journal_limit}

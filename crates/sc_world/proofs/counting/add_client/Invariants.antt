@@ -1,5 +1,5 @@
 use Rattle.std.proofs.Common.{◌≡◌, ◌++◌, drop}
-use Rattle.sc_sound.specs.Summary.{asked_from}
+use Rattle.sc_meaning.specs.sound.Summary.{asked_from}
 use Rattle.sc_world.proofs.counting.add_client.Given as goal
 
 -- what was added, and then what is left, are the requests

@@ -1,6 +1,6 @@
 use Rattle.std.proofs.Common.{◌≡◌, take}
 use Rattle.std.specs.List.{flat_map}
-use Rattle.sc_sound.specs.Summary.{asked_by}
+use Rattle.sc_meaning.specs.sound.Summary.{asked_by}
 use Rattle.sc_world.proofs.counting.all_asked.Given as goal
 
 -- the requests of the parties so far

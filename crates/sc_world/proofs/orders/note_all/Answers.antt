@@ -1,7 +1,7 @@
 use Rattle.std.proofs.Common.{◌≡◌, ◌+◌, ◌∷◌, ◌++◌, [], take, None, suc, sym, ap, ◌∙◌, arith, Option, get_or}
 use Rattle.std.proofs.Math.Seq.{take-suc}
 use Rattle.sc_mail.specs.declared.bodies.Mail.{Mail}
-use Rattle.sc_cmd.specs.declared.orders.OrderResult.{OrderResult}
+use Rattle.sc_words.specs.declared.commands.orders.OrderResult.{OrderResult}
 use Rattle.sc_node_table.specs.Replica.{either}
 use Rattle.sc_world.specs.Summary.{reported_in_mail, reported_of}
 use Rattle.sc_law_walks.proofs.Ways.{either_assoc}

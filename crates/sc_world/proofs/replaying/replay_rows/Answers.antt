@@ -1,7 +1,7 @@
 use Rattle.std.proofs.Common.{refl, subst}
-use Rattle.sc_replay.specs.Replays.{IsReplayed, IsBadRow, Leaves}
-use Rattle.sc_chance.specs.Words.{two_words}
-use Rattle.sc_sound.specs.Players.{as_nodes, system_of, schedule}
+use Rattle.sc_world_replay.specs.Replays.{IsReplayed, IsBadRow, Leaves}
+use Rattle.sc_texts.specs.chance.Words.{two_words}
+use Rattle.sc_meaning.specs.sound.Players.{as_nodes, system_of, schedule}
 use Rattle.sc_world.proofs.Held.{holds}
 use Rattle.sc_world.proofs.replaying.replay_rows.Goals as goal
 

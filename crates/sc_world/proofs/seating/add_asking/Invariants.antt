@@ -1,5 +1,5 @@
 use Rattle.std.proofs.Common.{◌≡◌, ◌++◌, map, take}
-use Rattle.sc_sound.specs.Players.{client_seat}
+use Rattle.sc_meaning.specs.sound.Players.{client_seat}
 use Rattle.sc_world.proofs.seating.add_asking.Given as goal
 
 -- the clients so far were added

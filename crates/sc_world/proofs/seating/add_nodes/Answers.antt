@@ -1,7 +1,7 @@
 use Rattle.std.proofs.Common.{◌≡◌, ◌∙◌, ◌+◌, ◌-◌, ◌<◌, ◌++◌, ◌∷◌, [], ℕ, List, map, sym, ap, append_assoc, arith}
 use Rattle.sc_actor.specs.declared.actors.Seat.{Seat}
 use Rattle.sc_node_table.specs.Slots.{numbers_from}
-use Rattle.sc_sound.specs.Players.{node_seat, Player, as_nodes}
+use Rattle.sc_meaning.specs.sound.Players.{node_seat, Player, as_nodes}
 use Rattle.sc_world.proofs.Numbers.{numbers_from-next}
 use Rattle.sc_world.proofs.seating.add_nodes.Goals as goal
 

@@ -1,6 +1,6 @@
 use Rattle.std.proofs.Common.{◌≡◌, ◌+◌, ◌-◌, ◌++◌, map}
 use Rattle.sc_node_table.specs.Slots.{numbers_from}
-use Rattle.sc_sound.specs.Players.{node_seat, as_nodes}
+use Rattle.sc_meaning.specs.sound.Players.{node_seat, as_nodes}
 use Rattle.sc_world.proofs.seating.add_nodes.Given as goal
 
 -- the nodes that are left make the whole

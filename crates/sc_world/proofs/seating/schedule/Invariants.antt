@@ -1,5 +1,5 @@
 use Rattle.std.proofs.Common.{◌≡◌, map, take}
-use Rattle.sc_sound.specs.Players.{line_of}
+use Rattle.sc_meaning.specs.sound.Players.{line_of}
 use Rattle.sc_world.proofs.seating.schedule.Given as goal
 
 -- the lines so far

@@ -1,5 +1,5 @@
 use Rattle.std.proofs.Common.{sym, subst}
-use Rattle.sc_log_entries.specs.Rings.{Covers}
+use Rattle.sc_meaning.specs.entries.Rings.{Covers}
 use Rattle.sc_world.proofs.Kept.{one_map, rings}
 use Rattle.sc_world.proofs.shown.decided_ring.Goals as goal
 

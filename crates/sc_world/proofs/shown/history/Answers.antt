@@ -1,5 +1,5 @@
 use Rattle.std.proofs.Common.{sym, subst}
-use Rattle.sc_ideal.specs.History.{Legal}
+use Rattle.sc_words.specs.ideal.History.{Legal}
 use Rattle.sc_world.proofs.Kept.{one_map, rings}
 use Rattle.sc_world.proofs.shown.history.Goals as goal
 

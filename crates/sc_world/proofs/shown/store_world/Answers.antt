@@ -1,5 +1,5 @@
 use Rattle.std.proofs.Common.{sym, subst, ◌∙◌}
-use Rattle.sc_log_entries.specs.Worlds.{CoverThroughout}
+use Rattle.sc_meaning.specs.entries.Worlds.{CoverThroughout}
 use Rattle.sc_world.proofs.shown.store_world.Goals as goal
 
 pub world_of-requires : goal.world_of-requires

@@ -2,9 +2,9 @@ use Rattle.std.proofs.Common.{◌≡◌, [], Option, Some, IfOk, IsOk, ap, sym, 
 use Rattle.sc_base.specs.declared.names.Draw.{Draw}
 use Rattle.sc_base.specs.Operation.{key_of}
 use Rattle.sc_base.specs.Text.{pos_of}
-use Rattle.sc_lookup.specs.Known.{chosen}
-use Rattle.sc_client_table.specs.Client.{waiting_request}
-use Rattle.sc_client_table.specs.Table.{chosen_for, sent_where}
+use Rattle.sc_client_table.specs.lookup.Known.{chosen}
+use Rattle.sc_client_table.specs.table.Client.{waiting_request}
+use Rattle.sc_client_table.specs.table.Table.{chosen_for, sent_where}
 use Rattle.sc_client.proofs.client.ClientCore.send.Goals as goal
 
 pub returns-clause-sent : goal.returns-clause-sent

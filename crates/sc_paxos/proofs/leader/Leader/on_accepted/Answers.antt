@@ -1,10 +1,10 @@
 use Rattle.std.proofs.Common.{rules, ◌≡◌, ◌∙◌, List, true, false, sym, subst, ap}
 use Rattle.std.specs.Option.{option_map}
 use Rattle.sc_base.specs.Definitions.{is_majority}
-use Rattle.sc_paxos_words.specs.declared.flights.Flight.{Flight}
-use Rattle.sc_paxos_words.specs.declared.answers.Counted.{Counted}
-use Rattle.sc_paxos_words.specs.declared.answers.Counted.TheVariants.{Chosen}
-use Rattle.sc_paxos_words.specs.Definitions.{LeaderState, flight_at, kept_voters, counted}
+use Rattle.sc_words.specs.declared.paxos.flights.Flight.{Flight}
+use Rattle.sc_words.specs.declared.paxos.answers.Counted.{Counted}
+use Rattle.sc_words.specs.declared.paxos.answers.Counted.TheVariants.{Chosen}
+use Rattle.sc_words.specs.paxos.Definitions.{LeaderState, flight_at, kept_voters, counted}
 use Rattle.sc_paxos.specs.Definitions.{IsOneEach}
 use Rattle.sc_paxos.proofs.Flying.{one_without, one_written}
 use Rattle.sc_paxos.proofs.Counting.{no_majority, majority, something}

@@ -1,8 +1,0 @@
-use Rattle.std.proofs.Common.{◌≡◌, false, take}
-use Rattle.std.specs.List.{list_any}
-use Rattle.sc_sound.specs.Accepts.{is_accepted}
-use Rattle.sc_chosen.proofs.accepting.says_accepted.Given as goal
-
--- none so far
-abbrev pub invariant-loop-mail : goal.invariant-loop-mail
-invariant-loop-mail l = list_any (λ mail. is_accepted l.group l.ballot l.slot mail.body) (take l.mail-index l.sent) ≡ false

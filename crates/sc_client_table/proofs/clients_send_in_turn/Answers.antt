@@ -1,5 +1,0 @@
-use Rattle.sc_client_table.proofs.TurnLemmas.{sends_in_turn}
-use Rattle.sc_client_table.proofs.clients_send_in_turn.Goals as goal
-
-pub returns : goal.returns
-returns c = sends_in_turn

@@ -1,7 +1,0 @@
-use Rattle.std.proofs.Common.{◌≡◌, take}
-use Rattle.sc_cmd.specs.Definitions.{capped, clients_weight}
-use Rattle.sc_cmd.proofs.weights.clients_weight.Given as goal
-
--- the weight of the entries so far
-abbrev pub invariant-loop-seen : goal.invariant-loop-seen
-invariant-loop-seen l = l.total ≡ capped (clients_weight (take l.seen-index l.seen-items))

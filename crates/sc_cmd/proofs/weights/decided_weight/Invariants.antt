@@ -1,8 +1,0 @@
-use Rattle.std.proofs.Common.{◌≡◌, take}
-use Rattle.std.specs.List.{sum_by}
-use Rattle.sc_cmd.specs.Definitions.{capped, decision_weight}
-use Rattle.sc_cmd.proofs.weights.decided_weight.Given as goal
-
--- the weight of the decisions so far
-abbrev pub invariant-loop-decision : goal.invariant-loop-decision
-invariant-loop-decision l = l.total ≡ capped (sum_by decision_weight (take l.decision-index l.decision-items))

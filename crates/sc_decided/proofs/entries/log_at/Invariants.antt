@@ -1,6 +1,0 @@
-use Rattle.std.proofs.Common.{◌≡◌, take}
-use Rattle.sc_decided.proofs.entries.log_at.Given as goal
-
--- the commands so far
-abbrev pub invariant-loop-command : goal.invariant-loop-command
-invariant-loop-command l = l.log.items ≡ take l.command-index l.found

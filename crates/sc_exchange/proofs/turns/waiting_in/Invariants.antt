@@ -1,6 +1,0 @@
-use Rattle.std.proofs.Common.{◌≡◌, take, map, is_some}
-use Rattle.sc_ledger.specs.Definitions.{kth_pending}
-use Rattle.sc_exchange.proofs.turns.waiting_in.Given as goal
-
-abbrev pub invariant-loop-who : goal.invariant-loop-who
-invariant-loop-who g l = l.waits.items ≡ map (λ who. is_some (kth_pending g.M.Parcel.receiver l.actors l.ledger.rows.items who 1)) (take l.who-index l.whos)

@@ -1,6 +1,0 @@
-use Rattle.std.proofs.Common.{ℕ, ap, ◌∙◌}
-use Rattle.sc_explain.proofs.RingGroups.{said_of_base}
-use Rattle.sc_explain.proofs.groups.said_by.Goals as goal
-
-pub returns : goal.returns
-returns c = λ group is. ap (λ (pairs : ℕ). record (said_of_base c.args.name c.args.base.now) { pairs = pairs }) c.len.ensures.len ∙ ap (said_of_base c.args.name) is

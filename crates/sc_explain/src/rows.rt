@@ -1,0 +1,10 @@
+//! What each row of a journal decided, in lines of JSON.
+mod adding;
+mod changes;
+mod counts;
+mod explaining;
+mod groups;
+mod said;
+mod taking;
+
+pub use explaining::explain;

@@ -1,3 +1,0 @@
-pub mod Itself
-mod Rings
-mod Whole

@@ -1,0 +1,2 @@
+pub mod StoreProofs
+pub mod TransactionsProofs

@@ -1,0 +1,4 @@
+pub mod Movers
+pub mod Moves
+pub mod Rising
+pub mod Totals

@@ -1,0 +1,2 @@
+pub mod MachineProofs
+pub mod PolicyProofs

@@ -1,5 +1,0 @@
-use Rattle.sc_ideal.proofs.Tables.{joined_by_number, joined_in_any_order}
-use Rattle.sc_ideal.proofs.tables_join_by_number.Goals as goal
-
-pub returns : goal.returns
-returns c = record { by_number = joined_by_number; any_order = joined_in_any_order }

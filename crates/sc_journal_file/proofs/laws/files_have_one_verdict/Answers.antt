@@ -1,5 +1,0 @@
-use Rattle.sc_journal_file.proofs.Verdicts.{one_verdict}
-use Rattle.sc_journal_file.proofs.laws.files_have_one_verdict.Goals as goal
-
-pub returns : goal.returns
-returns c = one_verdict c.row_texts_are_lines.ensures.one_line

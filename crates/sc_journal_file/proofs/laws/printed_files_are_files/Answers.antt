@@ -1,5 +1,0 @@
-use Rattle.sc_journal_file.proofs.Printed.{printed_files}
-use Rattle.sc_journal_file.proofs.laws.printed_files_are_files.Goals as goal
-
-pub returns : goal.returns
-returns c = printed_files c.row_texts_are_lines.ensures.one_line

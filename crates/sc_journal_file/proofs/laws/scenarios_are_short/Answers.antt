@@ -1,8 +1,0 @@
-use Rattle.std.proofs.Common.{length}
-use Rattle.std.proofs.lemmas.Bool.{ltb-false}
-use Rattle.sc_lines.specs.Lines.{most_bytes}
-use Rattle.sc_journal_file.proofs.NoDivider.{not_long}
-use Rattle.sc_journal_file.proofs.laws.scenarios_are_short.Goals as goal
-
-pub returns : goal.returns
-returns c = λ text scenario read. ltb-false most_bytes (length text) (not_long text scenario read)

@@ -1,0 +1,10 @@
+pub mod FirstBytes
+pub mod Dividers
+pub mod NoDivider
+pub mod OneFile
+pub mod Plain
+pub mod Printed
+pub mod Rows
+pub mod Verdicts
+pub mod WholeLines
+pub mod Feeds

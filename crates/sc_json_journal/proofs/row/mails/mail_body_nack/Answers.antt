@@ -1,0 +1,19 @@
+use Rattle.std.proofs.Common.{codes, ap}
+use Rattle.sc_mail.specs.declared.bodies.MailBody.TheVariants.{Nack}
+use Rattle.sc_json_text.specs.rows.Mails.{mail_body_json, FitsMailBody}
+use Rattle.sc_json_text.specs.rows.Shapes.{variant}
+use Rattle.sc_json_read.specs.Reading.{content_of}
+use Rattle.sc_json_read.proofs.Finding.{failed}
+use Rattle.sc_json_journal.proofs.row.mails.mail_body_nack.Goals as goal
+
+pub returns-in_err-group-clause-finds : goal.returns-in_err-group-clause-finds
+unfolding mail_body_json FitsMailBody
+returns-in_err-group-clause-finds c = λ group promised fits e. failed _ _ _ c.from_residual.ensures (c.in_err-group.ensures.finds group promised fits.0 fits.1 (ap content_of e))
+
+pub returns-clause-finds : goal.returns-clause-finds
+unfolding mail_body_json FitsMailBody
+returns-clause-finds c = λ group promised fits e. ap (λ p. Nack p.0 p.1) (c.in_ok-group.ensures.finds group promised fits.0 fits.1 (ap content_of e))
+
+pub returns-clause-exact : goal.returns-clause-exact
+unfolding mail_body_json
+returns-clause-exact c = ap (variant (codes "Nack")) c.in_ok-group.ensures.exact

@@ -1,0 +1,2 @@
+pub mod row
+pub mod file

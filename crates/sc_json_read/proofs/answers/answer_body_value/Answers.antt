@@ -1,0 +1,19 @@
+use Rattle.std.proofs.Common.{codes, ap}
+use Rattle.sc_mail.specs.declared.bodies.AnswerBody.TheVariants.{Value}
+use Rattle.sc_json_text.specs.rows.Answers.{answer_body_json, FitsAnswerBody}
+use Rattle.sc_json_text.specs.rows.Shapes.{variant}
+use Rattle.sc_json_read.specs.Reading.{content_of}
+use Rattle.sc_json_read.proofs.Finding.{failed}
+use Rattle.sc_json_read.proofs.answers.answer_body_value.Goals as goal
+
+pub returns-in_err-inner-clause-finds : goal.returns-in_err-inner-clause-finds
+unfolding answer_body_json FitsAnswerBody
+returns-in_err-inner-clause-finds c = λ inner fits e. failed _ _ _ c.from_residual.ensures (c.in_err-inner.ensures.finds inner fits (ap content_of e))
+
+pub returns-clause-finds : goal.returns-clause-finds
+unfolding answer_body_json FitsAnswerBody
+returns-clause-finds c = λ inner fits e. ap Value (c.in_ok-inner.ensures.finds inner fits (ap content_of e))
+
+pub returns-clause-exact : goal.returns-clause-exact
+unfolding answer_body_json
+returns-clause-exact c = ap (variant (codes "Value")) c.in_ok-inner.ensures.exact

@@ -1,0 +1,19 @@
+use Rattle.std.proofs.Common.{codes, ap}
+use Rattle.sc_words.specs.declared.commands.bodies.Body.TheVariants.{Repart}
+use Rattle.sc_json_text.specs.rows.Bodies.{body_json, FitsBody}
+use Rattle.sc_json_text.specs.rows.Shapes.{variant}
+use Rattle.sc_json_read.specs.Reading.{content_of}
+use Rattle.sc_json_read.proofs.Finding.{failed}
+use Rattle.sc_json_read.proofs.bodies.body_repart.Goals as goal
+
+pub returns-in_err-at-clause-finds : goal.returns-in_err-at-clause-finds
+unfolding body_json FitsBody
+returns-in_err-at-clause-finds c = λ at fits e. failed _ _ _ c.from_residual.ensures (c.in_err-at.ensures.finds at fits (ap content_of e))
+
+pub returns-clause-finds : goal.returns-clause-finds
+unfolding body_json FitsBody
+returns-clause-finds c = λ at fits e. ap Repart (c.in_ok-at.ensures.finds at fits (ap content_of e))
+
+pub returns-clause-exact : goal.returns-clause-exact
+unfolding body_json
+returns-clause-exact c = ap (variant (codes "Repart")) c.in_ok-at.ensures.exact

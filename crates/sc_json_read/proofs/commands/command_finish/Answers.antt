@@ -1,0 +1,19 @@
+use Rattle.std.proofs.Common.{codes, ap}
+use Rattle.sc_words.specs.declared.commands.commands.Command.TheVariants.{Finish}
+use Rattle.sc_json_text.specs.rows.Commands.{command_json, FitsCommand}
+use Rattle.sc_json_text.specs.rows.Shapes.{variant}
+use Rattle.sc_json_read.specs.Reading.{content_of}
+use Rattle.sc_json_read.proofs.Finding.{failed}
+use Rattle.sc_json_read.proofs.commands.command_finish.Goals as goal
+
+pub returns-in_err-outcome-clause-finds : goal.returns-in_err-outcome-clause-finds
+unfolding command_json FitsCommand
+returns-in_err-outcome-clause-finds c = λ tx outcome fits e. failed _ _ _ c.from_residual.ensures (c.in_err-outcome.ensures.finds outcome tx fits.0 fits.1 (ap content_of e))
+
+pub returns-clause-finds : goal.returns-clause-finds
+unfolding command_json FitsCommand
+returns-clause-finds c = λ tx outcome fits e. ap (λ p. Finish p.1 p.0) (c.in_ok-outcome.ensures.finds outcome tx fits.0 fits.1 (ap content_of e))
+
+pub returns-clause-exact : goal.returns-clause-exact
+unfolding command_json
+returns-clause-exact c = ap (variant (codes "Finish")) c.in_ok-outcome.ensures.exact

@@ -1,0 +1,19 @@
+use Rattle.std.proofs.Common.{codes, ap}
+use Rattle.sc_words.specs.declared.commands.cores.Lock.TheVariants.{Promised}
+use Rattle.sc_json_text.specs.rows.Cores.{lock_json, FitsLock}
+use Rattle.sc_json_text.specs.rows.Shapes.{variant}
+use Rattle.sc_json_read.specs.Reading.{content_of}
+use Rattle.sc_json_read.proofs.Finding.{failed}
+use Rattle.sc_json_read.proofs.cores.lock_promised.Goals as goal
+
+pub returns-in_err-offer-clause-finds : goal.returns-in_err-offer-clause-finds
+unfolding lock_json FitsLock
+returns-in_err-offer-clause-finds c = λ tx offer fits e. failed _ _ _ c.from_residual.ensures (c.in_err-offer.ensures.finds offer tx fits.0 fits.1 (ap content_of e))
+
+pub returns-clause-finds : goal.returns-clause-finds
+unfolding lock_json FitsLock
+returns-clause-finds c = λ tx offer fits e. ap (λ p. Promised p.1 p.0) (c.in_ok-offer.ensures.finds offer tx fits.0 fits.1 (ap content_of e))
+
+pub returns-clause-exact : goal.returns-clause-exact
+unfolding lock_json
+returns-clause-exact c = ap (variant (codes "Promised")) c.in_ok-offer.ensures.exact

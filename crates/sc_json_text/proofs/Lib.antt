@@ -1,0 +1,2 @@
+pub mod PlainProofs
+pub mod RowsProofs

@@ -1,6 +1,0 @@
-use Rattle.std.proofs.Common.{◌≡◌, take}
-use Rattle.sc_ledger.specs.Definitions.{copies_in}
-use Rattle.sc_ledger.proofs.picking.each_once.Given as goal
-
-abbrev pub invariant-loop-number : goal.invariant-loop-number
-invariant-loop-number l = copies_in l.copies.items ≡ take l.number-index l.numbers

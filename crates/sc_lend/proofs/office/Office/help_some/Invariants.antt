@@ -1,5 +1,0 @@
-use Rattle.sc_lend.specs.Definitions.{IsHelperOf}
-use Rattle.sc_lend.proofs.office.Office.help_some.Given as goal
-
-abbrev pub invariant-loop : goal.invariant-loop
-invariant-loop g l = IsHelperOf l.self l.helper

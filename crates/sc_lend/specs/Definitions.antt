@@ -1,3 +1,0 @@
--- The definitions of this crate that other crates cite, under one name.
-pub use Rattle.sc_lend.specs.Lending.{lender, helper, with_lent, with_held, with_back, IsLoan, AllLoans, Knows, Lent, IsOut, Taken, MayGiveBack, Finished, IsLeft, IsLentUnder, IsLonger}
-pub use Rattle.sc_lend.specs.Offices.{IsLenderOf, collected_by, lent_by, IsHelperOf}

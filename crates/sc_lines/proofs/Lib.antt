@@ -1,4 +1,0 @@
-pub mod Choices
-pub mod Cuts
-mod Lists
-pub mod Lemmas

@@ -1,7 +1,0 @@
-use Rattle.std.proofs.Common.{◌≡◌, map, take}
-use Rattle.sc_machine_table.specs.Definitions.{closed}
-use Rattle.sc_machine.proofs.parties.closed_votes.Given as goal
-
--- the votes so far
-abbrev pub invariant-loop-vote : goal.invariant-loop-vote
-invariant-loop-vote l = l.after ≡ map (closed l.tx) (take l.vote-index l.votes)

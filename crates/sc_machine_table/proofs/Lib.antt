@@ -1,5 +1,0 @@
-pub mod Parts
-mod Runs
-pub mod LogLemmas
-mod TransactionRuns
-pub mod Lemmas

@@ -1,5 +1,0 @@
-//! The transition table of a group's state machine: the group after an executed command, and the
-//! effect of the command. Definitions, no logic.
-#![tactic(auto)]
-
-pub use sc_cmd::Effect;

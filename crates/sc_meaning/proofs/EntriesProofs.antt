@@ -1,0 +1,13 @@
+pub mod Children
+pub mod Names
+pub mod Nothing
+pub mod Pushes
+pub mod WorkedBoundaries
+pub mod WorkedCalls
+pub mod WorkedCovers
+pub mod WorkedMerges
+pub mod WorkedMoves
+pub mod WorkedPairs
+pub mod WorkedSplits
+pub mod Worked
+pub mod Lemmas

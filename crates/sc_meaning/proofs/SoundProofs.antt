@@ -1,0 +1,6 @@
+pub mod EntryRows
+pub mod Example
+pub mod Rows
+pub mod WorkedOrder
+pub mod WorkedSplit
+pub mod Lemmas

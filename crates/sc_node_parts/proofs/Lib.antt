@@ -1,0 +1,2 @@
+pub mod ReplicaProofs
+pub mod TransactionsProofs

@@ -1,0 +1,4 @@
+pub mod Silence
+pub mod Requests
+pub mod Places
+pub mod SlotMaps

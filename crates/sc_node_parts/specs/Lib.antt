@@ -1,0 +1,2 @@
+pub mod replica
+pub mod transactions

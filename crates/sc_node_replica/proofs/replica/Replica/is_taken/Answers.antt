@@ -1,0 +1,8 @@
+use Rattle.std.proofs.Common.{ap, is_some}
+use Rattle.sc_node_replica.proofs.replica.Replica.is_taken.Goals as goal
+
+pub returns-in-Some : goal.returns-in-Some
+returns-in-Some c = ap is_some c.in-Some.ensures
+
+pub returns-in-None : goal.returns-in-None
+returns-in-None c = ap is_some c.in-None.ensures

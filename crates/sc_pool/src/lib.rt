@@ -1,8 +1,0 @@
-//! A pool: workers take the shells of many actors from one ruled queue.
-#![tactic(auto)]
-
-mod holders;
-mod pool;
-
-pub use holders::shells_have_one_holder;
-pub use pool::pool_rounds;

@@ -1,9 +1,0 @@
-use Rattle.std.proofs.Common.{◌≡◌, vec_len}
-use Rattle.sc_queue.specs.Definitions.{AllFree}
-use Rattle.sc_queue.proofs.hands.vacant.Given as goal
-
-abbrev pub invariant-loop : goal.invariant-loop
-invariant-loop g l = record {
-  len : vec_len l.slots ≡ l.counter;
-  free : AllFree l.slots.items;
-}

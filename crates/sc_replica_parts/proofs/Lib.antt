@@ -1,4 +1,0 @@
-pub mod Silence
-mod Requests
-mod Places
-mod SlotMaps

@@ -1,6 +1,0 @@
-use Rattle.std.proofs.Common.{[], ◌∙◌}
-use Rattle.sc_replica_parts.proofs.Silence.{dismissed-unreported}
-use Rattle.sc_replica_parts.proofs.mails.dismiss.Goals as goal
-
-pub returns-in_default-clause-none : goal.returns-in_default-clause-none
-returns-in_default-clause-none c = λ e. c.report_order.ensures.unreported (c.order_number.ensures ∙ dismissed-unreported c.args.me c.args.group c.args.hint c.args.body.now c.args.command.now [] e)

@@ -1,6 +1,0 @@
-use Rattle.std.proofs.Common.{[], ◌∙◌}
-use Rattle.sc_replica_parts.proofs.Silence.{sent_all-none}
-use Rattle.sc_replica_transactions.proofs.endings.abort_to.Goals as goal
-
-pub returns-clause-none : goal.returns-clause-none
-returns-clause-none c = λ e. c.send_aborts.ensures.none (c.as_slice.ensures.same ∙ sent_all-none c.args.me c.args.link.now.members _ [] e)

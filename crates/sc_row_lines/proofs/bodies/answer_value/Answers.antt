@@ -1,5 +1,0 @@
-use Rattle.sc_row_lines.proofs.AnswerTexts.{value_begins}
-use Rattle.sc_row_lines.proofs.bodies.answer_value.Goals as goal
-
-pub returns : goal.returns
-returns c = value_begins _ _ _ c.in_ok-content.ensures.only c.in_ok-content.ensures.text

@@ -1,5 +1,0 @@
-use Rattle.sc_row_lines.proofs.BodyTexts.{answer_begins}
-use Rattle.sc_row_lines.proofs.bodies.body_answer.Goals as goal
-
-pub returns : goal.returns
-returns c = answer_begins _ _ _ _ _ c.in_ok-answer.ensures.a c.in_ok-answer.ensures.b c.in_ok-answer.ensures.c c.in_ok-answer.ensures.text

@@ -1,5 +1,0 @@
-use Rattle.sc_row_lines.proofs.ReportTexts.{promise_begins}
-use Rattle.sc_row_lines.proofs.bodies.body_promise.Goals as goal
-
-pub returns : goal.returns
-returns c = promise_begins _ _ _ _ _ c.in_ok-ballot.ensures.a c.in_ok-ballot.ensures.b c.in_ok-ballot.ensures.c c.in_ok-ballot.ensures.text

@@ -1,5 +1,0 @@
-use Rattle.sc_row_lines.proofs.OpTexts.{reply_begins}
-use Rattle.sc_row_lines.proofs.ops.ReplyFromText.take.Goals as goal
-
-pub returns : goal.returns
-returns c = reply_begins _ _ _ c.in_ok-old.ensures.only c.in_ok-old.ensures.text

@@ -1,5 +1,0 @@
-use Rattle.sc_row_lines.proofs.RowTexts.{go_begins}
-use Rattle.sc_row_lines.proofs.rows.event_go.Goals as goal
-
-pub returns : goal.returns
-returns c = go_begins _ _ c.in_ok-rest.ensures

@@ -1,5 +1,0 @@
-use Rattle.sc_row_lines.proofs.RowTexts.{tick_begins}
-use Rattle.sc_row_lines.proofs.rows.event_tick.Goals as goal
-
-pub returns : goal.returns
-returns c = tick_begins _ _ c.in_ok-rest.ensures

@@ -1,0 +1,11 @@
+pub mod Clients
+pub mod Made
+pub mod Records
+pub mod Results
+pub mod Rosters
+pub mod Short
+pub mod Spelled
+pub mod Starts
+pub mod Texts
+pub mod Verdicts
+pub mod Lemmas

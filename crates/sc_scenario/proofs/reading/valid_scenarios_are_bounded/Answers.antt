@@ -1,5 +1,0 @@
-use Rattle.sc_scenario.proofs.Texts.{texts_bounded}
-use Rattle.sc_scenario.proofs.reading.valid_scenarios_are_bounded.Goals as goal
-
-pub returns : goal.returns
-returns c = texts_bounded

@@ -1,8 +1,0 @@
-//! An actor with its port: what it does at a turn, and at an event.
-#![tactic(auto)]
-
-mod shells;
-mod turns;
-
-pub use shells::Shell;
-pub use turns::Turn;

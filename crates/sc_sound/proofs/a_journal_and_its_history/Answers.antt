@@ -1,5 +1,0 @@
-use Rattle.sc_sound.proofs.Example.{example_is_told}
-use Rattle.sc_sound.proofs.a_journal_and_its_history.Goals as goal
-
-pub returns-clause-history : goal.returns-clause-history
-returns-clause-history c = example_is_told

@@ -1,7 +1,0 @@
-use Rattle.std.proofs.Common.{◌≡◌, map, take}
-use Rattle.sc_machine_table.specs.Group.{group_of}
-use Rattle.sc_store_world.proofs.groups.born.Given as goal
-
--- the groups so far
-abbrev pub invariant-loop-base : goal.invariant-loop-base
-invariant-loop-base l = l.groups.items ≡ map group_of (take l.base-index l.bases)

@@ -1,7 +1,0 @@
-use Rattle.std.proofs.Common.{◌≡◌, take, not, filter}
-use Rattle.sc_log_entries.specs.Rings.{is_cut_of, recut}
-use Rattle.sc_store_world.proofs.rings.merged.Given as goal
-
--- the cuts so far
-abbrev pub invariant-loop-cut : goal.invariant-loop-cut
-invariant-loop-cut l = l.after.items ≡ recut l.coordinator l.whole (filter (λ cut. not (is_cut_of l.participant cut)) (take l.cut-index l.ring))

@@ -1,6 +1,0 @@
-use Rattle.std.proofs.Common.{◌≡◌, take}
-use Rattle.sc_store_world.proofs.spans.spans_of.Given as goal
-
--- the cuts so far
-abbrev pub invariant-loop-cut : goal.invariant-loop-cut
-invariant-loop-cut l = l.spans.items ≡ take l.cut-index l.ring

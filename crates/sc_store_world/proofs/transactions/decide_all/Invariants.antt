@@ -1,8 +1,0 @@
-use Rattle.std.proofs.Common.{◌≡◌, if◌then◌else◌, Some}
-use Rattle.sc_log_entries.specs.Decisions.{is_of, with_outcome}
-use Rattle.sc_store_world.proofs.Changes.{changed}
-use Rattle.sc_store_world.proofs.transactions.decide_all.Given as goal
-
--- those so far are changed
-abbrev pub invariant-loop-transaction : goal.invariant-loop-transaction
-invariant-loop-transaction l = l.transactions ≡ changed (λ transaction. if is_of l.tx l.coordinator transaction then with_outcome (Some l.outcome) transaction else transaction) l.transaction-index l.initial.transactions

@@ -1,0 +1,3 @@
+pub mod ChanceProofs
+pub mod EdgesProofs
+pub mod LinesProofs

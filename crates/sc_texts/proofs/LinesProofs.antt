@@ -1,0 +1,4 @@
+pub mod Choices
+pub mod Cuts
+pub mod Lists
+pub mod Lemmas

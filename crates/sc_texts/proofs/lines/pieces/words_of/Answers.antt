@@ -1,0 +1,12 @@
+use Rattle.std.proofs.Common.{rules, tests, not, ◌==◌, ◌||◌}
+use Rattle.std.proofs.lemmas.Iterator.Consumers.{map_from_collect, YieldsList-at, YieldsList-from_filter}
+use Rattle.std.proofs.lemmas.Iterator.Splits.{YieldsList-from_slice_split}
+use Rattle.sc_texts.specs.lines.Definitions.{is_empty}
+use Rattle.sc_texts.proofs.lines.pieces.words_of.Goals as goal
+
+pub returns : goal.returns
+returns c =
+    map_from_collect _ c.collect.ensures.ran
+    (YieldsList-from_filter _ (λ word. not (is_empty word))
+    (YieldsList-at c.filter.ensures.source (YieldsList-from_slice_split _ (λ byte. (byte == 32) || (byte == 9)) c.args.line.now c.split.ensures.rest c.split.ensures.done c.split.ensures.closure (λ x r q k. search (rules, tests))))
+    c.filter.ensures.closure (λ x r q k. search (rules, tests)))

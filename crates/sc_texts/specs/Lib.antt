@@ -1,0 +1,3 @@
+pub mod chance
+pub mod edges
+pub mod lines

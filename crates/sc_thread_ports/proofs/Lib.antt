@@ -1,0 +1,2 @@
+pub mod TurnProofs
+pub mod ExchangeProofs

@@ -1,0 +1,11 @@
+use Rattle.std.proofs.Common.{◌∙◌, inr}
+use Rattle.sc_thread_ports.specs.turn.Definitions.{known}
+use Rattle.sc_thread_ports.specs.exchange.Definitions.{bare_rows}
+use Rattle.sc_thread_ports.proofs.ExchangeProofs.Done.{left_row}
+use Rattle.sc_thread_ports.proofs.exchange.turns.keep_row.Goals as goal
+
+pub leave-requires-clause-list : goal.leave-requires-clause-list
+leave-requires-clause-list g c = inr c.requires.list
+
+pub returns-clause-view : goal.returns-clause-view
+returns-clause-view g c = λ bare is. c.leave.ensures.view ∙ left_row (known c.args.seat.now) (bare_rows c.args.exchange.ledger.value.rows.items) bare is

@@ -1,0 +1,16 @@
+use Rattle.std.proofs.Common.{ap, sym, ◌∙◌}
+use Rattle.sc_thread_ports.specs.turn.Definitions.{known}
+use Rattle.sc_thread_ledger.specs.Definitions.{kth_pending}
+use Rattle.sc_thread_ports.proofs.ExchangeProofs.Views.{seen_same}
+use Rattle.sc_thread_ports.proofs.ExchangeProofs.Seats.{seat_looked}
+use Rattle.sc_thread_ports.proofs.exchange.turns.kth_at.Goals as goal
+
+pub returns-clause-kth : goal.returns-clause-kth
+returns-clause-kth g c =
+    c.kth-found.ensures.kth
+    ∙ (ap (λ ledger. kth_pending g.M.Parcel.receiver c.args.actors ledger.rows.items c.args.who c.args.k) c.deref.ensures
+    ∙ ap (λ l. kth_pending g.M.Parcel.receiver c.args.actors l c.args.who c.args.k) (sym (seen_same (known c.args.seat.now) (known c.enter-exchange.new.self) (known c.keep_same.new.seat) c.enter-exchange.result.ledger.value.rows.items c.enter-exchange.ensures.view c.keep_same.ensures.view)))
+
+pub returns-clause-looked : goal.returns-clause-looked
+returns-clause-looked g c = let e = c.enter-exchange.ensures in
+    seat_looked c.args.seat.now c.enter-exchange.new.self c.keep_same.new.seat c.enter-exchange.result.ledger.value.rows.items e.start c.keep_same.ensures.start e.view e.later e.facts c.keep_same.ensures.view c.enter-exchange.result.addressed

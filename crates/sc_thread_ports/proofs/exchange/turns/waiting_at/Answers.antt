@@ -1,0 +1,18 @@
+use Rattle.std.proofs.Common.{◌≡◌, ap, ◌∙◌, sym, subst, map, is_some}
+use Rattle.sc_thread_ports.specs.turn.Definitions.{known}
+use Rattle.sc_thread_ledger.specs.Definitions.{kth_pending}
+use Rattle.sc_thread_ports.proofs.ExchangeProofs.Results.{ok_maps}
+use Rattle.sc_thread_ports.proofs.ExchangeProofs.Views.{seen_same}
+use Rattle.sc_thread_ports.proofs.ExchangeProofs.Seats.{seat_looked}
+use Rattle.sc_thread_ports.proofs.exchange.turns.waiting_at.Goals as goal
+
+pub returns-clause-waiting : goal.returns-clause-waiting
+returns-clause-waiting g c =
+    ok_maps c.waiting_in-waits.result
+    (λ waits p. subst (λ l. waits.items ≡ map (λ who. is_some (kth_pending g.M.Parcel.receiver c.args.actors l who 1)) c.args.whos.now)
+    (ap (λ ledger. ledger.rows.items) c.deref.ensures ∙ sym (seen_same (known c.args.seat.now) (known c.enter-exchange.new.self) (known c.keep_same.new.seat) c.enter-exchange.result.ledger.value.rows.items c.enter-exchange.ensures.view c.keep_same.ensures.view)) p)
+    c.waiting_in-waits.ensures.waiting
+
+pub returns-clause-looked : goal.returns-clause-looked
+returns-clause-looked g c = let e = c.enter-exchange.ensures in
+    seat_looked c.args.seat.now c.enter-exchange.new.self c.keep_same.new.seat c.enter-exchange.result.ledger.value.rows.items e.start c.keep_same.ensures.start e.view e.later e.facts c.keep_same.ensures.view c.enter-exchange.result.addressed

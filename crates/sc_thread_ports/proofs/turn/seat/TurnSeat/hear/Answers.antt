@@ -1,0 +1,16 @@
+use Rattle.std.proofs.Common.{rules, ap, ◌∙◌}
+use Rattle.sc_thread_ports.proofs.TurnProofs.Keeps.{notes, tells, looks}
+use Rattle.sc_thread_ports.proofs.TurnProofs.Leaving.{true_of_seen}
+use Rattle.sc_thread_ports.proofs.turn.seat.TurnSeat.hear.Goals as goal
+
+pub split_seat-note-requires : goal.split_seat-note-requires
+split_seat-note-requires g c = (search rules, search rules, notes g.T.Listed.entries _ _)
+
+pub join_seat-requires : goal.join_seat-requires
+join_seat-requires g c = (search rules, search rules, search rules, search rules, tells g.T.Listed.entries _ _ _ _ (ap (λ m. m.0.turn) c.split_seat-note.ensures.4))
+
+pub load-requires : goal.load-requires
+load-requires g c = (search rules, search rules, looks g.T.Listed.entries _ _ _)
+
+pub returns-clause-facts : goal.returns-clause-facts
+returns-clause-facts g c = true_of_seen g.T.Listed.entries _ _ c.load.ensures.2 (ap (λ m. m.0.live) c.join_seat.ensures.2 ∙ c.args.self.now.numbered.0)

@@ -1,0 +1,2 @@
+pub mod turn
+pub mod exchange

@@ -1,0 +1,3 @@
+pub mod ShellProofs
+pub mod QueueProofs
+pub mod LendProofs

@@ -1,0 +1,5 @@
+use Rattle.sc_thread_work.specs.lend.Definitions.{IsHelperOf}
+use Rattle.sc_thread_work.proofs.lend.office.Office.help_some.Given as goal
+
+abbrev pub invariant-loop : goal.invariant-loop
+invariant-loop g l = IsHelperOf l.self l.helper

@@ -1,0 +1,3 @@
+pub mod shell
+pub mod queue
+pub mod lend

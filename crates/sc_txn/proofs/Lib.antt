@@ -1,4 +1,0 @@
-pub mod Movers
-pub mod Moves
-mod Rising
-pub mod Totals

@@ -1,0 +1,3 @@
+pub mod IdealProofs
+pub mod CommandsProofs
+pub mod PaxosProofs

@@ -1,0 +1,3 @@
+pub mod ideal
+pub mod commands
+pub mod paxos

@@ -1,6 +1,0 @@
-use Rattle.std.proofs.Common.{vec_len}
-use Rattle.sc_workers.proofs.lending.+apart.Given as goal
-
--- each run that is cut off leaves fewer
-abbrev pub decreases-apart : goal.decreases-apart
-decreases-apart g l = vec_len l.shells.now

@@ -1,4 +1,0 @@
-use Rattle.sc_workers.proofs.lending.fetch.Goals as goal
-
-pub collect-requires-clause-leaves : goal.collect-requires-clause-leaves
-collect-requires-clause-leaves g c = λ x y r. r.met

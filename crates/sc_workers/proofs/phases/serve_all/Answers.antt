@@ -1,4 +1,0 @@
-use Rattle.sc_workers.proofs.phases.serve_all.Goals as goal
-
-pub returns-clause-each : goal.returns-clause-each
-returns-clause-each g c = λ k d e lt. (c.in_ok-all.ensures.each k d e lt).met

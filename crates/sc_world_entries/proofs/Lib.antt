@@ -1,0 +1,2 @@
+pub mod DecidedProofs
+pub mod ScanProofs

@@ -1,0 +1,22 @@
+use Rattle.std.proofs.Common.{◌++◌, List, length, refl, ap, ◌∙◌}
+use Rattle.std.specs.List.{flat_map}
+use Rattle.sc_meaning.specs.declared.entries.LogEntry.{LogEntry}
+use Rattle.sc_world_entries.specs.decided.Found.{log_kept, grown_by}
+use Rattle.sc_world_logs.specs.declared.known.Known.{Known}
+use Rattle.sc_world_entries.proofs.DecidedProofs.Gained.{one_accepted}
+use Rattle.sc_world_entries.proofs.decided.entries.after_acceptance.Goals as goal
+
+pub returns-then-not-calm : goal.returns-then-not-calm
+returns-then-not-calm c = λ row is adds found. (c.in_ok-found.ensures.0, c.in_ok-found.ensures.1 row is)
+
+pub returns : goal.returns
+returns c = λ row is adds found.
+    let entries = c.args.entries.now.items in
+    let count = ap length (c.log_in-count.ensures ∙ ap (log_kept c.args.name) c.as_slice-kept.ensures.value) in
+    let stay = c.in_ok-calm.ensures c.if-not-calm.false c.args.before.now c.args.after.now adds found.known.each in
+    let goes = one_accepted c.args.bases.now c.args.before.now c.args.after.now row c.args.name c.args.acceptance.now c.args.knowns.items c.take_all.new.knowns.items _ is adds found.known (found.settled refl) stay count in (
+      record { known = goes.known; settled = λ t. goes.settled },
+      c.in_ok-add_grown.ensures
+          ∙ ap (λ (ks : List Known). entries ++ flat_map (grown_by c.args.name (length c.log_in-count.result.now) (log_kept c.args.name ks)) ks) c.as_slice-later.ensures.value
+          ∙ ap (λ (more : List LogEntry). entries ++ more) goes.entries,
+    )

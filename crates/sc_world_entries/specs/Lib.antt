@@ -1,0 +1,2 @@
+pub mod decided
+pub mod scan

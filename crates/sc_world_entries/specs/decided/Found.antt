@@ -1,0 +1,53 @@
+-- The groups that rows decide, each with what is kept of it, and the entries that one more row adds.
+use Rattle.std.specs.Prelude.{◌≡◌, ℕ, ◌+◌, ◌-◌, Bool, List, [], drop, map, find, true, if◌then◌else◌, Option, Some, None}
+use Rattle.sc_base.specs.Among.{Each}
+use Rattle.sc_base.specs.Same.{same_draw}
+use Rattle.sc_base.specs.declared.names.Draw.{Draw}
+use Rattle.sc_words.specs.declared.commands.commands.Command.{Command}
+use Rattle.sc_words.specs.declared.commands.cores.Base.{Base}
+use Rattle.sc_words.specs.declared.commands.orders.OrderLine.{OrderLine}
+use Rattle.sc_mail.specs.declared.bodies.Mail.{Mail}
+use Rattle.sc_actor.specs.declared.rows.Row.{Row}
+use Rattle.sc_meaning.specs.sound.Players.{as_nodes}
+use Rattle.sc_meaning.specs.declared.entries.LogEntry.{LogEntry}
+use Rattle.sc_meaning.specs.sound.GroupsOf.{children_by, groups_at, with_next_children, entries_from, entries_after}
+use Rattle.sc_world_logs.specs.declared.known.Known.{Known}
+use Rattle.sc_world_entries.specs.declared.decided.births.Groups.{Groups}
+use Rattle.sc_world_logs.specs.Known.{IsKnown}
+
+-- the log that is kept of a group, if the group was found, and else the empty log
+abbrev pub kept_log : Option Known → List Command
+kept_log None = []
+kept_log (Some known) = known.log.items
+
+-- whether what is kept is about the group with a name
+abbrev pub is_kept_of : Draw → Known → Bool
+is_kept_of name known = same_draw known.base.core.id name
+
+-- the log that is kept of the group with a name
+abbrev pub log_kept : Draw → List Known → List Command
+log_kept name knowns = kept_log (find (is_kept_of name) knowns)
+
+-- What is kept is about these groups, in their order, and says of each what the rows say.
+pub record AreKnown (rows : List (Row Mail OrderLine)) (bases : List Base) (knowns : List Known) : Type 0 where
+  pub bases_are : map (λ known. known.base) knowns ≡ bases
+  pub each : Each (IsKnown rows) knowns
+
+-- What is kept later is about the same groups and says what the longer rows say, and the logs of these groups create the same children in both.
+pub record StayKnown (rows after : List (Row Mail OrderLine)) (knowns later : List Known) : Type 0 where
+  pub same : map (λ known. known.base) later ≡ map (λ known. known.base) knowns
+  pub each : Each (IsKnown after) later
+  pub children : Each (λ base. children_by as_nodes after base ≡ children_by as_nodes rows base) (map (λ known. known.base) knowns)
+
+-- the entries that the log of a group has gained, by what was kept of all groups before and what is kept now
+abbrev pub new_entries : List Known → List Known → Known → List LogEntry
+new_entries before after known = entries_after known.base.core.id (log_kept known.base.core.id before) (log_kept known.base.core.id after)
+
+-- the entries of this log behind its first `count`, where what is kept is about the group with a name
+abbrev pub grown_by : Draw → ℕ → List Command → Known → List LogEntry
+grown_by name count log known = if same_draw known.base.core.id name then entries_from name (count + 1) (drop count log) else []
+
+-- All groups that the rows decide were found, each with what the rows say of it; and where they are settled, one more round finds no other.
+pub record AreTracked (bases : List Base) (rows : List (Row Mail OrderLine)) (groups : Groups) : Type 0 where
+  pub known : AreKnown rows (groups_at as_nodes bases rows) groups.knowns.items
+  pub settled : groups.settled ≡ true → with_next_children as_nodes rows (groups_at as_nodes bases rows) ≡ groups_at as_nodes bases rows

@@ -1,0 +1,269 @@
+//! The entries of all logs, row by row, and by slot within one row.
+ghost use Rattle.std.specs.Prelude.{◌≡◌, ◌+◌, ◌<◌, ◌++◌, ◌∷◌, [], List, true, Some, length, map, take, drop, find, if◌then◌else◌, IfOk, OnOk};
+ghost use Rattle.std.specs.List.{flat_map};
+ghost use Rattle.sc_base.specs.Same.{same_draw};
+ghost use Rattle.sc_base.specs.Among.{Each};
+ghost use Rattle.sc_base.specs.declared.names.Draw.{Draw};
+ghost use Rattle.sc_words.specs.declared.commands.cores.Base.{Base};
+ghost use Rattle.sc_words.specs.declared.commands.orders.OrderLine.{OrderLine};
+ghost use Rattle.sc_mail.specs.declared.bodies.Mail.{Mail};
+ghost use Rattle.sc_actor.specs.Mail.{mails};
+ghost use Rattle.sc_actor.specs.declared.rows.Row.{Row};
+ghost use Rattle.sc_group_table.specs.machine.Group.{group_of};
+ghost use Rattle.sc_meaning.specs.sound.Players.{as_nodes};
+ghost use Rattle.sc_meaning.specs.sound.Accepts.{accepts};
+ghost use Rattle.sc_meaning.specs.sound.GroupsOf.{children_by, log_at, log_by, is_birth_of, entries_from, entries_after, entries_by_row, entries_at};
+ghost use Rattle.sc_world_logs.specs.Acceptances.{steps_by};
+ghost use Rattle.sc_world_logs.specs.Known.{Adds, IsKnown};
+ghost use Rattle.sc_world_entries.specs.decided.Found.{log_kept, new_entries, grown_by, StayKnown, AreTracked};
+
+use crate::decided::births::{Groups, both, groups_of, log_in};
+use sc_actor::Row;
+use sc_base::{Draw, Dup, OutOfMemory, same_draw};
+use sc_mail::Mail;
+use sc_meaning::LogEntry;
+use sc_words::{Base, Command, OrderLine};
+use sc_world_logs::{Acceptance, Known, accepted_in, add_mails, take_in};
+use std::alloc::Global;
+
+// Adds the entries of a log behind its first `count`.
+fn add_entries(
+    alloc: Global,
+    entries: &mut Vec<LogEntry>,
+    name: Draw,
+    count: usize,
+    log: &[Command],
+) -> Result<(), OutOfMemory>
+    ensures { OnOk result (entries.new.items ≡
+        entries.old.items ++ entries_from name (count + 1) (drop count log.now)) }
+{
+    for at in count..log.len() {
+        if at >= 4_294_967_295 {
+            return Err(OutOfMemory);
+        }
+        entries.push(LogEntry {
+            group: name,
+            slot: at as u32 + 1,
+            command: log[at].dup(alloc)?,
+        })?;
+    }
+    Ok(())
+}
+
+// Adds the entries that each group has gained, by the groups before a row and after it.
+fn add_gained(
+    alloc: Global,
+    entries: &mut Vec<LogEntry>,
+    before: &[Known],
+    after: &[Known],
+) -> Result<(), OutOfMemory>
+    ensures { OnOk result (entries.new.items ≡ entries.old.items ++
+        flat_map (new_entries before.now after.now) after.now) }
+{
+    for known in after {
+        let name = known.base.core.id;
+        add_entries(
+            alloc,
+            entries,
+            name,
+            log_in(before, name).len(),
+            log_in(after, name),
+        )?;
+    }
+    Ok(())
+}
+
+// Looks for all groups anew, before a row and after it, and adds the entries that they have gained.
+fn look_again(
+    alloc: Global,
+    entries: &mut Vec<LogEntry>,
+    bases: &[Base],
+    before: &[Row<Mail, OrderLine>],
+    after: &[Row<Mail, OrderLine>],
+) -> Result<Groups, OutOfMemory>
+    ensures { IfOk result (λ groups. AreTracked bases.now after.now groups ×
+        ((row : Row Mail OrderLine) → after.now ≡ before.now ++ row ∷ [] →
+        entries.new.items ≡
+        entries.old.items ++ entries_by_row as_nodes bases.now before.now row)) }
+{
+    let old = groups_of(alloc, bases, before)?;
+    let new = groups_of(alloc, bases, after)?;
+    let olds = old.knowns.as_slice();
+    let news = new.knowns.as_slice();
+    add_gained(alloc, entries, olds, news)?;
+    Ok(new)
+}
+
+// Takes an acceptance into each group, in place, since a group is large. Returns true only where
+// their logs are as before or longer, and the new entries create no child.
+fn take_each(
+    alloc: Global,
+    knowns: &mut [Known],
+    name: Draw,
+    acceptance: &Acceptance,
+) -> Result<bool, OutOfMemory>
+    ensures { IfOk result (λ calm. calm ≡ true → (rows after : List (Row Mail OrderLine)) →
+        Adds (Some (name, acceptance.now)) rows after → Each (IsKnown rows) knowns.old →
+        StayKnown rows after knowns.old knowns.new) }
+{
+    let mut calm = true;
+    for known in knowns.iter_mut() {
+        let was_calm = take_in(alloc, known, name, acceptance)?;
+        calm = both(calm, was_calm);
+    }
+    Ok(calm)
+}
+
+// Takes an acceptance into each group of a vector, as `take_each` does.
+fn take_all(
+    alloc: Global,
+    knowns: &mut Vec<Known>,
+    name: Draw,
+    acceptance: &Acceptance,
+) -> Result<bool, OutOfMemory>
+    ensures { IfOk result (λ calm. calm ≡ true → (rows after : List (Row Mail OrderLine)) →
+        Adds (Some (name, acceptance.now)) rows after → Each (IsKnown rows) knowns.old.items →
+        StayKnown rows after knowns.old.items knowns.new.items) }
+{
+    take_each(alloc, knowns.as_mut_slice(), name, acceptance)
+}
+
+// Adds the entries that the log of the group with a name has behind its first `count`.
+fn add_grown(
+    alloc: Global,
+    entries: &mut Vec<LogEntry>,
+    knowns: &[Known],
+    name: Draw,
+    count: usize,
+) -> Result<(), OutOfMemory>
+    ensures { OnOk result (entries.new.items ≡ entries.old.items ++
+        flat_map (grown_by name count (log_kept name knowns.now)) knowns.now) }
+{
+    let log = log_in(knowns, name);
+    for known in knowns {
+        if same_draw(known.base.core.id, name) {
+            add_entries(alloc, entries, name, count, log)?;
+        }
+    }
+    Ok(())
+}
+
+// Takes one more row, which accepts a command, and adds the entries that it decides.
+fn after_acceptance(
+    alloc: Global,
+    entries: &mut Vec<LogEntry>,
+    bases: &[Base],
+    before: &[Row<Mail, OrderLine>],
+    after: &[Row<Mail, OrderLine>],
+    mut knowns: Vec<Known>,
+    name: Draw,
+    acceptance: &Acceptance,
+) -> Result<Groups, OutOfMemory>
+    ensures { IfOk result (λ groups.
+        (row : Row Mail OrderLine) → after.now ≡ before.now ++ row ∷ [] →
+        Adds (Some (name, acceptance.now)) before.now after.now →
+        AreTracked bases.now before.now (record { knowns = knowns; settled = true }) →
+        AreTracked bases.now after.now groups ×
+        (entries.new.items ≡
+        entries.old.items ++ entries_by_row as_nodes bases.now before.now row)) }
+{
+    let kept = knowns.as_slice();
+    let count = log_in(kept, name).len();
+    let calm = take_all(alloc, &mut knowns, name, acceptance)?;
+    if !calm {
+        let found = look_again(alloc, entries, bases, before, after)?;
+        return Ok(found);
+    }
+    let later = knowns.as_slice();
+    add_grown(alloc, entries, later, name, count)?;
+    Ok(Groups {
+        knowns,
+        settled: true,
+    })
+}
+
+/// Takes one more row, and adds the entries that it decides.
+pub(crate) fn after_row(
+    alloc: Global,
+    entries: &mut Vec<LogEntry>,
+    bases: &[Base],
+    before: &[Row<Mail, OrderLine>],
+    after: &[Row<Mail, OrderLine>],
+    groups: Groups,
+    accepted: Option<(Draw, Acceptance)>,
+) -> Result<Groups, OutOfMemory>
+    ensures { IfOk result (λ found.
+        (row : Row Mail OrderLine) → after.now ≡ before.now ++ row ∷ [] →
+        Adds accepted before.now after.now →
+        AreTracked bases.now before.now groups →
+        AreTracked bases.now after.now found ×
+        (entries.new.items ≡
+        entries.old.items ++ entries_by_row as_nodes bases.now before.now row)) }
+{
+    if !groups.settled {
+        let found = look_again(alloc, entries, bases, before, after)?;
+        return Ok(found);
+    }
+    match accepted {
+        None => Ok(groups),
+        Some((name, acceptance)) => {
+            let found = after_acceptance(
+                alloc,
+                entries,
+                bases,
+                before,
+                after,
+                groups.knowns,
+                name,
+                &acceptance,
+            )?;
+            Ok(found)
+        }
+    }
+}
+
+/// Returns the entries of all logs, in the order of the rows that decided them, and by slot within
+/// one row.
+pub fn entries_of(
+    alloc: Global,
+    bases: &[Base],
+    rows: &[Row<Mail, OrderLine>],
+) -> Result<Vec<LogEntry>, OutOfMemory>
+    ensures { IfOk result (λ entries. entries.items ≡ entries_at as_nodes bases.now rows.now) }
+{
+    let mut entries = Vec::new(alloc);
+    let mut sent = Vec::new(alloc);
+    let mut groups = groups_of(alloc, bases, &rows[..0])?;
+    for i in 0..rows.len() {
+        let row = &rows[i];
+        let mails = sent.as_slice();
+        let accepted = accepted_in(alloc, mails, row)?;
+        let before = &rows[..i];
+        let after = &rows[..i + 1];
+        let next = after_row(alloc, &mut entries, bases, before, after, groups, accepted)?;
+        groups = next;
+        let more = row.sent.as_slice();
+        add_mails(&mut sent, more)?;
+    }
+    Ok(entries)
+}
+
+/// Returns the decided log of the group with a name: the longest list whose entry k is chosen at
+/// slot k. It is empty where there is no such group.
+pub fn log_at(
+    alloc: Global,
+    bases: &[Base],
+    rows: &[Row<Mail, OrderLine>],
+    name: Draw,
+) -> Result<Vec<Command>, OutOfMemory>
+    ensures { IfOk result (λ log. log.items ≡ log_at as_nodes bases.now rows.now name) }
+{
+    let groups = groups_of(alloc, bases, rows)?;
+    let kept = groups.knowns.as_slice();
+    let found = log_in(kept, name);
+    let mut log = Vec::new(alloc);
+    for command in found {
+        log.push(command.dup(alloc)?)?;
+    }
+    Ok(log)
+}

@@ -1,0 +1,16 @@
+use Rattle.std.proofs.Common.{◌≡◌, suc, take, drop, sym, subst, arith}
+use Rattle.std.proofs.lemmas.List.{take-append-drop}
+use Rattle.sc_meaning.specs.entries.Rings.{HaveArcs}
+use Rattle.sc_meaning.specs.entries.Worlds.{StoreWorld, told, world_of}
+use Rattle.sc_world_groups.proofs.Telling.{told_next}
+use Rattle.sc_world_groups.proofs.worlds.world_of.Goals as goal
+
+pub unreachable-requires : goal.unreachable-requires
+unreachable-requires c =
+    let es = c.args.entries.now in
+    let i = c.loop-entry.entry-index in
+    let entry = c.entry-item.result in
+    let next : world_of c.args.bases.now (take (suc i) es) ≡ told c.loop-entry.world entry =
+    told_next c.args.bases.now es i entry c.loop-entry.world (omega (arith, c.loop-entry-test.true)) c.entry-item.is c.loop-entry.invariant in
+    let covers = c.requires (take (suc i) es) (drop (suc i) es) (sym (take-append-drop (suc i) es)) in
+    c.in-Err-NoArc.ensures c.in-Err-NoArc.field-0-is (subst (λ (world : StoreWorld). HaveArcs world.ring) next covers.arcs)

@@ -1,0 +1,24 @@
+use Rattle.std.proofs.Common.{◌≡◌, true, false, List, [], ◌∷◌, if◌then◌else◌, ap, sym, subst, ◌∙◌}
+use Rattle.std.specs.List.{list_any}
+use Rattle.sc_base.specs.Same.{same_draw}
+use Rattle.sc_words.specs.declared.commands.commands.Command.{Command}
+use Rattle.sc_mail.specs.declared.bodies.Mail.{Mail}
+use Rattle.sc_paxos_law.specs.Steps.{Accepted}
+use Rattle.sc_meaning.specs.sound.Accepts.{is_accepted, accepts_of}
+use Rattle.sc_world_logs.proofs.Said.{accepts-said, accepts-unsaid}
+use Rattle.sc_world_logs.proofs.accepting.accepted_by.Goals as goal
+
+pub returns-then-not-says_accepted : goal.returns-then-not-says_accepted
+returns-then-not-says_accepted c = λ group.
+    let unsaid =
+    subst (λ (sent : List Mail). list_any (λ (mail : Mail). is_accepted c.in-Accept.group c.in-Accept.ballot c.in-Accept.slot mail.body) sent ≡ false) c.as_slice.ensures
+    (sym c.says_accepted.ensures ∙ c.if-not-says_accepted.true) in
+    ap (accepts_of group c.args.row.now) c.in-Accept.is ∙ accepts-unsaid group c.args.row.now c.in-Accept.group c.in-Accept.ballot c.in-Accept.slot _ unsaid
+
+pub returns-in_ok-dup-in-Accept : goal.returns-in_ok-dup-in-Accept
+returns-in_ok-dup-in-Accept c = λ group.
+    let said =
+    subst (λ (sent : List Mail). list_any (λ (mail : Mail). is_accepted c.in-Accept.group c.in-Accept.ballot c.in-Accept.slot mail.body) sent ≡ true) c.as_slice.ensures
+    (sym c.says_accepted.ensures ∙ c.if-not-says_accepted.false) in
+    ap (accepts_of group c.args.row.now) c.in-Accept.is ∙ accepts-said group c.args.row.now c.in-Accept.group c.in-Accept.ballot c.in-Accept.slot _ said
+    ∙ ap (λ (command : Command). if same_draw c.in-Accept.group group then Accepted c.args.row.now.who c.in-Accept.ballot c.in-Accept.slot command ∷ [] else []) (sym c.in_ok-dup-in-Accept.ensures)

@@ -1,0 +1,22 @@
+use Rattle.std.proofs.Common.{◌≡◌, ℕ, List, [], ap, ◌∙◌, rules}
+use Rattle.std.specs.Ordering.{nat_cmp}
+use Rattle.std.specs.BTreeMap.{get_by}
+use Rattle.sc_group_table.specs.machine.Group.{group_of}
+use Rattle.sc_meaning.specs.sound.Accepts.{accepts}
+use Rattle.sc_world_logs.specs.Indexes.{listed_in}
+use Rattle.sc_world_logs.specs.declared.accepting.Acceptance.{Acceptance}
+use Rattle.sc_world_logs.proofs.Grown.{matches_first}
+use Rattle.sc_world_logs.proofs.Stays.{known_is}
+use Rattle.sc_world_logs.proofs.known.known_of.Goals as goal
+
+pub returns : goal.returns
+returns c =
+    let h = accepts c.args.base.core.id c.args.rows.now in
+    let kept : ℕ → List Acceptance = λ slot. listed_in (λ at. at.items) (get_by (nat_cmp slot) c.in_ok-index.index) in
+    let no_log : c.new-log.result.items ≡ [] = search rules in
+    let no_members : c.new-members.result.items ≡ [] = search rules in
+    let told =
+    matches_first h c.args.base kept c.in_ok-found.found.items c.new-log.result.items c.new-members.result.items c.in_ok-state.state c.in_ok-behind.behind no_log no_members c.in_ok-found.ensures c.in_ok-index.ensures
+    (c.in_ok-state.ensures ∙ ap group_of c.in_ok-one.ensures) (c.in_ok-behind.ensures ∙ ap group_of c.in_ok-other.ensures) in
+    let done = c.in_ok-_childless.ensures h told in
+    (known_is c.args.rows.now c.args.base _ done.0 done.1 done.2, done.1)

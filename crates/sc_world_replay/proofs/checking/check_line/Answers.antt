@@ -1,0 +1,17 @@
+use Rattle.sc_actor.proofs.TaskLemmas.{one_of}
+use Rattle.sc_texts.specs.chance.Words.{two_words}
+use Rattle.sc_world_replay.proofs.checking.check_line.Goals as goal
+
+pub returns-in-Settle-clause-is : goal.returns-in-Settle-clause-is
+returns-in-Settle-clause-is g c = rw c.in-Settle.is c.check_many.ensures.is
+
+pub returns-in-Free-clause-is : goal.returns-in-Free-clause-is
+returns-in-Free-clause-is g c = rw c.in-Free.is c.check_many-in-Free.ensures.is
+
+pub returns-in-Storm-clause-is : goal.returns-in-Storm-clause-is
+returns-in-Storm-clause-is g c = rw c.in-Storm.is c.check_storm.ensures.is
+
+pub returns-in_default : goal.returns-in_default
+returns-in_default g c =
+    let one = one_of two_words c.args.line.now c.in_default.not-Settle c.in_default.not-Free c.in_default.not-Storm in
+    record { is = rw one c.check_once.ensures.is; skipped = c.check_once.ensures.skipped }
