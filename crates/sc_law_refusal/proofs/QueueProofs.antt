@@ -1,5 +1,3 @@
 pub mod Lists
-pub mod Queueing
-pub mod Executing
-pub mod Rows
+pub mod QueuedCalls
 pub mod Nodes

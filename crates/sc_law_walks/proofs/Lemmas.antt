@@ -10,3 +10,6 @@ pub use Rattle.sc_law_walks.proofs.Walks.{Facts, States, Mails, Walk, Births, Se
 pub use Rattle.sc_law_walks.proofs.WalkRows.{creation}
 pub use Rattle.sc_law_walks.proofs.WalkNodes.{GivenAny, any_step}
 pub use Rattle.sc_law_walks.proofs.StateWalks.{StateParts, state_walk, state_births, state_ticks, state_hears, StateBirths}
+pub use Rattle.sc_law_walks.proofs.PlaceWalks.{Talk, grows, beside_talk, elected_place, entered_place}
+pub use Rattle.sc_law_walks.proofs.TableWalks.{TableFacts, TableStates, TableSays, TableWalk, TableTicks, MayEnter, all_heard, talk_said}
+pub use Rattle.sc_law_walks.proofs.TableEntries.{TableEntry, entry_holds}

@@ -8,7 +8,13 @@ pub mod Counts
 pub mod Queues
 pub mod PlaceWalks
 pub mod Talks
+pub mod TableWalks
+pub mod TableEntries
+pub mod TableParts
+pub mod TableRows
+pub mod TableTicks
 pub mod PlaceEntries
+pub mod KeptPlaces
 pub mod PlaceParts
 pub mod PlaceRows
 pub mod PlaceTicks

@@ -180,6 +180,19 @@ grows me Q more = record {
   sends_on = λ to tx coord hint mails m. more mails _ m;
 }
 
+-- what is kept by such mail stays so beside what holds of the replica
+pub beside_talk : (A : Type 0) (me : ℕ) (Q : List Mail → Type 0) → (A → Talk me Q) → Talk me (λ mails. A × Q mails)
+beside_talk A me Q t = record {
+  tells = λ number result mails m. (m.0, (t m.0).tells number result mails m.1);
+  answers = λ client group seq answer mails m. (m.0, (t m.0).answers client group seq answer mails m.1);
+  offers = λ to tx offer mails own m. (m.0, (t m.0).offers to tx offer mails own m.1);
+  watches = λ to tx watch mails own m. (m.0, (t m.0).watches to tx watch mails own m.1);
+  casts = λ to tx coord part vote mails m. (m.0, (t m.0).casts to tx coord part vote mails m.1);
+  sees = λ to tx coord part vote mails m. (m.0, (t m.0).sees to tx coord part vote mails m.1);
+  ends = λ to tx part outcome mails m. (m.0, (t m.0).ends to tx part outcome mails m.1);
+  sends_on = λ to tx coord hint mails m. (m.0, (t m.0).sends_on to tx coord hint mails m.1);
+}
+
 pub grown : (f : PlaceFacts) → ((r : ReplicaState) (mails : List Mail) (mail : Mail) → f.Early (r, mails) → f.Early (r, mails ++ mail ∷ [])) → ((r : ReplicaState) (mails : List Mail) (mail : Mail) → f.Late (r, mails) → f.Late (r, mails ++ mail ∷ [])) → PlaceSays f
 grown f early late = record {
   early = λ r same. grows r.me (λ mails. f.Early (r, mails)) (early r);

@@ -5,7 +5,7 @@ use Rattle.sc_base.specs.Definitions.{Among, Each}
 use Rattle.sc_node_table.specs.Values.{Draw, Base, OrderLine, Mail, Seat, Row}
 use Rattle.sc_actor.specs.declared.rows.Event.TheVariants.{Told}
 use Rattle.sc_actor.specs.Definitions.{System, row_of, mails}
-use Rattle.sc_live_orderly.specs.Definitions.{is_born, is_reported, AreInTime}
+use Rattle.sc_live_orderly.specs.Definitions.{is_born, is_told, AreInTime}
 use Rattle.sc_live_orderly.proofs.Lemmas.{count_push, in_time_before, in_time_tidy, quiet-empty}
 use Rattle.sc_scenario.specs.scenario.Definitions.{ValidScenariosAreBounded}
 use Rattle.sc_scenario.specs.declared.scenario.scenarios.Scenario.{Scenario}
@@ -176,7 +176,7 @@ module _ (all_bounded : ValidScenariosAreBounded) (few_law : SlotsAreLeft) (logs
       record {
         behind = row ∷ [];
         rows_are = refl;
-        one_order = (let more = count_push (λ (x : Row Mail OrderLine). is_reported x.event) quiet row true refl in omega (arith, more));
+        one_order = (let more = count_push (λ (x : Row Mail OrderLine). is_told x.event) quiet row true refl in omega (arith, more));
         under = under_after;
         rising = rising_after;
         round = round_after;

@@ -1,12 +1,13 @@
+pub mod StillReplicas
 pub mod NonPaxosMail
 pub mod GroupBeginnings
 pub mod Elections
 pub mod EvenGroups
-pub mod GroupNamesInParts
 pub mod UnmarkedMail
 pub mod FollowingRows
 pub mod LeaderRows
 pub mod LearntEntries
+pub mod OwnGroupMail
 pub mod GroupNamesInRows
 pub mod RowMarks
 pub mod MailRows

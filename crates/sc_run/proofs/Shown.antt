@@ -7,9 +7,9 @@ use Rattle.sc_base.specs.Arc.{IsArc}
 use Rattle.sc_texts.specs.chance.Words.{two_words}
 use Rattle.sc_words.specs.declared.commands.orders.OrderLine.{OrderLine}
 use Rattle.sc_mail.specs.declared.bodies.Mail.{Mail}
-use Rattle.sc_world_entries.specs.scan.Laws.{EntriesCountLogs, ScansShow}
-use Rattle.sc_world_entries.specs.scan.Scan.{entries_in, scan_of}
-use Rattle.sc_world_entries.specs.scan.Text.{scan_lines}
+use Rattle.sc_world_entries.specs.scans.Laws.{EntriesCountLogs, ScansShow}
+use Rattle.sc_world_entries.specs.scans.Scan.{entries_in, scan_of}
+use Rattle.sc_world_entries.specs.scans.Text.{scan_lines}
 use Rattle.sc_scenario.specs.scenario.Valid.{IsValid}
 use Rattle.sc_scenario.specs.declared.scenario.scenarios.Scenario.{Scenario}
 use Rattle.sc_meaning.specs.sound.GroupsOf.{entries_at, world_at}

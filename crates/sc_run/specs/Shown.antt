@@ -3,9 +3,9 @@ use Rattle.std.specs.Prelude.{◌≡◌, ℕ, List, length, take}
 use Rattle.sc_actor.specs.declared.rows.Row.{Row}
 use Rattle.sc_words.specs.declared.commands.orders.OrderLine.{OrderLine}
 use Rattle.sc_mail.specs.declared.bodies.Mail.{Mail}
-use Rattle.sc_world_entries.specs.scan.Laws.{ShowsStore}
-use Rattle.sc_world_entries.specs.scan.Scan.{scan_at}
-use Rattle.sc_world_entries.specs.scan.Text.{scan_lines}
+use Rattle.sc_world_entries.specs.scans.Laws.{ShowsStore}
+use Rattle.sc_world_entries.specs.scans.Scan.{scan_at}
+use Rattle.sc_world_entries.specs.scans.Text.{scan_lines}
 use Rattle.sc_scenario.specs.declared.scenario.scenarios.Scenario.{Scenario}
 use Rattle.sc_meaning.specs.sound.Players.{as_nodes}
 use Rattle.sc_cli.specs.declared.subcommands.Sight.{Sight}

@@ -1,8 +1,8 @@
 //! A scenario played whole, and a scan of its journal.
 ghost use Rattle.std.specs.Prelude.{◌≡◌, ◌≤◌, ◌<◌, ◌^◌, length, take, IfOk};
 ghost use Rattle.sc_base.specs.Arc.{IsArc};
-ghost use Rattle.sc_world_entries.specs.scan.Scan.{entries_in, scan_of};
-ghost use Rattle.sc_world_entries.specs.scan.Text.{scan_lines};
+ghost use Rattle.sc_world_entries.specs.scans.Scan.{entries_in, scan_of};
+ghost use Rattle.sc_world_entries.specs.scans.Text.{scan_lines};
 ghost use Rattle.sc_scenario.specs.scenario.Valid.{IsValid};
 ghost use Rattle.sc_meaning.specs.sound.GroupsOf.{entries_at, world_at};
 ghost use Rattle.sc_meaning.specs.sound.Players.{as_nodes};

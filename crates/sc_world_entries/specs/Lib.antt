@@ -1,2 +1,2 @@
 pub mod decided
-pub mod scan
+pub mod scans

@@ -19,8 +19,7 @@ use Rattle.sc_law_entries.proofs.NamesProofs.Lists.{opt_find, opt_map}
 use Rattle.sc_law_walks.proofs.Lemmas.{either_way}
 use Rattle.sc_law_entries.proofs.NamesProofs.Sent.{Sent, sent_names}
 use Rattle.sc_law_entries.proofs.NamesProofs.Held.{Fine, born_names}
-use Rattle.sc_law_entries.proofs.NamesProofs.Executing.{Kids}
-use Rattle.sc_law_entries.proofs.NamesProofs.Stepping.{made_names, tick_names, mailed_names, mailed_kids, ordered_row_names, order_names}
+use Rattle.sc_law_entries.proofs.NamesProofs.Stepping.{Kids, made_names, tick_names, mailed_names, mailed_kids, ordered_row_names, order_names}
 
 module _ (K : Draw → Type 0) where
   abbrev Rs : List ReplicaState → Type 0

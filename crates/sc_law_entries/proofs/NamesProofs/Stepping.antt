@@ -1,36 +1,36 @@
--- All rows of a replica's table, and the children of a mail.
-use Rattle.std.proofs.Common.{◌≡◌, ℕ, ◌+◌, ◌-◌, ◌&&◌, ◌||◌, not, nat_le, nat_lt, eqb, Bool, true, cond, List, [], ◌∷◌, ◌++◌, length, find, Option, Some, None, refl, ap, subst, ◌∙◌}
+-- The names that a replica holds and sends are of one kind, through all rows of its table, and so are those of the children of a mail.
+use Rattle.std.proofs.Common.{◌≡◌, ℕ, ◌+◌, ◌-◌, ◌&&◌, ◌||◌, not, nat_le, Bool, true, false, cond, List, [], ◌∷◌, ◌++◌, find, Option, Some, None, refl, ap, subst, ◌∙◌}
 use Rattle.std.specs.Prelude.{is_some, is_none}
-use Rattle.std.proofs.lemmas.Bool.{and_from, cond-true, cond-false, cond_both}
+use Rattle.std.proofs.lemmas.Bool.{and_from, cond-true, cond-false}
 use Rattle.sc_base.specs.Definitions.{Each, same_draw, Drawer, next_name, is_member}
-use Rattle.sc_node_table.specs.Values.{Draw, Op, Offer, Watch, Command, Call, Prepared, RecordVote, GiveUp, Finish, Watched, RecordWatch, Base, Core, Lock, Free, Coordinating, Promised, Watching, Route, Order, OrderLine, OrderRefusal, Outcome, Past, Vote, AnswerBody, Mail, MailBody, Request, Answer, Prepare, Promise, Accept, Accepted, Nack, Learn, Ask, Install, TxPrepare, TxVote, TxOutcome, TxElsewhere, TxWatch, TxWatched, Told}
+use Rattle.sc_node_table.specs.Values.{Draw, Op, Command, Noop, Call, GiveUp, Base, Core, Lock, Free, Coordinating, Promised, Watching, Route, Order, OrderLine, OrderRefusal, Outcome, Past, AnswerBody, Mail, MailBody, Answer, Prepare, Promise, Accept, Accepted, Nack, Learn, Ask, Install, TxVote, TxElsewhere, TxWatched, Told, Must, Counted, Report}
 use Rattle.sc_words.specs.ideal.Definitions.{key_of, holds_key}
 use Rattle.sc_words.specs.declared.commands.orders.Order.TheVariants as An
 use Rattle.sc_words.specs.declared.commands.orders.OrderRefusal.TheVariants as Why
 use Rattle.sc_words.specs.declared.commands.orders.OrderResult.TheVariants as Tells
 use Rattle.sc_words.specs.declared.commands.votes.Past.TheVariants as Cast
 use Rattle.sc_words.specs.declared.commands.votes.Vote.TheVariants as Says
-use Rattle.sc_group_table.specs.machine.Definitions.{Group, locked_in, refusal_of, frozen_of, is_locked_in}
-use Rattle.sc_words.proofs.PaxosProofs.Lemmas.{Each-append}
-use Rattle.sc_words.specs.paxos.Definitions.{entry_at}
-use Rattle.sc_node_table.specs.Definitions.{ReplicaState, Place, name_of, next, members, flying, is_idle, settled, last_slot, installed_replica, has_act, with_act, act_queued, elected, stopped, looked, named, jumped, sent_all, ordered_command, takes_name, has_drawn_all, named_refused, first_of_both, untaken, queued_or_refused, ordered_row, group_of_order, wished_line, with_command, with_line, wishing, pumped, admits_requests, asked_link, question, queued_number, without_request, patience, one_tick_more, waited_in, reminders, reminded, request_refusal, refused_at, queued, requested, request_row, looked_up, took_over, install_row, made_by, uncounted, asked_again, last_entry_sent, tick_row, mailed, noted_vote, noted_outcome, gone_vote, standing_by, standing_vote, sent_elsewhere, offered_by, offer_row, watched_by, watch_row, awaits_vote, awaits_watch, vote_queued, vote_met, vote_row, watch_queued, watch_met, watched_row, next_asked, asked_next, elsewhere_row, is_bound, outcome_row}
-use Rattle.sc_law_entries.specs.names.Definitions.{Opt, OfferNames, WatchNames, VoteNames, PastNames, OutcomeNames, LockNames, CoreNames, CommandNames, RefusalNames, AnswerNames, BodiesNames, ReplicaNames, Owned, owned_by, drawn_for, waited, wished_at, drawn_wishing}
-use Rattle.sc_law_entries.proofs.NamesProofs.Lists.{opt_find, opt_map}
-use Rattle.sc_law_entries.proofs.NamesProofs.Machine.{refusal_names}
-use Rattle.sc_law_walks.proofs.Lemmas.{either_way}
-use Rattle.sc_law_entries.proofs.NamesProofs.Sent.{Sent, sent_names, sent_all_names, sent_others_names, question_names, voted_to_names, watched_to_names, outcome_names}
-use Rattle.sc_law_entries.proofs.NamesProofs.Held.{Fine, Cmd, with_calls, with_acts, without_names, flying_names, elected_names, stopped_names, named_names, jumped_names, installed_names, pumped_names}
-use Rattle.sc_law_entries.proofs.NamesProofs.Executing.{Kids, looked_names}
-use Rattle.sc_law_entries.proofs.NamesProofs.Voted.{prepare_names, accept_names, promise_row_names, accepted_names, accepted_kids, nack_names, learn_names, learn_kids, held_names, ask_names}
+use Rattle.sc_mail.specs.declared.bodies.AnswerBody.TheVariants as Answers
+use Rattle.sc_group_table.specs.machine.Definitions.{Group, base_of, locked_in, refusal_of, frozen_of, is_locked_in}
+use Rattle.sc_words.proofs.PaxosProofs.Lemmas.{Each-append, Each-filter}
+use Rattle.sc_words.specs.paxos.Definitions.{below, after_promise, after_accept, promise_counted, counted, reports_from}
+use Rattle.sc_node_table.specs.Definitions.{ReplicaState, Place, name_of, next, members, open_nodes, settled, named, sent, ordered_command, takes_name, has_drawn_all, named_refused, first_of_both, untaken, ordered_row, group_of_order, wished_line, admits_requests, asked_link, question, without_request, reminders, request_refusal, made_by, tick_row, mailed, noted_vote, noted_outcome, gone_vote, standing_by, standing_vote, next_asked, asked_next}
+use Rattle.sc_law_entries.specs.names.Definitions.{Opt, OutcomeNames, PastNames, LockNames, CoreNames, CommandNames, RefusalNames, AnswerNames, BodiesNames, Owned, owned_by, drawn_for, waited, wished_at, drawn_wishing}
+use Rattle.sc_law_entries.proofs.NamesProofs.Lists.{opt_find, opt_map, opt_slot, report_with}
+use Rattle.sc_law_entries.proofs.NamesProofs.Machine.{refusal_names, child_by_names}
+use Rattle.sc_law_walks.proofs.Lemmas.{either_way, TableFacts, TableStates, TableSays, TableWalk, TableTicks, MayEnter}
+use Rattle.sc_law_walks.proofs.TableRows as rows
+use Rattle.sc_law_walks.proofs.TableTicks as tick
+use Rattle.sc_law_entries.proofs.NamesProofs.Sent.{Sent, sent_names, sent_all_names, answered_names, question_names, voted_to_names, watched_to_names, outcome_names}
+use Rattle.sc_law_entries.proofs.NamesProofs.Held.{Fine, Cmd, Cmds, R, MustNames, with_calls, with_acts, without_names, flying_names, ended_names, turned_names, must_names, offered_names, named_names, jumped_names, installed_names}
+use Rattle.sc_law_entries.proofs.NamesProofs.Executing.{entry_fine}
+use Rattle.sc_law_entries.proofs.NamesProofs.Voted.{CountOf, Counts, with_acceptor, with_leader, counted_names, count_names, with_ready, held_names}
 
 module _ (K : Draw → Type 0) where
-  abbrev R : ReplicaState → Type 0
-  R r = ReplicaNames K r
-
   abbrev F : Place → Type 0
   F place = Fine K place
 
-  -- ---- Request
+  -- ---- why a request or an order is refused
 
   abbrev Ans : Option AnswerBody → Type 0
   Ans o = Opt (AnswerNames K) o
@@ -39,94 +39,34 @@ module _ (K : Draw → Type 0) where
   refusal_by (Some into) core running hint op g k = g
   refusal_by None core running hint op g k = either_way Ans (not running) _ _ tt (either_way Ans (admits_requests core.lock && not (holds_key core.arc (key_of op))) _ _ k.succ tt)
 
-  queued_names : (o : Option ℕ) (client seq : ℕ) (op : Op) (place : Place) → F place → F (queued o client seq op place)
-  unfolding queued
-  queued_names None client seq op (r, mails) f =
-      pumped_names K (record r { backlog = r.backlog ++ Call client seq op ∷ [] }, mails) (with_calls K r (r.backlog ++ Call client seq op ∷ []) (Each-append (CommandNames K) r.backlog (Call client seq op ∷ []) f.0.backlog (tt, tt)) f.0, f.1)
-  queued_names (Some other) client seq op (r, mails) f =
-      let backlog : List Command = without_request r.backlog client ++ Call client seq op ∷ [] in
-      either_way F (nat_le seq other) (r, mails) (pumped (record r { backlog = backlog }, mails)) f
-      (pumped_names K (record r { backlog = backlog }, mails) (with_calls K r backlog (Each-append (CommandNames K) (without_request r.backlog client) (Call client seq op ∷ []) (without_names K r.backlog client f.0.backlog) (tt, tt)) f.0, f.1))
+  abbrev Refused : Option OrderRefusal → Type 0
+  Refused o = Opt (RefusalNames K) o
 
-  requested_names : (o : Option AnswerBody) (client seq : ℕ) (op : Op) (place : Place) → Ans o → F place → F (requested o client seq op place)
-  unfolding requested
-  requested_names (Some answer) client seq op (r, mails) a f = (f.0, sent_names K r.me _ (Answer (name_of r) seq answer) mails (f.0.core.id, a) f.1)
-  requested_names None client seq op (r, mails) a f = queued_names (queued_number r.backlog client) client seq op (r, mails) f
+  first_names : (one other : Option OrderRefusal) → Refused one → Refused other → Refused (first_of_both one other)
+  first_names (Some why) other w v = w
+  first_names None other w v = v
 
-  request_names : (client seq : ℕ) (op : Op) (place : Place) → F place → F (request_row client seq op place)
-  unfolding request_row
-  request_names client seq op (r, mails) f = requested_names (refused_at r.group.core.gone op r) client seq op (r, mails) (refusal_by r.group.core.gone r.group.core r.running r.hint op f.0.core.gone f.0.core) f
+  untaken_names : (drawer : Drawer) (line : OrderLine) (r : ReplicaState) → R K r → Refused (untaken drawer line r)
+  untaken_names drawer line r k =
+      let one : Option OrderRefusal = refusal_of r.group.core (ordered_command (next_name drawer) line.number line.order) in
+      either_way Refused (is_some r.group.core.gone || not (settled r)) (Some (Why.NotLeader r.hint)) (first_of_both one (named_refused drawer line.order r)) tt
+      (first_names one (named_refused drawer line.order r) (refusal_names K r.group.core (ordered_command (next_name drawer) line.number line.order) k.core)
+      (either_way Refused (takes_name line.order && has_drawn_all drawer) (Some (Why.NotLeader r.hint)) None tt tt))
 
-  -- ---- Install
+  -- the command of an order names its name, if it takes one
+  pub order_names : (name : Draw) (number : ℕ) (order : Order) → (takes_name order ≡ true → K name) → CommandNames K (ordered_command name number order)
+  order_names name number (An.Join node group) n = tt
+  order_names name number (An.Leave node group) n = tt
+  order_names name number (An.Split group at) n = n refl
+  order_names name number (An.Merge group) n = (n refl, tt)
+  order_names name number (An.Repart group at) n = (n refl, tt)
+  order_names name number (An.Migrate group node) n = (n refl, tt)
 
-  looked_up_names : (from : ℕ) (place : Place) → F place → F (looked_up from place)
-  unfolding looked_up
-  looked_up_names from (r, mails) f = either_way F (is_member (members r) from) (record r { hint = Some from }, mails) (looked (r, mails)) f (looked_names K (r, mails) f)
-
-  took_over_names : (from slot : ℕ) (base : Base) (sets : List (List ℕ)) (place : Place) → CoreNames K base.core → F place → F (took_over from slot base sets place)
-  unfolding took_over
-  took_over_names from slot base sets (r, mails) b f =
-      let place1 : Place = cond r.running (stopped (Some from) (r, mails)) (r, mails) in
-      let g : F place1 = either_way F r.running (stopped (Some from) (r, mails)) (r, mails) (stopped_names K (Some from) (r, mails) f) f in
-      looked_up_names from (jumped slot base sets place1.0, place1.1) (jumped_names K slot base sets place1.0 b g.0, g.1)
-
-  install_names : (from slot : ℕ) (base : Base) (sets : List (List ℕ)) (place : Place) → CoreNames K base.core → F place → F (install_row from slot base sets place)
-  unfolding install_row
-  install_names from slot base sets (r, mails) b f =
-      either_way F (not (eqb (length sets) (length r.sets)) || (nat_lt last_slot slot || nat_lt slot (next r))) (r, mails) (took_over from slot base sets (r, mails)) f (took_over_names from slot base sets (r, mails) b f)
-
-  pub made_names : (me from : ℕ) (group : Draw) (slot : ℕ) (base : Base) (sets : List (List ℕ)) → K group → CoreNames K base.core → F (made_by me from group slot base sets)
-  unfolding made_by
-  made_names me from group slot base sets g b = looked_up_names from (installed_replica me slot (named group base) sets, []) (installed_names K me slot (named group base) sets (named_names K group base g b), tt)
-
-  -- ---- the acts of transactions
-
-  with_act_names : (act : Command) (r : ReplicaState) → CommandNames K act → R r → R (with_act act r)
-  with_act_names act r c k = either_way R (has_act act r) r (record r { acts = r.acts ++ act ∷ [] }) k (with_acts K r (r.acts ++ act ∷ []) (Each-append (CommandNames K) r.acts (act ∷ []) k.acts (c, tt)) k)
-
-  queued_act : (act : Command) (place : Place) → CommandNames K act → F place → F (act_queued act place)
-  unfolding act_queued
-  queued_act act (r, mails) c f = pumped_names K (with_act act r, mails) (with_act_names act r c f.0, f.1)
-
-  -- ---- Tick
-
-  again_by : (r : ReplicaState) (slot : ℕ) (set : List ℕ) (sets : List (List ℕ)) (mails : List Mail) (o : Option Command) → Cmd K o → R r → Sent K mails → ((more : List Mail) → Sent K more → Sent K (asked_again r (slot + 1) sets more))
-      → Sent K (elim o [
-        | None ↦ asked_again r (slot + 1) sets mails
-        | Some command ↦ asked_again r (slot + 1) sets (sent_all r.me (uncounted r slot set) (Accept (name_of r) r.leader.ballot slot command) mails)
-      ])
-  again_by r slot set sets mails None c k m more = more mails m
-  again_by r slot set sets mails (Some command) c k m more =
-      more (sent_all r.me (uncounted r slot set) (Accept (name_of r) r.leader.ballot slot command) mails) (sent_all_names K r.me (uncounted r slot set) (Accept (name_of r) r.leader.ballot slot command) mails (k.core.id, c) m)
-
-  again_names : (r : ReplicaState) (slot : ℕ) (sets : List (List ℕ)) (mails : List Mail) → R r → Sent K mails → Sent K (asked_again r slot sets mails)
-  unfolding asked_again
-  again_names r slot [] mails k m = m
-  again_names r slot (set ∷ sets) mails k m = again_by r slot set sets mails (flying r slot) (flying_names K r slot k) k m (λ more n. again_names r (slot + 1) sets more k n)
-
-  last_names : (o : Option Command) (r : ReplicaState) (mails : List Mail) → Cmd K o → R r → Sent K mails → Sent K (last_entry_sent o r mails)
-  unfolding last_entry_sent
-  last_names None r mails c k m = m
-  last_names (Some command) r mails c k m = sent_others_names K r.me (members r) (Learn (name_of r) (next r - 1) command) mails (k.core.id, c) m
-
-  waited_names : (lock : Lock) (r : ReplicaState) → LockNames K lock → R r → R (waited_in lock r)
-  waited_names Free r l k = k
-  waited_names (Coordinating tx body order heard) r l k =
-      let more : ReplicaState = record r { waits = one_tick_more r.waits } in
-      either_way R (nat_le patience more.waits) (with_act (GiveUp tx) more) more (with_act_names (GiveUp tx) more l.0 k) k
-  waited_names (Promised tx offer) r l k = k
-  waited_names (Watching tx watch) r l k = k
-
-  reminder_names : (lock : Lock) (me : ℕ) (group : Group) (mails : List Mail) → LockNames K lock → CoreNames K group.core → Sent K mails → Sent K (reminders lock me group mails)
-  reminder_names Free me group mails l k m = m
-  reminder_names (Coordinating tx body order heard) me group mails l k m =
-      sent_all_names K me (asked_link group.core body heard).members (question me group.core tx body heard) mails (question_names K me group.core tx body heard l.0 l.1 l.2 k) m
-  reminder_names (Promised tx offer) me group mails l k m = sent_all_names K me offer.members (TxVote tx offer.coord offer.part (Says.Yes (frozen_of group))) mails (l.0, l.1.coord, l.1.part, k.succ) m
-  reminder_names (Watching tx watch) me group mails l k m = sent_all_names K me watch.members (TxWatched tx watch.coord watch.part Cast.Yes) mails (l.0, l.1.coord, l.1.part, tt) m
-
-  reminded_names : (place : Place) → F place → F (reminded place)
-  unfolding reminded
-  reminded_names (r, mails) f = (waited_names r.group.core.lock r f.0.core.lock f.0, reminder_names r.group.core.lock r.me r.group mails f.0.core.lock f.0.core f.1)
+  -- what is drawn for an order, if it is taken and takes a name
+  drawn_name : (drawer : Drawer) (line : OrderLine) (r : ReplicaState) → Each (λ (owned : Owned). K owned.name) (drawn_for drawer line (Some r)) → untaken drawer line r ≡ None → takes_name line.order ≡ true → K (next_name drawer)
+  drawn_name drawer line r d taken named =
+      let yes = and_from (takes_name line.order) (is_none (untaken drawer line r)) named (ap (λ (o : Option OrderRefusal). is_none o) taken) in
+      (subst (Each (λ (owned : Owned). K owned.name)) (cond-true (takes_name line.order && is_none (untaken drawer line r)) (owned_by (next_name drawer) (group_of_order line.order) ∷ []) [] yes) d).0
 
   -- ---- the parties of a transaction
 
@@ -160,53 +100,12 @@ module _ (K : Draw → Type 0) where
   standing_vote_names : (core : Core) (tx : Draw) → CoreNames K core → PastOf (standing_vote core tx)
   standing_vote_names core tx k = standing_names (noted_vote core tx) (is_locked_in (locked_in core.lock) tx) core.gone (noted_vote_names core tx k)
 
-  elsewhere_sent : (node : ℕ) (tx coord : Draw) (place : Place) → K tx → K coord → F place → F (sent_elsewhere node tx coord place)
-  elsewhere_sent node tx coord (r, mails) t c f = (f.0, sent_names K r.me node (TxElsewhere tx coord r.hint) mails (t, c) f.1)
-
-  offered_names : (o : Option Past) (from : ℕ) (tx : Draw) (offer : Offer) (place : Place) → PastOf o → K tx → OfferNames K offer → F place → F (offered_by o from tx offer place)
-  offered_names (Some vote) from tx offer (r, mails) v t o f = (f.0, voted_to_names K r.me r.group from tx offer vote mails f.0.core t o v f.1)
-  offered_names None from tx offer (r, mails) v t o f =
-      either_way F r.running (act_queued (Prepared tx offer) (r, mails)) (sent_elsewhere from tx offer.coord (r, mails)) (queued_act (Prepared tx offer) (r, mails) (t, o) f) (elsewhere_sent from tx offer.coord (r, mails) t o.coord f)
-
-  offer_row_names : (from : ℕ) (tx : Draw) (offer : Offer) (place : Place) → K tx → OfferNames K offer → F place → F (offer_row from tx offer place)
-  unfolding offer_row
-  offer_row_names from tx offer (r, mails) t o f = offered_names (standing_vote r.group.core tx) from tx offer (r, mails) (standing_vote_names r.group.core tx f.0.core) t o f
-
-  watched_names : (o : Option Past) (from : ℕ) (tx : Draw) (watch : Watch) (place : Place) → PastOf o → K tx → WatchNames K watch → F place → F (watched_by o from tx watch place)
-  watched_names (Some vote) from tx watch (r, mails) v t w f = (f.0, watched_to_names K r.me from tx watch vote mails t w v f.1)
-  watched_names None from tx watch (r, mails) v t w f =
-      either_way F r.running (act_queued (Watched tx watch) (r, mails)) (sent_elsewhere from tx watch.coord (r, mails)) (queued_act (Watched tx watch) (r, mails) (t, w) f) (elsewhere_sent from tx watch.coord (r, mails) t w.coord f)
-
-  watch_row_names : (from : ℕ) (tx : Draw) (watch : Watch) (place : Place) → K tx → WatchNames K watch → F place → F (watch_row from tx watch place)
-  unfolding watch_row
-  watch_row_names from tx watch (r, mails) t w f = watched_names (standing_vote r.group.core tx) from tx watch (r, mails) (standing_vote_names r.group.core tx f.0.core) t w f
-
-  vote_queued_names : (from : ℕ) (tx : Draw) (vote : Vote) (place : Place) → K tx → VoteNames K vote → F place → F (vote_queued from tx vote place)
-  vote_queued_names from tx vote (r, mails) t v f =
-      either_way F (r.running && awaits_vote r.group.core.lock tx) (act_queued (RecordVote tx vote from) (r, mails)) (r, mails) (queued_act (RecordVote tx vote from) (r, mails) (t, v) f) f
-
-  vote_met_names : (vote : Vote) (o : Option Outcome) (from : ℕ) (tx part : Draw) (place : Place) → VoteNames K vote → Opt (OutcomeNames K) o → K tx → K part → F place → F (vote_met vote o from tx part place)
-  vote_met_names (Says.Yes frozen) (Some outcome) from tx part (r, mails) v o t p f = (f.0, outcome_names K r.me from tx part outcome mails t p o f.1)
-  vote_met_names (Says.Yes frozen) None from tx part place v o t p f = vote_queued_names from tx (Says.Yes frozen) place t v f
-  vote_met_names (Says.No why) outcome from tx part place v o t p f = vote_queued_names from tx (Says.No why) place t v f
-
-  vote_row_names : (from : ℕ) (tx part : Draw) (vote : Vote) (place : Place) → K tx → K part → VoteNames K vote → F place → F (vote_row from tx part vote place)
-  unfolding vote_row
-  vote_row_names from tx part vote (r, mails) t p v f = vote_met_names vote (noted_outcome r.group.core tx) from tx part (r, mails) v (noted_outcome_names r.group.core tx f.0.core) t p f
-
-  watch_queued_names : (from : ℕ) (tx : Draw) (vote : Past) (place : Place) → K tx → PastNames K vote → F place → F (watch_queued from tx vote place)
-  watch_queued_names from tx vote (r, mails) t v f =
-      either_way F (r.running && awaits_watch r.group.core.lock tx) (act_queued (RecordWatch tx vote from) (r, mails)) (r, mails) (queued_act (RecordWatch tx vote from) (r, mails) (t, v) f) f
-
-  watch_met_names : (vote : Past) (o : Option Outcome) (from : ℕ) (tx part : Draw) (place : Place) → PastNames K vote → Opt (OutcomeNames K) o → K tx → K part → F place → F (watch_met vote o from tx part place)
-  watch_met_names Cast.Yes (Some outcome) from tx part (r, mails) v o t p f = (f.0, outcome_names K r.me from tx part outcome mails t p o f.1)
-  watch_met_names Cast.Yes None from tx part place v o t p f = watch_queued_names from tx Cast.Yes place t tt f
-  watch_met_names (Cast.No why) outcome from tx part place v o t p f = watch_queued_names from tx (Cast.No why) place t v f
-  watch_met_names Cast.Ended outcome from tx part place v o t p f = watch_queued_names from tx Cast.Ended place t tt f
-
-  watched_row_names : (from : ℕ) (tx part : Draw) (vote : Past) (place : Place) → K tx → K part → PastNames K vote → F place → F (watched_row from tx part vote place)
-  unfolding watched_row
-  watched_row_names from tx part vote (r, mails) t p v f = watch_met_names vote (noted_outcome r.group.core tx) from tx part (r, mails) v (noted_outcome_names r.group.core tx f.0.core) t p f
+  reminder_names : (lock : Lock) (me : ℕ) (group : Group) (mails : List Mail) → LockNames K lock → CoreNames K group.core → Sent K mails → Sent K (reminders lock me group mails)
+  reminder_names Free me group mails l k m = m
+  reminder_names (Coordinating tx body order heard) me group mails l k m =
+      sent_all_names K me (asked_link group.core body heard).members (question me group.core tx body heard) mails (question_names K me group.core tx body heard l.0 l.1 l.2 k) m
+  reminder_names (Promised tx offer) me group mails l k m = sent_all_names K me offer.members (TxVote tx offer.coord offer.part (Says.Yes (frozen_of group))) mails (l.0, l.1.coord, l.1.part, k.succ) m
+  reminder_names (Watching tx watch) me group mails l k m = sent_all_names K me watch.members (TxWatched tx watch.coord watch.part Cast.Yes) mails (l.0, l.1.coord, l.1.part, tt) m
 
   asked_next_names : (lock : Lock) (me : ℕ) (core : Core) (from : ℕ) (tx : Draw) (hint : Option ℕ) (mails : List Mail) → LockNames K lock → CoreNames K core → K tx → Sent K mails → Sent K (asked_next lock me core from tx hint mails)
   asked_next_names Free me core from tx hint mails l k t m = m
@@ -215,112 +114,148 @@ module _ (K : Draw → Type 0) where
   asked_next_names (Coordinating locked body order heard) me core from tx hint mails l k t m =
       either_way (Sent K) (same_draw locked tx) _ _ (sent_names K me (next_asked hint (asked_link core body heard).members from) (question me core tx body heard) mails (question_names K me core tx body heard t l.1 l.2 k) m) m
 
-  elsewhere_names : (from : ℕ) (tx : Draw) (hint : Option ℕ) (place : Place) → K tx → F place → F (elsewhere_row from tx hint place)
-  unfolding elsewhere_row
-  elsewhere_names from tx hint (r, mails) t f =
-      either_way F (settled r) (r, asked_next r.group.core.lock r.me r.group.core from tx hint mails) (r, mails) (f.0, asked_next_names r.group.core.lock r.me r.group.core from tx hint mails f.0.core.lock f.0.core t f.1) f
+  -- ---- the parts of a row
 
-  outcome_row_names : (tx : Draw) (outcome : Outcome) (place : Place) → K tx → OutcomeNames K outcome → F place → F (outcome_row tx outcome place)
-  unfolding outcome_row
-  outcome_row_names tx outcome (r, mails) t o f =
-      either_way F (r.running && is_bound r.group.core.lock tx) (act_queued (Finish tx outcome) (r, mails)) (r, mails) (queued_act (Finish tx outcome) (r, mails) (t, o) f) f
+  abbrev name_facts : TableFacts
+  name_facts = record {
+    First = λ r. Unit {0};
+    Early = λ place. F place;
+    Late = λ place. F place;
+    Hears = λ from body. BodiesNames K body;
+    Round = λ ballot. Unit {0};
+    Entry = λ slot command. CommandNames K command;
+    Files = λ act. CommandNames K act;
+    Orders = λ order. CommandNames K order;
+    Child = λ base. CoreNames K base.core;
+  }
 
-  -- ---- orders
+  may_names : (counted : Bool) (command : Command) (r : ReplicaState) → MayEnter name_facts counted command r → CommandNames K command
+  may_names true command r may = may.2
+  may_names false command r may = may.2.1
 
-  abbrev Refused : Option OrderRefusal → Type 0
-  Refused o = Opt (RefusalNames K) o
+  with_act : (r : ReplicaState) (act : Command) → CommandNames K act → R K r → R K (record r { acts = r.acts ++ act ∷ [] })
+  with_act r act c k = with_acts K r (r.acts ++ act ∷ []) (Each-append (CommandNames K) r.acts (act ∷ []) k.acts (c, tt)) k
 
-  first_names : (one other : Option OrderRefusal) → Refused one → Refused other → Refused (first_of_both one other)
-  first_names (Some why) other w v = w
-  first_names None other w v = v
+  with_order_queued : (r : ReplicaState) (backlog : List Command) (command : Command) → Cmds K backlog → CommandNames K command → R K r → R K (record r { backlog = backlog ++ command ∷ [] })
+  with_order_queued r backlog command cs c k = with_calls K r (backlog ++ command ∷ []) (Each-append (CommandNames K) backlog (command ∷ []) cs (c, tt)) k
 
-  untaken_names : (drawer : Drawer) (line : OrderLine) (r : ReplicaState) → R r → Refused (untaken drawer line r)
-  untaken_names drawer line r k =
-      let one : Option OrderRefusal = refusal_of r.group.core (ordered_command (next_name drawer) line.number line.order) in
-      either_way Refused (is_some r.group.core.gone || not (settled r)) (Some (Why.NotLeader r.hint)) (first_of_both one (named_refused drawer line.order r)) tt
-      (first_names one (named_refused drawer line.order r) (refusal_names K r.group.core (ordered_command (next_name drawer) line.number line.order) k.core)
-      (either_way Refused (takes_name line.order && has_drawn_all drawer) (Some (Why.NotLeader r.hint)) None tt tt))
+  sent_fine : (r : ReplicaState) (to : ℕ) (body : MailBody) (mails : List Mail) → BodiesNames K body → F (r, mails) → F (r, sent r.me to body mails)
+  sent_fine r to body mails b f = (f.0, sent_names K r.me to body mails b f.1)
 
-  -- whether the name of an order that is taken is known
-  taken_names : (o : Option OrderRefusal) (number : ℕ) (command : Command) (place : Place) → Refused o → (o ≡ None → CommandNames K command) → F place → F (queued_or_refused o number command place)
-  taken_names (Some why) number command (r, mails) w c f = (f.0, sent_names K r.me 0 (Told number (Tells.Refused why)) mails w f.1)
-  taken_names None number command (r, mails) w c f =
-      pumped_names K (record r { backlog = r.backlog ++ command ∷ [] }, mails) (with_calls K r (r.backlog ++ command ∷ []) (Each-append (CommandNames K) r.backlog (command ∷ []) f.0.backlog (c refl, tt)) f.0, f.1)
+  state_fine : (r : ReplicaState) (to : ℕ) (mails : List Mail) → F (r, mails) → F (r, sent r.me to (Install (name_of r) (next r - 1) (base_of r.group) r.sets) mails)
+  state_fine r to mails f = sent_fine r to (Install (name_of r) (next r - 1) (base_of r.group) r.sets) mails (f.0.core.id, f.0.core) f
+
+  name_states : TableStates name_facts
+  name_states = record {
+    late = λ place f. f;
+    again = λ command r mails on e f. (f, subst (λ (o : Option Command). Cmd K o) e (opt_slot (CommandNames K) r.ready (next r) f.0.ready));
+    counted_entry = λ command r mails on e c f. entry_fine K true command r mails c f;
+    learnt_entry = λ from group command r mails h first f. entry_fine K false command r mails h.1 f;
+    children = λ counted command r mails child may e f. subst (λ (o : Option Base). Opt (λ (base : Base). CoreNames K base.core) o) e (child_by_names K r.group command f.0.core (may_names counted command r may));
+    jumped = λ from group slot base sets r mails h many later off f. (jumped_names K slot base sets r h.1 f.0, f.1);
+    hinted = λ hint r mails off f. f;
+    stops = λ hint r mails on f. ended_names K hint (Answers.NotLeader hint) (r, mails) tt f;
+    goes = λ into r mails on e f. ended_names K None (Answers.Gone into) (r, mails) (subst (λ (o : Option Route). Opt (λ (route : Route). K route.group) o) e f.0.core.gone) f;
+    overtaken = λ ballot r mails good on t f. ended_names K (Some ballot.node) (Answers.NotLeader (Some ballot.node)) (cond (below r.top ballot) (record r { top = ballot }) r, mails) tt (either_way (λ (x : ReplicaState). F (x, mails)) (below r.top ballot) (record r { top = ballot }) r f f);
+    elected = λ r mails f. (
+      record { core = f.0.core; log = f.0.log; accepted = f.0.accepted; reports = tt; flights = tt; ready = tt; acts = f.0.acts; backlog = f.0.backlog },
+      sent_all_names K r.me (open_nodes r.sets) (Prepare (name_of r) (record { round = r.top.round + 1; node = r.me }) (next r)) mails f.0.core.id f.1,
+    );
+    seen = λ ballot r mails good t on f. f;
+    polled = λ from group ballot reports r mails on h f. (with_leader K r (promise_counted from ballot reports r.leader).1 (counted_names K from ballot reports r.leader h.1 (f.0.reports, f.0.flights)) f.0, f.1);
+    counts = λ from ballot slot set count r mails on e f. (with_leader K r (counted from ballot slot set r.leader).1 (count_names K from ballot slot set r.leader (f.0.reports, f.0.flights)).1 f.0, f.1);
+    chosen = λ from group ballot slot set command r mails on e h f. (
+        let counts : Counts K (counted from ballot slot set r.leader) = count_names K from ballot slot set r.leader (f.0.reports, f.0.flights) in
+        let c : CommandNames K command = subst (λ (o : Counted Command). CountOf K o) e counts.0 in
+        (c, (with_ready K (record r { leader = (counted from ballot slot set r.leader).1 }) slot command c (with_leader K r (counted from ballot slot set r.leader).1 counts.1 f.0), f.1)));
+    promised = λ from group ballot from_slot r mails h top t f. (
+      with_acceptor K r (after_promise ballot r.acceptor) f.0.accepted f.0,
+      sent_names K r.me from (Promise (name_of r) ballot (reports_from from_slot r.acceptor.accepted)) mails
+          (f.0.core.id, Each-filter (λ (report : Report Command). CommandNames K report.value) (λ (report : Report Command). nat_le from_slot report.slot) r.acceptor.accepted f.0.accepted) f.1,
+    );
+    accepted = λ from group report r mails h top t f. (
+      with_acceptor K r (after_accept report r.acceptor) (report_with (CommandNames K) report r.acceptor.accepted h.1 f.0.accepted) f.0,
+      sent_names K r.me from (Accepted (name_of r) report.ballot report.slot) mails f.0.core.id f.1,
+    );
+    filed = λ act r mails on q e brought f. (with_act r act brought f.0, f.1);
+    ordered = λ order r mails on q may f. (with_order_queued r r.backlog order f.0.backlog may f.0, f.1);
+    requested = λ client seq op r mails on e f. (with_order_queued r r.backlog (Call client seq op) f.0.backlog tt f.0, f.1);
+    requested_again = λ client seq other op r mails on e g f. (with_order_queued r (without_request r.backlog client) (Call client seq op) (without_names K r.backlog client f.0.backlog) tt f.0, f.1);
+    turned = λ command answer backlog r mails on e no f. (
+      with_calls K r backlog (subst (λ (cs : List Command). Cmds K cs) e f.0.backlog).1 f.0,
+      answered_names K r.me r.group.core.id answer command mails f.0.core.id (subst (λ (o : Option AnswerBody). Ans o) no (turned_names K r.group.core command f.0.core)) f.1,
+    );
+    offers_value = λ slot set command r mails on near free e f. offered_names K slot set command (r, mails) (subst (λ (m : Must Command). MustNames K m) e (must_names K slot r f.0)) f;
+    offers_noop = λ slot set r mails on near free f. offered_names K slot set Noop (r, mails) tt f;
+    offers_act = λ slot set act acts r mails on near free e f. (let cs = subst (λ (cs : List Command). Cmds K cs) e f.0.acts in offered_names K slot set act (record r { acts = acts }, mails) cs.0 (with_acts K r acts cs.1 f.0, f.1));
+    offers_call = λ slot set command backlog r mails on near free e f. (let cs = subst (λ (cs : List Command). Cmds K cs) e f.0.backlog in offered_names K slot set command (record r { backlog = backlog }, mails) cs.0 (with_calls K r backlog cs.1 f.0, f.1));
+  }
+
+  name_says : TableSays name_facts
+  name_says = record {
+    refuses = λ from group client seq op answer r mails h e f. sent_fine r _ (Answer (name_of r) seq answer) mails (f.0.core.id, subst (λ (o : Option AnswerBody). Ans o) e (refusal_by r.group.core.gone r.group.core r.running r.hint op f.0.core.gone f.0.core)) f;
+    tells = λ drawer line why r mails e f. sent_fine r 0 (Told line.number (Tells.Refused why)) mails (subst (λ (o : Option OrderRefusal). Refused o) e (untaken_names drawer line r f.0)) f;
+    votes = λ from tx offer vote r mails h e f. (f.0, voted_to_names K r.me r.group from tx offer vote mails f.0.core h.0 h.1 (subst (λ (o : Option Past). PastOf o) e (standing_vote_names r.group.core tx f.0.core)) f.1);
+    sees = λ from tx watch vote r mails h e f. (f.0, watched_to_names K r.me from tx watch vote mails h.0 h.1 (subst (λ (o : Option Past). PastOf o) e (standing_vote_names r.group.core tx f.0.core)) f.1);
+    vote_ends = λ from tx coord part vote outcome r mails h e f. (f.0, outcome_names K r.me from tx part outcome mails h.0 h.2 (subst (λ (o : Option Outcome). Opt (OutcomeNames K) o) e (noted_outcome_names r.group.core tx f.0.core)) f.1);
+    watch_ends = λ from tx coord part vote outcome r mails h e f. (f.0, outcome_names K r.me from tx part outcome mails h.0 h.2 (subst (λ (o : Option Outcome). Opt (OutcomeNames K) o) e (noted_outcome_names r.group.core tx f.0.core)) f.1);
+    offer_sent_on = λ from tx offer r mails h f. sent_fine r from (TxElsewhere tx offer.coord r.hint) mails (h.0, h.1.coord) f;
+    watch_sent_on = λ from tx watch r mails h f. sent_fine r from (TxElsewhere tx watch.coord r.hint) mails (h.0, h.1.coord) f;
+    asks_next = λ from tx coord hint r mails h f. (f.0, asked_next_names r.group.core.lock r.me r.group.core from tx hint mails f.0.core.lock f.0.core h.0 f.1);
+    prepare_behind = λ from group ballot from_slot r mails h found low f. state_fine r from mails f;
+    accept_behind = λ from group report r mails h found low f. state_fine r from mails f;
+    ask_behind = λ from group slot r mails h f. state_fine r from mails f;
+    recalls = λ from group asked slot command r mails h e f. sent_fine r from (Learn (name_of r) slot command) mails (f.0.core.id, subst (λ (o : Option Command). Cmd K o) e (held_names K slot r f.0)) f;
+    wants = λ from group slot command r mails h low f. sent_fine r from (Ask (name_of r) (next r)) mails f.0.core.id f;
+    prepare_nacked = λ from group ballot from_slot r mails h found no f. sent_fine r from (Nack (name_of r) r.acceptor.promised) mails f.0.core.id f;
+    accept_nacked = λ from group report r mails h found no f. sent_fine r from (Nack (name_of r) r.acceptor.promised) mails f.0.core.id f;
+  }
+
+  abbrev name_walk : TableWalk
+  name_walk = record {
+    facts = name_facts;
+    hears = record {
+      prepare_round = λ from group ballot from_slot h. tt;
+      accept_round = λ from group ballot slot command h. tt;
+      nack_round = λ from group promised h. tt;
+      offer_filed = λ from tx offer h. h;
+      vote_filed = λ from tx coord part vote h. (h.0, h.3);
+      outcome_filed = λ from tx part outcome h. (h.0, h.2);
+      watch_filed = λ from tx watch h. h;
+      watched_filed = λ from tx coord part vote h. (h.0, h.3);
+    };
+    states = name_states;
+    says = name_says;
+  }
+
+  name_ticks : TableTicks name_facts
+  name_ticks = record {
+    waited = λ waits r mails f. f;
+    gives_up = λ tx body order heard r mails e on no f. (with_act r (GiveUp tx) (subst (λ (lock : Lock). LockNames K lock) e f.0.core.lock).0 f.0, f.1);
+    reminds = λ r mails on f. (f.0, reminder_names r.group.core.lock r.me r.group mails f.0.core.lock f.0.core f.1);
+    reasks = λ to slot command r mails on e f. sent_fine r to (Accept (name_of r) r.leader.ballot slot command) mails (f.0.core.id, subst (λ (o : Option Command). Cmd K o) e (flying_names K r slot f.0)) f;
+    relearns = λ to command r mails e f. sent_fine r to (Learn (name_of r) (next r - 1) command) mails (f.0.core.id, subst (λ (o : Option Command). Cmd K o) e (held_names K (next r - 1) r f.0)) f;
+  }
+
+  -- ---- all rows
 
   pub ordered_row_names : (drawer : Drawer) (line : OrderLine) (place : Place) → (untaken drawer line place.0 ≡ None → CommandNames K (ordered_command (next_name drawer) line.number line.order)) → F place → F (ordered_row drawer line place)
-  unfolding ordered_row
-  ordered_row_names drawer line (r, mails) c f =
-      taken_names (untaken drawer line r) line.number (ordered_command (next_name drawer) line.number line.order) (r, mails) (untaken_names drawer line r f.0) c f
-
-  -- the command of an order names its name, if it takes one
-  pub order_names : (name : Draw) (number : ℕ) (order : Order) → (takes_name order ≡ true → K name) → CommandNames K (ordered_command name number order)
-  order_names name number (An.Join node group) n = tt
-  order_names name number (An.Leave node group) n = tt
-  order_names name number (An.Split group at) n = n refl
-  order_names name number (An.Merge group) n = (n refl, tt)
-  order_names name number (An.Repart group at) n = (n refl, tt)
-  order_names name number (An.Migrate group node) n = (n refl, tt)
-
-  -- ---- Tick, with what a policy orders
-
-  command_names : (o : Option OrderRefusal) (command : Command) (r : ReplicaState) → (o ≡ None → CommandNames K command) → R r → R (with_command o command r)
-  command_names None command r c k = with_calls K r (r.backlog ++ command ∷ []) (Each-append (CommandNames K) r.backlog (command ∷ []) k.backlog (c refl, tt)) k
-  command_names (Some why) command r c k = k
-
-  -- what is drawn for an order, if it is taken and takes a name
-  drawn_name : (drawer : Drawer) (line : OrderLine) (r : ReplicaState) → Each (λ (owned : Owned). K owned.name) (drawn_for drawer line (Some r)) → untaken drawer line r ≡ None → takes_name line.order ≡ true → K (next_name drawer)
-  drawn_name drawer line r d taken named =
-      let yes = and_from (takes_name line.order) (is_none (untaken drawer line r)) named (ap (λ (o : Option OrderRefusal). is_none o) taken) in
-      (subst (Each (λ (owned : Owned). K owned.name)) (cond-true (takes_name line.order && is_none (untaken drawer line r)) (owned_by (next_name drawer) (group_of_order line.order) ∷ []) [] yes) d).0
-
-  line_names : (drawer : Drawer) (o : Option OrderLine) (r : ReplicaState) → Each (λ (owned : Owned). K owned.name) (drawn_wishing drawer o r) → R r → R (with_line drawer o r)
-  line_names drawer None r d k = k
-  line_names drawer (Some line) r d k =
-      command_names (untaken drawer line r) (ordered_command (next_name drawer) line.number line.order) r (λ taken. order_names (next_name drawer) line.number line.order (drawn_name drawer line r d taken)) k
-
-  wishing_names : (on : Bool) (drawer : Drawer) (place : Place) → Each (λ (owned : Owned). K owned.name) (drawn_wishing drawer (wished_line on place.0) place.0) → F place → F (wishing on drawer place)
-  unfolding wishing
-  wishing_names on drawer (r, mails) d f = (line_names drawer (wished_line on r) r d f.0, f.1)
+  ordered_row_names drawer line place c f = rows.orders name_walk drawer line place c f
 
   pub tick_names : (on : Bool) (drawer : Drawer) (r : ReplicaState) (mails : List Mail) → Each (λ (owned : Owned). K owned.name) (drawn_wishing drawer (wished_at on r) (waited r)) → F (r, mails) → F (tick_row on drawer (r, mails))
-  unfolding tick_row reminded
-  tick_names on drawer r mails d f =
-      cond_both (is_some r.group.core.gone || not (is_member (members r) r.me)) (r, mails) _ F (λ _. f)
-      (λ here. cond_both (not (settled r)) (elected (r, mails)) _ F (λ _. elected_names K (r, mails) f)
-      (λ leads. (
-      let line = wished_line on (waited r) in
-      let orders : wished_at on r ≡ line = cond-false (is_some r.group.core.gone || not (is_member (members r) r.me)) None (cond (not (settled r)) None line) here ∙ cond-false (not (settled r)) None line leads in
-      let drawn = subst (λ (o : Option OrderLine). Each (λ (owned : Owned). K owned.name) (drawn_wishing drawer o (waited r))) orders d in
-      let told = last_entry_sent (entry_at (next r - 1) r.log) r mails in
-      let again = asked_again r (next r) r.sets mails in
-      either_way F (is_idle r) (pumped (wishing on drawer (reminded (r, told)))) (pumped (wishing on drawer (reminded (r, again))))
-      (pumped_names K (wishing on drawer (reminded (r, told))) (wishing_names on drawer (reminded (r, told)) drawn (reminded_names (r, told) (f.0, last_names (entry_at (next r - 1) r.log) r mails (held_names K (next r - 1) r f.0) f.0 f.1))))
-      (pumped_names K (wishing on drawer (reminded (r, again))) (wishing_names on drawer (reminded (r, again)) drawn (reminded_names (r, again) (f.0, again_names r (next r) r.sets mails f.0 f.1)))))))
-
-  -- ---- all mail
+  tick_names on drawer r mails d f = tick.ticks name_walk name_ticks on drawer (r, mails) (λ here leads line e taken. (
+      let wished : wished_at on r ≡ Some line = cond-false (is_some r.group.core.gone || not (is_member (members r) r.me)) None (cond (not (settled r)) None (wished_line on (waited r))) here ∙ cond-false (not (settled r)) None (wished_line on (waited r)) leads ∙ e in
+      order_names (next_name drawer) line.number line.order (drawn_name drawer line (waited r) (subst (λ (o : Option OrderLine). Each (λ (owned : Owned). K owned.name) (drawn_wishing drawer o (waited r))) wished d) taken))) f
 
   pub mailed_names : (from : ℕ) (body : MailBody) (place : Place) → BodiesNames K body → F place → F (mailed from body place).0
-  unfolding mailed
-  mailed_names from (Request group client seq op) place b f = request_names client seq op place f
-  mailed_names from (Prepare group ballot from_slot) place b f = prepare_names K from ballot from_slot place f
-  mailed_names from (Promise group ballot reports) place b f = promise_row_names K from ballot reports place b.1 f
-  mailed_names from (Accept group ballot slot command) place b f = accept_names K from ballot slot command place b.1 f
-  mailed_names from (Accepted group ballot slot) place b f = accepted_names K from ballot slot place f
-  mailed_names from (Nack group ballot) place b f = nack_names K ballot place f
-  mailed_names from (Learn group slot command) place b f = learn_names K from slot command place b.1 f
-  mailed_names from (Ask group from_slot) place b f = ask_names K from from_slot place f
-  mailed_names from (Install group slot base sets) place b f = install_names from slot base sets place b.1 f
-  mailed_names from (Answer group seq answer) place b f = f
-  mailed_names from (TxPrepare tx offer) place b f = offer_row_names from tx offer place b.0 b.1 f
-  mailed_names from (TxVote tx coord part vote) place b f = vote_row_names from tx part vote place b.0 b.2 b.3 f
-  mailed_names from (TxOutcome tx part outcome) place b f = outcome_row_names tx outcome place b.0 b.2 f
-  mailed_names from (TxElsewhere tx coord hint) place b f = elsewhere_names from tx hint place b.0 f
-  mailed_names from (TxWatch tx watch) place b f = watch_row_names from tx watch place b.0 b.1 f
-  mailed_names from (TxWatched tx coord part vote) place b f = watched_row_names from tx part vote place b.0 b.2 b.3 f
-  mailed_names from (Told order result) place b f = f
+  mailed_names from body place b f = (rows.takes_mail name_walk from body place b tt f).0
 
-  pub mailed_kids : (from : ℕ) (body : MailBody) (place : Place) → BodiesNames K body → F place → Kids K (mailed from body place).1
-  unfolding mailed
-  mailed_kids from (Accepted group ballot slot) place b f = accepted_kids K from ballot slot place f
-  mailed_kids from (Learn group slot command) place b f = learn_kids K from slot command place b.1 f
-  mailed_kids from _ place b f = tt
+  -- the children of a mail
+  abbrev pub Kids : List Base → Type 0
+  Kids made = Each (λ (base : Base). CoreNames K base.core) made
+
+  pub mailed_kids : (from : ℕ) (body : MailBody) (place : Place) → BodiesNames K body → F place → Kids (mailed from body place).1
+  mailed_kids from body place b f = (rows.takes_mail name_walk from body place b tt f).1
+
+  pub made_names : (me from : ℕ) (group : Draw) (slot : ℕ) (base : Base) (sets : List (List ℕ)) → K group → CoreNames K base.core → F (made_by me from group slot base sets)
+  made_names me from group slot base sets g b = rows.makes name_walk me from group slot base sets (installed_names K me slot (named group base) sets (named_names K group base g b), tt)

@@ -26,6 +26,7 @@ use Rattle.sc_law_groups.proofs.GroupProofs.Offering.{with_calls, with_acts, fin
 use Rattle.sc_law_groups.proofs.GroupProofs.Entering.{entered_has, entered_replica, entered_next, entered_runs}
 use Rattle.sc_law_groups.proofs.GroupProofs.Welcoming.{welcomed_place}
 use Rattle.sc_law_walks.proofs.Lemmas.{landed_place, cleared}
+use Rattle.sc_law_walks.proofs.Queues.{back_runs}
 
 module _ (ahead : Ahead) (base : Base) (made : Command → Type 0) (heard : MailBody → Type 0) (me : ℕ) (older : List Mail) (before : Steps) (speaks : Speaks ahead base made heard before)
     (some : (log : List Command) → Each made log → (node : ℕ) × (rest : List ℕ) × ((rule ahead base).members log ≡ node ∷ rest)) where
@@ -50,16 +51,6 @@ module _ (ahead : Ahead) (base : Base) (made : Command → Type 0) (heard : Mail
   back_replica h (Split at child order) r m k = with_calls ahead base made heard me older before speaks some h r (Split at child order ∷ r.backlog) k (m, k.backlog)
   back_replica h (Begin tx body order) r m k = with_calls ahead base made heard me older before speaks some h r (Begin tx body order ∷ r.backlog) k (m, k.backlog)
   back_replica h c r m k = with_acts ahead base made heard me older before speaks some h r (c ∷ r.acts) k (m, k.acts)
-
-  back_runs : (c : Command) (r : ReplicaState) → (put_back c r).running ≡ r.running
-  unfolding put_back
-  back_runs Noop r = refl
-  back_runs (Call client seq op) r = refl
-  back_runs (Join node order) r = refl
-  back_runs (Leave node order) r = refl
-  back_runs (Split at child order) r = refl
-  back_runs (Begin tx body order) r = refl
-  back_runs c r = refl
 
   back_log : (c : Command) (r : ReplicaState) → (put_back c r).log ≡ r.log
   unfolding put_back

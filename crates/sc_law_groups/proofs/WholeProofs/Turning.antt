@@ -29,7 +29,7 @@ use Rattle.sc_law_groups.proofs.WholeProofs.Growing.{grown}
 use Rattle.sc_law_groups.proofs.WholeProofs.Members.{members_stay_rosters}
 
 -- the child of an entry is one of its log's
-child_in : (group : Group) (prefix : List Command) (c : Command) (child : Base) → birth_of (state_after group prefix) c (applied (state_after group prefix) c).1 ≡ Some child → Among child (children_of group (prefix ++ c ∷ []))
+pub child_in : (group : Group) (prefix : List Command) (c : Command) (child : Base) → birth_of (state_after group prefix) c (applied (state_after group prefix) c).1 ≡ Some child → Among child (children_of group (prefix ++ c ∷ []))
 child_in group [] c child e = Among-left child (option_to_list (birth_of group c (applied group c).1)) [] (subst (λ o. Among child (option_to_list o)) (sym e) (inl refl))
 child_in group (d ∷ prefix) c child e =
     Among-right child (option_to_list (birth_of group d (applied group d).1)) (children_of (applied group d).0 (prefix ++ c ∷ [])) (child_in (applied group d).0 prefix c child e)

@@ -10,8 +10,7 @@ use Rattle.sc_meaning.specs.sound.Definitions.{Player, player_table}
 use Rattle.sc_law_refusal.specs.queue.OneCall.{KeepsOneCall, EachKeepsOneCall, StepsKeepOneCall, QueuesKeepOneCall}
 use Rattle.sc_law_refusal.proofs.QueueProofs.Lists.{one_none}
 use Rattle.sc_law_walks.proofs.Lemmas.{either_way}
-use Rattle.sc_law_refusal.proofs.QueueProofs.Queueing.{Keeps}
-use Rattle.sc_law_refusal.proofs.QueueProofs.Rows.{order_keeps, tick_keeps, mailed_keeps, made_keeps}
+use Rattle.sc_law_refusal.proofs.QueueProofs.QueuedCalls.{Keeps, order_keeps, tick_keeps, mailed_keeps, made_keeps}
 
 abbrev All : List ReplicaState → Type 0
 All replicas = Each KeepsOneCall replicas

@@ -1,11 +1,11 @@
 -- Each event of a player in a journal whose log is one keeps a group well led.
-use Rattle.std.proofs.Common.{◌≡◌, ℕ, zero, suc, true, true≢false, List, [], ◌∷◌, ◌++◌, slice_get, Option, Some, None, inl, inr, refl, sym, ◌∙◌, ap, subst, append_assoc}
+use Rattle.std.proofs.Common.{◌≡◌, ℕ, true, true≢false, List, [], ◌∷◌, ◌++◌, Option, Some, None, inl, inr, refl, sym, ◌∙◌, ap, subst, append_assoc}
 use Rattle.std.proofs.lemmas.Bool.{cases_Bool}
-use Rattle.sc_base.specs.Definitions.{Among, Each, same_draw}
+use Rattle.sc_base.specs.Definitions.{Each, same_draw}
 use Rattle.sc_node_table.specs.Values.{Draw, Base, OrderLine, Mail, MailBody, Prepare, Promise, Accept, Accepted, Nack, Learn, Ask, Install, Node, Client, Seat, Event, Deliver, Tick, Go, Crash, Drop, Again}
 use Rattle.sc_base.proofs.Lemmas.{draw_is, same_name}
 use Rattle.sc_actor.specs.declared.rows.Event.TheVariants.{Told}
-use Rattle.sc_actor.specs.Definitions.{mails, numbered, value, row_of}
+use Rattle.sc_actor.specs.Definitions.{mails, value, row_of}
 use Rattle.sc_live_orderly.specs.Definitions.{IsTidy, IsCalmEvent, AreInTime}
 use Rattle.sc_live_orderly.proofs.Lemmas.{in_time_before, in_time_tidy, takes_first, is_born-from}
 use Rattle.sc_words.proofs.PaxosProofs.Lemmas.{Each-among}
@@ -16,20 +16,11 @@ use Rattle.sc_live_steps.specs.following.Definitions.{Tells, mark_of, Course, Se
 use Rattle.sc_live_steps.proofs.FollowingProofs.Lemmas.{same_mark}
 use Rattle.sc_live_journals.specs.rows.Definitions.{view_at, mark_in, TakesMail, HoldsReplica, IsOwnMail, IsOwnAsking, IsSeat, with_event, LeavesAlone, IsReplicasRow, IsWellKept}
 use Rattle.sc_live_journals.proofs.RowsProofs.Lemmas.{ballots_own, fit, others_idle, rows_replicas, view_was, Plays, Found, found_well, replay_well}
-use Rattle.sc_live_journals.specs.groups.Definitions.{IsLedStep, Ends, IsWellLed, IsOfLog, CountsAsMember, IsLedScene, IsWellPlayer, AreWellBorn, IsRowOf, Delivers, HasOneLog, IsSentSo, EventsGoOn, EventsKeepLed}
+use Rattle.sc_live_journals.specs.groups.Definitions.{IsLedStep, Ends, IsWellLed, IsOfLog, CountsAsMember, IsLedScene, IsWellPlayer, AreWellBorn, IsRowOf, Delivers, HasOneLog, IsSentSo, EventsGoOn}
 use Rattle.sc_live_journals.proofs.GroupsProofs.LeaderEvents.{leaders_keep_led}
 use Rattle.sc_live_journals.proofs.GroupsProofs.NodeMail.{scene}
 use Rattle.sc_live_journals.proofs.GroupsProofs.IdleEvents.{others_keep_led, mails_keep_led}
-
--- a mail that has a number was sent
-among_place : {X : Type 0} (xs : List X) (place : ℕ) (x : X) → slice_get xs place ≡ Some x → Among x xs
-among_place [] place x e = cc
-among_place (y ∷ xs) zero x e = inl (let both : Some y ≡ Some x = e in cc)
-among_place (y ∷ xs) (suc place) x e = inr (among_place xs place x e)
-
-number_among : (sent : List Mail) (number : ℕ) (mail : Mail) → numbered sent number ≡ Some mail → Among mail sent
-number_among sent zero mail e = cc
-number_among sent (suc place) mail e = among_place sent place mail e
+use Rattle.sc_law_groups.proofs.GroupProofs.RowSteps.{number_among}
 
 -- a player that is born well, as what is said of it later
 pub plays_of : (who : ℕ) (player : Player) → IsWellPlayer who player → Plays who player

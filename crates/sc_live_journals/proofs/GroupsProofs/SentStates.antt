@@ -16,10 +16,7 @@ use Rattle.sc_law_walks.proofs.Lemmas.{idle_ready}
 use Rattle.sc_live_steps.specs.following.Definitions.{Mark, Installs, mark_of, marks_of, Course, Progress, Sets, IsLed, IsNext, AreNext, IsLeadOf, IsAside, DecidesNext, marks_for}
 use Rattle.sc_live_steps.proofs.FollowingProofs.Lemmas.{aside_is, order_is, entered_keeps, landed_is, told_state, ends, entries_lead, with_state, with_both, stays_led, ready_of, among-left, among-right, same_mark, vote_row, turned_kept, spoken_kept, ended_kept, announced_kept}
 use Rattle.sc_live_journals.specs.groups.Definitions.{IsStateFrom}
-
-pub each_among : {X : Type 0} (P : X → Type 0) (xs : List X) → ((x : X) → Among x xs → P x) → Each P xs
-each_among P [] f = tt
-each_among P (x ∷ xs) f = (f x (inl refl), each_among P xs (λ y a. f y (inr a)))
+pub use Rattle.sc_words.proofs.PaxosProofs.ListLemmas.{Each-from as each_among}
 
 -- a mail's mark is among those for its receiver
 pub among_marks : (name : Draw) (mails : List Mail) (mail : Mail) (mark : Mark) → Among mail mails → mark_of name mail.from mail.body ≡ Some mark → Among mark (marks_for name mail.to mails)

@@ -10,6 +10,7 @@ use Rattle.sc_law_walks.proofs.Lemmas.{either_way}
 use Rattle.sc_live_steps.specs.following.Definitions.{AreApart}
 use Rattle.sc_live_steps.proofs.FollowingProofs.Lemmas.{apart_without, apart_polled, apart_pushed}
 use Rattle.sc_live_journals.specs.groups.Definitions.{FlyFrom, AreRising, WaitFrom}
+use Rattle.sc_law_groups.proofs.GroupProofs.Parts.{Each-without_flight as each_without}
 
 -- where none is at this slot, all are later
 none_there : (n : ℕ) (fs : List (Flight Command)) → Each (λ f. n ≤ f.slot) fs → flight_at n fs ≡ None → Each (λ f. n + 1 ≤ f.slot) fs
@@ -31,10 +32,6 @@ later_flights n (f ∷ fs) all apart = by (eqb f.slot n) refl (later_flights n f
 -- the one at a slot is over
 pub fly_past : (n : ℕ) (fs : List (Flight Command)) → FlyFrom n fs → FlyFrom (n + 1) (without_flight n fs)
 fly_past n fs k = (later_flights n fs k.0 k.1, apart_without n fs k.1)
-
-each_without : (P : Flight Command → Type 0) (slot : ℕ) (fs : List (Flight Command)) → Each P fs → Each P (without_flight slot fs)
-each_without P slot [] k = tt
-each_without P slot (f ∷ fs) k = either_way (Each P) (eqb f.slot slot) fs (f ∷ without_flight slot fs) k.1 (k.0, each_without P slot fs k.1)
 
 pub fly_without : (n slot : ℕ) (fs : List (Flight Command)) → FlyFrom n fs → FlyFrom n (without_flight slot fs)
 fly_without n slot fs k = (each_without (λ f. n ≤ f.slot) slot fs k.0, apart_without slot fs k.1)

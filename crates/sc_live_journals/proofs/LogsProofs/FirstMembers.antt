@@ -1,5 +1,5 @@
 -- Groups of a scenario and their children begin with nodes of the scenario, and what orders and policies queue brings such.
-use Rattle.std.proofs.Common.{◌≡◌, ℕ, ◌<◌, ◌≤◌, ◌&&◌, Bool, List, [], ◌∷◌, zero, suc, length, map, Option, Some, None, inl, inr, ◌∙◌, ap, subst, arith, option_to_list}
+use Rattle.std.proofs.Common.{◌≡◌, ℕ, ◌<◌, ◌≤◌, ◌&&◌, Bool, List, [], ◌∷◌, zero, suc, length, map, Option, Some, None, inl, inr, ◌∙◌, subst, arith, option_to_list}
 use Rattle.std.specs.FinMap.{entries}
 use Rattle.std.specs.Option.{option_map}
 use Rattle.std.proofs.lemmas.Bool.{cond_both}
@@ -28,6 +28,7 @@ use Rattle.sc_meaning.specs.sound.Definitions.{children_of, line_of}
 use Rattle.sc_law_entries.proofs.NamesProofs.Lemmas.{Each-drop}
 use Rattle.sc_law_groups.proofs.GroupProofs.Lemmas.{TellsSo}
 use Rattle.sc_live_journals.proofs.LogsProofs.Nodes.{BringsNodes, HasNodes, nodes_stay_nodes}
+use Rattle.sc_law_groups.proofs.WholeProofs.Children.{listed}
 
 module _ (scenario : Scenario) where
   -- a group at a place of its lines
@@ -138,12 +139,6 @@ module _ (scenario : Scenario) where
       (λ _ is. by_order group.core.gone (refusal_of group.core (Split at child order)) group at child has kid is) e
   command_nodes group (RecordWatch tx vote by) has kid e = by_watch group.core.lock group tx vote has kid e
   command_nodes group _ has kid e = cc
-
-  -- what an option has
-  listed : (o : Option Base) (kid : Base) → Among kid (option_to_list o) → o ≡ Some kid
-  listed None kid a = absurd a
-  listed (Some b) kid (inl e) = ap (λ (x : Base). Some x) e
-  listed (Some b) kid (inr n) = absurd n
 
   -- the children of a log
   pub children_nodes : (group : Group) (log : List Command) → (HasNodes (IsUpTo scenario.nodes)) group.core → Each (BringsNodes (IsUpTo scenario.nodes)) log → (kid : Base) → Among kid (children_of group log) → (HasNodes (IsUpTo scenario.nodes)) kid.core

@@ -1,22 +1,20 @@
 -- The members of a group stay such nodes, whatever it executes that brings such nodes.
-use Rattle.std.proofs.Common.{◌≡◌, ℕ, ◌-◌, ◌&&◌, not, nat_lt, nat_le, eqb, true, List, [], ◌∷◌, filter, take, zero, suc, length, Option, Some, None, refl, sym, subst}
+use Rattle.std.proofs.Common.{◌≡◌, ℕ, ◌-◌, ◌&&◌, not, nat_lt, nat_le, true, List, [], ◌∷◌, filter, take, zero, suc, length, Option, Some, None, sym, subst}
 use Rattle.std.proofs.lemmas.Bool.{cond_both, and_parts}
 use Rattle.sc_base.specs.Definitions.{Each, same_draw, holds, is_member, with_member, with_any, united}
-use Rattle.sc_node_table.specs.Values.{Draw, Noted, Op, Body, Offer, Command, Noop, Call, Join, Leave, Split, Begin, Prepared, RecordVote, GiveUp, Finish, Watched, RecordWatch, Lock, Free, Coordinating, Promised, Watching, Effect, Route, OrderRefusal, Frozen, Gift, Heard, No, Outcome, Abort, Merged, Moved, Migrated, Divided, Past, Vote, Core, MailBody, TxVote, TxOutcome, Base}
-use Rattle.sc_words.specs.ideal.Definitions.{key_of, holds_key}
-use Rattle.std.specs.FinMap.{get}
+use Rattle.sc_node_table.specs.Values.{Draw, Body, Offer, Command, Noop, Call, Join, Leave, Split, Begin, Prepared, RecordVote, GiveUp, Finish, Watched, RecordWatch, Lock, Free, Coordinating, Promised, Watching, Effect, OrderRefusal, Frozen, Gift, Heard, No, Outcome, Abort, Merged, Moved, Migrated, Divided, Past, Vote, Core, MailBody, TxVote, TxOutcome, Base}
 use Rattle.sc_words.specs.declared.commands.bodies.Body.TheVariants as At
-use Rattle.sc_words.specs.declared.commands.effects.Effect.TheVariants as Was
 use Rattle.sc_words.specs.declared.commands.votes.Past.TheVariants as Cast
 use Rattle.sc_words.specs.declared.commands.votes.Vote.TheVariants as Says
 use Rattle.sc_words.specs.commands.Definitions.{is_alone, decided_in}
-use Rattle.sc_group_table.specs.machine.Definitions.{state_after, Group, group_of, served_by_note, served, called, ordered_by, split_group, applied, refusal_of, with_node, without_node, has_named, left_group, staying, Plan, can_cut, has_key_of, taken, taking_group, can_split, split_plan, may_merge, merge_plan, closing_plan, can_repart, giving_plan, taking_plan, repart_plan, can_migrate, migrate_plan, begun_group, decided, committed, granted, participant_answered, asks_watcher, vote_recorded, released, watch_answered, watch_recorded, is_coordinating, has_voted, bound_by, voted_on, can_gain, gained_group, lost_group, welcomed_group, moved, participant_after, settled_in, finished}
+use Rattle.sc_group_table.specs.machine.Definitions.{state_after, Group, group_of, ordered_by, split_group, applied, refusal_of, with_node, without_node, has_named, left_group, staying, Plan, can_cut, has_key_of, taken, taking_group, can_split, split_plan, may_merge, merge_plan, closing_plan, can_repart, giving_plan, taking_plan, repart_plan, can_migrate, migrate_plan, begun_group, decided, committed, granted, participant_answered, asks_watcher, vote_recorded, released, watch_answered, watch_recorded, is_coordinating, has_voted, bound_by, voted_on, can_gain, gained_group, lost_group, welcomed_group, moved, participant_after, settled_in, finished}
 use Rattle.sc_words.proofs.PaxosProofs.Lemmas.{Each-among, Each-append, Each-filter}
 use Rattle.sc_paxos_law.proofs.Lemmas.{member-among}
 use Rattle.sc_meaning.specs.sound.Definitions.{decided_log, Ahead}
 use Rattle.sc_law_groups.proofs.GroupProofs.Lemmas.{ordered_if}
 use Rattle.sc_law_entries.specs.logs.Definitions.{Rows}
 use Rattle.sc_live_journals.specs.logs.Definitions.{logged_sets}
+use Rattle.sc_live_steps.proofs.FollowingProofs.StoppingLeaders.{called_core}
 
 module _ (Home : ℕ → Type 0) where
   -- each of these is a node
@@ -74,21 +72,6 @@ module _ (Home : ℕ → Type 0) where
   SaysNodes _ = Unit {0}
 
   -- ---- a call
-
-  numbered_core : (o : Option Noted) (group : Group) (client seq : ℕ) (op : Op) → (served_by_note o group client seq op).0.core ≡ group.core
-  numbered_core None group client seq op = refl
-  numbered_core (Some n) group client seq op =
-      cond_both (nat_lt n.seq seq) _ _ (λ (x : Group × Effect). x.0.core ≡ group.core) (λ _. refl) (λ _. cond_both (eqb n.seq seq) (group, Was.Again n.reply) (group, Was.Stale n.seq) (λ (x : Group × Effect). x.0.core ≡ group.core) (λ _. refl) (λ _. refl))
-
-  served_core : (group : Group) (client seq : ℕ) (op : Op) → (served group client seq op).0.core ≡ group.core
-  served_core group client seq op = cond_both (holds_key group.core.arc (key_of op)) _ _ (λ (x : Group × Effect). x.0.core ≡ group.core) (λ _. numbered_core (get group.clients client) group client seq op) (λ _. refl)
-
-  called_core : (gone : Option Route) (lock : Lock) (group : Group) (client seq : ℕ) (op : Op) → (called gone lock group client seq op).0.core ≡ group.core
-  called_core (Some into) lock group client seq op = refl
-  called_core None Free group client seq op = served_core group client seq op
-  called_core None (Watching tx watch) group client seq op = served_core group client seq op
-  called_core None (Coordinating tx body order heard) group client seq op = refl
-  called_core None (Promised tx offer) group client seq op = refl
 
   -- ---- sets of nodes
 

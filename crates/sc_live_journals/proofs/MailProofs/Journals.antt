@@ -1,10 +1,9 @@
 -- What a walk says is kept by each row of a journal, and so holds after any rows that come in time: of each player, and of each mail.
-use Rattle.std.proofs.Common.{◌≡◌, ℕ, zero, suc, ◌+◌, eqb, refl, List, [], ◌∷◌, ◌++◌, length, map, find, Option, Some, None, sym, ◌∙◌, subst, ◌⊎◌, inl, inr}
-use Rattle.std.specs.Prelude.{slice_get}
+use Rattle.std.proofs.Common.{◌≡◌, ℕ, ◌+◌, eqb, refl, List, [], ◌∷◌, ◌++◌, length, map, find, Option, Some, None, sym, ◌∙◌, subst, ◌⊎◌, inl, inr}
 use Rattle.std.specs.Option.{option_map}
 use Rattle.std.proofs.lemmas.List.{length_push}
 use Rattle.std.proofs.lemmas.Bool.{eqb-true}
-use Rattle.sc_base.specs.Definitions.{Each, Among, same_draw, client_actor, is_member}
+use Rattle.sc_base.specs.Definitions.{Each, same_draw, client_actor, is_member}
 use Rattle.sc_node_table.specs.Values.{Draw, Base, OrderLine, Mail, Node, Client, Seat, Event, Deliver, Go as GoEvent, Input, Got, Row}
 use Rattle.sc_actor.specs.declared.rows.Event.TheVariants.{Told as ToldEvent}
 use Rattle.sc_actor.specs.declared.rows.Input.TheVariants.{Go as GoInput, Told as ToldInput}
@@ -25,16 +24,7 @@ use Rattle.sc_live_journals.specs.mail.Definitions.{IsPlainlyKept}
 use Rattle.sc_live_journals.proofs.MailProofs.Clients.{IsRequestOf, clients_ask}
 use Rattle.sc_live_journals.proofs.MailProofs.PartWalks.{Given, Starts, Stands, input_step, Sends, EarlyAt, LateAt, Hears}
 use Rattle.sc_live_journals.proofs.MailProofs.Walks.{PartWalk, PartBirths, Part, part, born_part}
-
--- a mail that has a number was sent
-among_place : {X : Type 0} (xs : List X) (place : ℕ) (x : X) → slice_get xs place ≡ Some x → Among x xs
-among_place [] place x e = cc
-among_place (y ∷ xs) zero x e = inl (let both : Some y ≡ Some x = e in cc)
-among_place (y ∷ xs) (suc place) x e = inr (among_place xs place x e)
-
-number_among : (sent : List Mail) (number : ℕ) (mail : Mail) → numbered sent number ≡ Some mail → Among mail sent
-number_among sent zero mail e = cc
-number_among sent (suc place) mail e = among_place sent place mail e
+use Rattle.sc_law_groups.proofs.GroupProofs.RowSteps.{number_among}
 
 -- a mail of a player: of a node that may send it, or a client's request
 abbrev pub Speaks : PartWalk → Seat Player → Mail → Type 0

@@ -2,9 +2,8 @@
 use Rattle.std.proofs.Common.{length, ◌≡◌, ℕ, zero, suc, ◌+◌, ◌≤◌, nat_le, eqb, true, false, List, [], ◌∷◌, map, refl, sym, ◌∙◌, ap, subst, inl, inr, arith, rules, tests}
 use Rattle.std.proofs.lemmas.Bool.{le-leb}
 use Rattle.sc_base.specs.Definitions.{Each, most_nodes}
-use Rattle.sc_node_table.specs.Values.{Base, Mail, MailBody, Request, Node, Client, Seat, Row}
-use Rattle.sc_actor.specs.Definitions.{mails, row_of, value}
-use Rattle.sc_live_orderly.proofs.Lemmas.{last_in_time, in_time_before}
+use Rattle.sc_node_table.specs.Values.{Base, Mail, MailBody, Request, Node, Client, Seat}
+use Rattle.sc_actor.specs.Definitions.{mails, value}
 use Rattle.sc_words.proofs.PaxosProofs.Lemmas.{Each-among, Each-append, Each-weaker, find_found, find_nothing}
 use Rattle.sc_scenario.specs.declared.scenario.scenarios.Asks.{Asks as Requests}
 use Rattle.sc_scenario.specs.declared.scenario.scenarios.Scenario.{Scenario}
@@ -14,8 +13,8 @@ use Rattle.sc_meaning.specs.sound.Definitions.{Player, player_table, node_seat, 
 use Rattle.sc_live_steps.specs.calm.Definitions.{players, Rows}
 use Rattle.sc_live_orderly.specs.Definitions.{AreInTime}
 use Rattle.sc_live_journals.specs.rows.Definitions.{IsSeat}
-use Rattle.sc_live_journals.specs.mail.Definitions.{IsNodesBody, IsClientsBody, IsPlayers, IsPosted, MailIsPosted, RowsPostTheirOwn, MailMayCome, DesksAreNotBorn}
-use Rattle.sc_live_journals.proofs.MailProofs.Journals.{Speaks, Law, Holds, Plays, row_speaks, journals_hold}
+use Rattle.sc_live_journals.specs.mail.Definitions.{IsNodesBody, IsClientsBody, IsPlayers, IsPosted, MailIsPosted, MailMayCome, DesksAreNotBorn}
+use Rattle.sc_live_journals.proofs.MailProofs.Journals.{Speaks, Law, Plays, journals_hold}
 use Rattle.sc_live_journals.proofs.MailProofs.PartWalks.{hears_all}
 use Rattle.sc_live_journals.proofs.MailProofs.Walks.{PartWalk}
 
@@ -112,7 +111,7 @@ clients_stay words scenario rows timely seat client born is =
 
 -- ---- the numbers of a scenario's players
 
-numbers_in : (from more : ℕ) → Each (λ n. (from ≤ n) × (n + 1 ≤ from + more)) (numbers_from from more)
+pub numbers_in : (from more : ℕ) → Each (λ n. (from ≤ n) × (n + 1 ≤ from + more)) (numbers_from from more)
 numbers_in from zero = tt
 numbers_in from (suc more) = ((omega arith, omega arith), Each-weaker (λ n. (from + 1 ≤ n) × (n + 1 ≤ (from + 1) + more)) (λ n. (from ≤ n) × (n + 1 ≤ from + suc more)) (λ n k. (omega (arith, k.0), omega (arith, k.1))) (numbers_from (from + 1) more) (numbers_in (from + 1) more))
 

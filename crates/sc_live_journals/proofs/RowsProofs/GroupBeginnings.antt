@@ -1,5 +1,5 @@
 -- How the groups of a scenario begin, over its players.
-use Rattle.std.proofs.Common.{◌≡◌, ℕ, zero, suc, ◌+◌, ◌<◌, ◌≤◌, ◌||◌, not, nat_lt, eqb, Bool, true, false, true≢false, cond, List, [], ◌∷◌, ◌++◌, length, map, find, replicate, Option, Some, None, inl, inr, refl, sym, ◌∙◌, ap, subst, arith}
+use Rattle.std.proofs.Common.{◌≡◌, ℕ, zero, suc, ◌+◌, ◌<◌, ◌≤◌, ◌||◌, not, nat_lt, eqb, true, false, cond, List, [], ◌∷◌, ◌++◌, length, map, find, replicate, Option, Some, None, inl, inr, refl, sym, ◌∙◌, ap, subst, arith}
 use Rattle.std.specs.List.{filter}
 use Rattle.std.specs.Option.{option_map}
 use Rattle.std.specs.Prelude.{is_some}
@@ -15,10 +15,10 @@ use Rattle.sc_scenario.specs.declared.scenario.drafts.GroupLine.{GroupLine}
 use Rattle.sc_scenario.specs.declared.scenario.scenarios.Asks.{Asks}
 use Rattle.sc_scenario.specs.declared.scenario.scenarios.Scenario.{Scenario}
 use Rattle.sc_meaning.specs.sound.Definitions.{node_seat, client_seat, client_seats, route_of, births, as_nodes}
-use Rattle.sc_live_steps.specs.calm.Definitions.{players}
-use Rattle.sc_live_steps.specs.following.Definitions.{IsLed, Mark, Sets, Course, Progress, IsFollowing, begun, voters_of, IsLeadOf, AreAt}
-use Rattle.sc_live_steps.proofs.FollowingProofs.Lemmas.{begins, idle-keeps, least_in, among-either}
-use Rattle.sc_live_journals.specs.rows.Definitions.{ScenariosBeginFollowing, ChildrenBeginFollowing, replica_in, view_at, next_in, promise_in, progress_at, marks_at, begun_course, IsLedBy, IsCourseOf}
+use Rattle.sc_live_steps.specs.following.Definitions.{IsLed, Sets, Course, Progress, begun, voters_of, IsLeadOf, AreAt}
+use Rattle.sc_live_steps.proofs.FollowingProofs.Lemmas.{least_in, among-either}
+use Rattle.sc_live_journals.specs.rows.Definitions.{replica_in, view_at, next_in, promise_in, progress_at, begun_course}
+use Rattle.sc_paxos_law.proofs.Among.{member-among as among_member}
 
 -- ---- the first member at its birth
 
@@ -77,14 +77,6 @@ record IsBorn (nodes : ℕ) (base : Base) : Type 0 where
   first : is_member base.core.members base.core.first ≡ true
   stands : base.core.gone ≡ None
   within : (node : ℕ) → is_member base.core.members node ≡ true → (1 ≤ node) × (node ≤ nodes)
-
-among_member : (members : List ℕ) (node : ℕ) → is_member members node ≡ true → Among node members
-among_member [] node e = absurd (true≢false (sym e))
-among_member (x ∷ members) node e = by (eqb x node) refl e (λ m. among_member members node m)
-  where
-    by : (b : Bool) → eqb x node ≡ b → (b || is_member members node) ≡ true → (is_member members node ≡ true → Among node members) → Among node (x ∷ members)
-    by true t e2 rest = inl (eqb-true x node t)
-    by false f e2 rest = inr (rest e2)
 
 module _ (scenario : Scenario) (bounded : IsBounded scenario) where
   place_of : (base : Base) → Among base scenario.groups → (k : ℕ) × (k < length bounded.starts) × (base_at bounded.starts k ≡ base)

@@ -1,5 +1,5 @@
 -- In any journal a replica's acceptor has forgotten nothing from its next slot on, and where it does not run nothing is in flight or ready.
-use Rattle.std.proofs.Common.{◌≡◌, ℕ, ◌+◌, ◌-◌, ◌<◌, ◌≤◌, max, cond, true, false, true≢false, List, [], ◌∷◌, Option, Some, refl, sym, ◌∙◌, ap, subst, arith}
+use Rattle.std.proofs.Common.{◌≡◌, ℕ, ◌+◌, ◌<◌, ◌≤◌, cond, true, false, true≢false, List, [], Option, Some, refl, sym, ◌∙◌, ap, arith}
 use Rattle.sc_base.specs.Definitions.{Each}
 use Rattle.sc_node_table.specs.Values.{Ballot, Draw, Command, Base, Mail, OrderLine, Row}
 use Rattle.sc_words.specs.paxos.Definitions.{below, installed}
@@ -9,8 +9,9 @@ use Rattle.sc_actor.specs.Definitions.{replay}
 use Rattle.sc_law_walks.specs.Definitions.{IsKept}
 use Rattle.sc_law_walks.proofs.Lemmas.{entered_next, cut_next, either_way, StateParts, ended_replica, StateBirths}
 use Rattle.sc_live_steps.proofs.FollowingProofs.Lemmas.{entered_floor, floor_low}
-use Rattle.sc_live_journals.specs.rows.Definitions.{IsWellKept, NodesStayWellKept, NodesAreBornWellKept}
+use Rattle.sc_live_journals.specs.rows.Definitions.{IsWellKept, NodesAreBornWellKept}
 use Rattle.sc_live_journals.proofs.RowsProofs.Players as players
+use Rattle.sc_live_steps.proofs.FollowingProofs.MailTables.{jumped_floor}
 
 abbrev pub Stands : ReplicaState → Type 0
 Stands r = (r.acceptor.floor < next r) × (r.running ≡ false → r.ready ≡ [])
@@ -32,10 +33,6 @@ enters command r k =
 jumped_next : (slot : ℕ) (base : Base) (sets : List (List ℕ)) (r : ReplicaState) → next (jumped slot base sets r) ≡ slot + 1
 unfolding jumped forgotten
 jumped_next slot base sets r = (let most = floor_low slot in cut_next (floor_of slot) (installed slot) (omega (arith, most)) ∙ omega arith)
-
-jumped_floor : (slot : ℕ) (base : Base) (sets : List (List ℕ)) (r : ReplicaState) → (jumped slot base sets r).acceptor.floor ≡ max r.acceptor.floor (floor_of slot)
-unfolding jumped forgotten
-jumped_floor slot base sets r = refl
 
 jumped_rests : (slot : ℕ) (base : Base) (sets : List (List ℕ)) (r : ReplicaState) → (r.running ≡ false → r.ready ≡ []) → (jumped slot base sets r).running ≡ false → (jumped slot base sets r).ready ≡ []
 unfolding jumped forgotten

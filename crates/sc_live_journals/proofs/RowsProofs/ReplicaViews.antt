@@ -62,7 +62,7 @@ new_others name new (x ∷ replicas) ne =
     (λ _. cond-false (same_draw (name_of new) name) (Some new) (cond (same_draw (name_of x) name) (Some x) (replica_of name replicas)) (apart (name_of new) name ne))
 
 -- a child of another name leaves it
-child_others : (name : Draw) (child : Base) (node : NodeState) → (child.core.id ≡ name → ⊥) → replica_of name (with_born child node).replicas ≡ replica_of name node.replicas
+pub child_others : (name : Draw) (child : Base) (node : NodeState) → (child.core.id ≡ name → ⊥) → replica_of name (with_born child node).replicas ≡ replica_of name node.replicas
 child_others name child node ne =
     cond_both (is_some (replica_of child.core.id node.replicas)) node (record node { replicas = with_new (born_replica slots_ahead node.me child) node.replicas }) (λ n. replica_of name n.replicas ≡ replica_of name node.replicas)
     (λ _. refl) (λ _. new_others name (born_replica slots_ahead node.me child) node.replicas ne)

@@ -2,7 +2,7 @@
 use Rattle.std.proofs.Common.{◌≡◌, ℕ, true≢false, cond, List, [], ◌∷◌, Option, Some, None, ◌⊎◌, inl, inr, refl, sym, ◌∙◌, ap, subst}
 use Rattle.std.specs.Prelude.{is_some}
 use Rattle.std.specs.Option.{option_map}
-use Rattle.std.proofs.lemmas.Bool.{cases_Bool, cond-true, cond_both}
+use Rattle.std.proofs.lemmas.Bool.{cases_Bool, cond-true}
 use Rattle.sc_base.specs.Definitions.{Among, Each, same_draw}
 use Rattle.sc_node_table.specs.Values.{Draw, Base, OrderLine, Mail, MailBody, Install, TxPrepare, TxVote, TxOutcome, TxElsewhere, TxWatch, TxWatched, Node, Seat, Event, Deliver, Input, Got}
 use Rattle.sc_base.proofs.Lemmas.{draw_is, same_name}
@@ -11,14 +11,15 @@ use Rattle.sc_actor.specs.declared.rows.Input.TheVariants.{Told as ToldInput}
 use Rattle.sc_actor.specs.Definitions.{mails, numbered, value, acted, input_of, row_of}
 use Rattle.sc_live_orderly.specs.Definitions.{AreInTime}
 use Rattle.sc_node_table.specs.Definitions.{NodeState, replica_of, with_replica, with_new, with_born, with_children, group_of_mail, may_come, unknown, taken_by, routed, on_mail, absent, group_of_order, ordered_of, on_order, ordered_row, ReplicaState, Executed, born_replica, mailed, slots_ahead}
-use Rattle.sc_law_walks.proofs.Lemmas.{either_way}
 use Rattle.sc_meaning.specs.sound.Definitions.{Player, player_table}
 use Rattle.sc_live_steps.specs.calm.Definitions.{players, Rows}
 use Rattle.sc_live_steps.proofs.CalmProofs.Lemmas.{put_others}
 use Rattle.sc_live_steps.specs.orders.Definitions.{Errand, errand_by}
 use Rattle.sc_live_journals.specs.rows.Definitions.{replicas_of, view_at, IsSeat, with_event}
-use Rattle.sc_live_journals.proofs.RowsProofs.Lemmas.{names_stay, found_name, rows_replicas, view_was, view_is, sent_is, new_others, new_is}
+use Rattle.sc_live_journals.proofs.RowsProofs.Lemmas.{names_stay, found_name, rows_replicas, view_was, view_is, sent_is, new_is}
 use Rattle.sc_live_journals.specs.scenes.Definitions.{errand_in, errand_taken, Creates, LeavesOrMakes, IsOfGroup, IsTablesRow, MayCreate, IsTaking, RowsAreTaken}
+use Rattle.sc_live_journals.proofs.RowsProofs.ReplicaViews.{child_others as other_child, child_me}
+pub use Rattle.sc_words.proofs.PaxosProofs.ListLemmas.{Each-among as each_is}
 
 -- ---- the group of an errand
 
@@ -51,9 +52,6 @@ abbrev pub OneOf : Draw → ℕ → List Base → Option ReplicaState → Option
 OneOf name who children now before = (now ≡ before) ⊎ ((child : Base) × Among child children × (child.core.id ≡ name) × (before ≡ None) × (now ≡ Some (born_replica slots_ahead who child)))
 
 module _ (who : ℕ) where
-  child_me : (child : Base) (node : NodeState) → (with_born child node).me ≡ node.me
-  child_me child node = either_way (λ (n : NodeState). n.me ≡ node.me) (is_some (replica_of child.core.id node.replicas)) node (record node { replicas = with_new (born_replica slots_ahead node.me child) node.replicas }) refl refl
-
   own_child : (child : Base) (node : NodeState) → node.me ≡ who → OneOf child.core.id who (child ∷ []) (replica_of child.core.id (with_born child node).replicas) (replica_of child.core.id node.replicas)
   own_child child node me = by (replica_of child.core.id node.replicas) refl
     where
@@ -61,11 +59,6 @@ module _ (who : ℕ) where
           → OneOf child.core.id who (child ∷ []) (replica_of child.core.id (cond (is_some o) node (record node { replicas = with_new (born_replica slots_ahead node.me child) node.replicas })).replicas) (replica_of child.core.id node.replicas)
       by (Some r) e = inl refl
       by None e = inr (child, inl refl, refl, e, new_is child.core.id (born_replica slots_ahead node.me child) node.replicas refl e ∙ ap (λ n. Some (born_replica slots_ahead n child)) me)
-
-  other_child : (name : Draw) (child : Base) (node : NodeState) → (child.core.id ≡ name → ⊥) → replica_of name (with_born child node).replicas ≡ replica_of name node.replicas
-  other_child name child node ne =
-      cond_both (is_some (replica_of child.core.id node.replicas)) node (record node { replicas = with_new (born_replica slots_ahead node.me child) node.replicas }) (λ n. replica_of name n.replicas ≡ replica_of name node.replicas)
-      (λ _. refl) (λ _. new_others name (born_replica slots_ahead node.me child) node.replicas ne)
 
   one_child : (name : Draw) (child : Base) (node : NodeState) → node.me ≡ who → OneOf name who (child ∷ []) (replica_of name (with_born child node).replicas) (replica_of name node.replicas)
   one_child name child node me = elim (cases_Bool (same_draw child.core.id name)) [
@@ -90,10 +83,6 @@ module _ (who : ℕ) where
       (all_children name children (with_born child node) (child_me child node ∙ me))
 
 -- ---- rows
-
-pub each_is : {X : Type 0} (P : X → Type 0) (xs : List X) (x : X) → Each P xs → Among x xs → P x
-each_is P [] x all is = absurd is
-each_is P (y ∷ ys) x all is = elim is [ inl e ↦ subst P e all.0 | inr more ↦ each_is P ys x all.1 more ]
 
 module _ (births : List (Seat Player)) (rows : Rows) (seat : Seat Player) (event : Event OrderLine) (node : NodeState) (born : IsSeat births seat) (is : value player_table seat rows ≡ Node node) (step : NodeState × List Mail)
     (o : Option (Input Mail OrderLine)) (input : input_of (mails rows) event ≡ o) (does : acted player_table (Node node) o ≡ (Node step.0, step.1)) where

@@ -1,16 +1,14 @@
 -- What is nothing to any order: all that a client sends, and the rows of those who have no part in a group.
-use Rattle.std.proofs.Common.{◌≡◌, ℕ, ◌+◌, nat_le, cond, List, [], ◌∷◌, ◌++◌, length, Option, Some, None, inl, refl, sym, ◌∙◌, ap}
+use Rattle.std.proofs.Common.{◌≡◌, ℕ, ◌+◌, List, [], ◌∷◌, ◌++◌, Option, Some, None, inl, refl, sym, ◌∙◌, ap, subst}
 use Rattle.std.specs.Option.{option_map}
 use Rattle.std.proofs.lemmas.Bool.{cond-true, cond-false}
 use Rattle.sc_base.specs.Definitions.{Each}
-use Rattle.sc_node_table.specs.Values.{Draw, Op, OrderLine, Refused, AnswerBody, Mail, MailBody, Request, Answer, Prepare, Accept, Learn, TxPrepare, TxVote, TxOutcome, TxElsewhere, TxWatch, TxWatched, Node as ANode, Client as AClient, Seat, Event, Deliver, Go as Goes, Input, Got}
+use Rattle.sc_node_table.specs.Values.{Draw, OrderLine, Refused, Mail, MailBody, Request, Prepare, Accept, Learn, TxPrepare, TxVote, TxOutcome, TxElsewhere, TxWatch, TxWatched, Node as ANode, Client as AClient, Seat, Event, Deliver, Go as Goes, Input, Got}
 use Rattle.sc_words.specs.declared.commands.orders.OrderRefusal.TheVariants.{NotLeader}
-use Rattle.sc_mail.specs.declared.bodies.AnswerBody.TheVariants as Says
 use Rattle.sc_actor.specs.declared.rows.Event.TheVariants.{Told as Orders}
-use Rattle.sc_actor.specs.declared.rows.Input.TheVariants.{Tick, Go, Told}
+use Rattle.sc_actor.specs.declared.rows.Input.TheVariants.{Go, Told}
 use Rattle.sc_actor.specs.Definitions.{mails, numbered, value, acted, input_of}
-use Rattle.sc_client_table.specs.table.Definitions.{Client, waiting_request, ClientStep, asked_of, sent_to, sent_where, chosen_for, request_sent, started, client_ticked, waits_for, was_asked, redirected, answer_taken, got, table}
-use Rattle.sc_client_table.specs.lookup.Definitions.{target_in, preferring, passed_on, learnt_from_not_mine, learnt_from_gone}
+use Rattle.sc_client_table.specs.table.Definitions.{Client, table}
 use Rattle.sc_law_walks.proofs.Lemmas.{either_way}
 use Rattle.sc_live_orderly.specs.Definitions.{AreInTime}
 use Rattle.sc_node_table.specs.Definitions.{result_sent, NodeState, replica_of, group_of_mail, may_come, absent, taken_by, routed, on_mail, ordered_of, on_order}
@@ -18,6 +16,8 @@ use Rattle.sc_meaning.specs.sound.Definitions.{Player, player_table}
 use Rattle.sc_live_steps.specs.calm.Definitions.{players, Rows}
 use Rattle.sc_live_steps.specs.orders.Definitions.{errand_by, errand_for, errands_for}
 use Rattle.sc_live_journals.specs.rows.Definitions.{replicas_of, IsSeat, with_event}
+use Rattle.sc_words.proofs.PaxosProofs.Lemmas.{Each-weaker}
+use Rattle.sc_live_journals.proofs.MailProofs.Clients.{IsRequestOf, clients_ask}
 use Rattle.sc_live_journals.proofs.RowsProofs.Lemmas.{view_was, view_is, sent_is}
 use Rattle.sc_live_journals.specs.scenes.Definitions.{errand_in, errand_taken, KeepsStage, OthersKeep}
 use Rattle.sc_live_journals.proofs.ScenesProofs.RowKinds.{asides_stay, asides_are}
@@ -30,59 +30,8 @@ no_errands name (mail ∷ mails) all = ap (λ o. errand_for name o ++ errands_fo
 
 -- ---- clients
 
-abbrev None_ : ClientStep → Type 0
-None_ step = Each (λ (mail : Mail). errand_by mail.from mail.to mail.body ≡ None) step.1
-
-asked_none : (client : Client) (group : Draw) (o : Option ℕ) (request : Option (ℕ × Op)) → None_ (asked_of client group o request)
-asked_none client group (Some target) (Some request) = (refl, tt)
-asked_none client group (Some target) None = tt
-asked_none client group None request = tt
-
-where_none : (client : Client) (o : Option Draw) → None_ (sent_where client o)
-where_none client (Some group) = asked_none client group (target_in group client.known) (waiting_request client)
-where_none client None = tt
-
-sent_none : (client : Client) → None_ (request_sent client)
-sent_none client = where_none client (chosen_for client (waiting_request client))
-
-started_none : (seq : ℕ) (client : Client) → None_ (started seq client)
-started_none seq client = either_way None_ (nat_le seq (length client.requests)) (request_sent (record client { waiting = Some seq })) (record client { waiting = None }, []) (sent_none (record client { waiting = Some seq })) tt
-
-to_none : (group : Draw) (client : Client) → None_ (sent_to group client)
-to_none group client = asked_none client group (target_in group client.known) (waiting_request client)
-
-ticked_none : (client : Client) (o : Option ℕ) (asked : Option (Draw × ℕ)) → None_ (client_ticked client o asked)
-ticked_none client (Some seq) (Some asked) = to_none asked.0 (record client { known = passed_on asked.0 client.known })
-ticked_none client (Some seq) None = tt
-ticked_none client None asked = tt
-
-redirected_none : (group : Draw) (answer : AnswerBody) (client : Client) → None_ (redirected group answer client)
-redirected_none group (Says.NotLeader (Some hint)) client = to_none group (record client { known = preferring group hint client.known })
-redirected_none group (Says.NotLeader None) client = to_none group (record client { known = passed_on group client.known })
-redirected_none group (Says.NotMine arc succ) client = sent_none (record client { known = learnt_from_not_mine group arc succ client.known })
-redirected_none group (Says.Gone into) client = sent_none (record client { known = learnt_from_gone group into client.known })
-redirected_none group (Says.Value reply) client = tt
-redirected_none group (Says.Stale last) client = tt
-
-turned_none : (from : ℕ) (group : Draw) (answer : AnswerBody) (client : Client) → None_ (cond (was_asked client.asked from group) (redirected group answer client) (client, []))
-turned_none from group answer client = either_way None_ (was_asked client.asked from group) (redirected group answer client) (client, []) (redirected_none group answer client) tt
-
-answer_none : (from : ℕ) (group : Draw) (seq : ℕ) (answer : AnswerBody) (client : Client) → None_ (answer_taken from group seq answer client)
-answer_none from group seq (Says.Value reply) client = started_none (seq + 1) (record client { replies = client.replies ++ reply ∷ [] })
-answer_none from group seq (Says.NotLeader hint) client = turned_none from group (Says.NotLeader hint) client
-answer_none from group seq (Says.NotMine arc succ) client = turned_none from group (Says.NotMine arc succ) client
-answer_none from group seq (Says.Gone into) client = turned_none from group (Says.Gone into) client
-answer_none from group seq (Says.Stale last) client = turned_none from group (Says.Stale last) client
-
-got_none : (from : ℕ) (body : MailBody) (client : Client) → None_ (got from body client)
-got_none from (Answer group seq answer) client = either_way None_ (waits_for client.waiting seq) (answer_taken from group seq answer client) (client, []) (answer_none from group seq answer client) tt
-got_none from _ client = tt
-
-pub client_none : (client : Client) (input : Input Mail OrderLine) → None_ (table client input)
-client_none client (Got mail) = got_none mail.from mail.body client
-client_none client Tick = ticked_none client client.waiting client.asked
-client_none client Go = started_none 1 client
-client_none client (Told line) = tt
+pub client_none : (client : Client) (input : Input Mail OrderLine) → Each (λ mail. errand_by mail.from mail.to mail.body ≡ None) (table client input).1
+client_none client input = Each-weaker (IsRequestOf client.me) (λ (mail : Mail). errand_by mail.from mail.to mail.body ≡ None) (λ mail a. subst (λ (m : Mail). errand_by m.from m.to m.body ≡ None) (sym a.3) refl) (table client input).1 (clients_ask client.me client input refl).1
 
 -- ---- rows
 

@@ -1,7 +1,6 @@
 -- The groups that an order has not touched stay as they were, row by row.
 use Rattle.sc_base.specs.Definitions.{Each, same_draw}
 use Rattle.sc_base.proofs.Lemmas.{same_name}
-use Rattle.std.specs.List.{filter}
 use Rattle.sc_node_table.specs.Values.{AnswerBody, Draw, OrderLine, Mail, MailBody, Request, Answer, Prepare, Promise, Accept, Accepted, Nack, Learn, Ask, Install, TxPrepare, TxVote, TxOutcome, TxElsewhere, TxWatch, TxWatched, Told as ToldMail, Node, Client, Seat, Event, Input}
 use Rattle.sc_client_table.specs.table.Definitions.{got, table, Client as ClientState}
 use Rattle.sc_words.proofs.PaxosProofs.Lemmas.{Each-append}
@@ -24,6 +23,7 @@ use Rattle.sc_live_journals.specs.rows.Definitions.{view_at, IsSeat, with_event}
 use Rattle.sc_live_journals.proofs.ScenesProofs.RowPremises.{IsQuestion}
 use Rattle.sc_live_journals.proofs.ScenesProofs.MailReceivers.{now_is, was_is, all_sent}
 use Rattle.sc_live_journals.proofs.ScenesProofs.UntouchedBySteps.{Questions}
+pub use Rattle.sc_words.proofs.PaxosProofs.ListLemmas.{Each-filter as each_filter}
 
 -- ---- mail
 
@@ -64,10 +64,6 @@ each_drop {X = X} P true (x ∷ xs) e = at_zero xs e.1
     at_zero [] e = tt
     at_zero (x ∷ xs) e = e
 each_drop P false (x ∷ xs) e = e
-
-pub each_filter : {X : Type 0} (P : X → Type 0) (test : X → Bool) (xs : List X) → Each P xs → Each P (filter test xs)
-each_filter P test [] e = tt
-each_filter P test (x ∷ xs) e = either_way (Each P) (test x) (x ∷ filter test xs) (filter test xs) (e.0, each_filter P test xs e.1) (each_filter P test xs e.1)
 
 -- what is answered where there is no replica: of the mail's group, or an errand
 absent_other : (name group : Draw) → (name ≡ group → ⊥) → (me from : ℕ) (body : MailBody) → group_of_mail body ≡ Some group → Each (IsErrandFor name) (absent me from body)

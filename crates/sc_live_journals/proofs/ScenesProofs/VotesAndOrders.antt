@@ -18,7 +18,7 @@ use Rattle.sc_live_journals.proofs.ScenesProofs.MailReceivers.{rows_taken}
 use Rattle.sc_live_journals.proofs.ScenesProofs.PlayerRows.{rows_are}
 
 -- one that flies alone is all the work
-flies_work : (flight : Flight Command) (work : Work) (r : ReplicaState) → FliesLone flight r → work_by flight.value ≡ Some work → works r ≡ work ∷ []
+pub flies_work : (flight : Flight Command) (work : Work) (r : ReplicaState) → FliesLone flight r → work_by flight.value ≡ Some work → works r ≡ work ∷ []
 flies_work flight work r flies is =
     ap (λ l. l ++ (works_in r.backlog ++ (works_flying r.leader.flights ++ works_ready r.ready))) flies.acts
     ∙ (ap (λ l. l ++ (works_flying r.leader.flights ++ works_ready r.ready)) flies.backlog

@@ -10,9 +10,9 @@ use Rattle.sc_base.specs.Among.{Among}
 use Rattle.sc_paxos_law.proofs.Among.{Among-left}
 use Rattle.sc_words.proofs.PaxosProofs.ListLemmas.{Each-among}
 use Rattle.sc_law_entries.proofs.RingProofs.Finds.{Pairwise, pairwise_from}
-use Rattle.sc_world_entries.specs.scan.Laws.{PagesFollow}
-use Rattle.sc_world_entries.specs.scan.Order.{HaveKeysOnce, Pair}
-use Rattle.sc_world_entries.specs.scan.Pages.{after_key, behind_page, last_key, next_key, pages_from, past}
+use Rattle.sc_world_entries.specs.scans.Laws.{PagesFollow}
+use Rattle.sc_world_entries.specs.scans.Order.{HaveKeysOnce, Pair}
+use Rattle.sc_world_entries.specs.scans.Pages.{after_key, behind_page, last_key, next_key, pages_from, past}
 use Rattle.sc_world_entries.proofs.ScanProofs.Pairs.{KeysDiffer}
 
 same_key : (key : List ℕ) → pointwise nat_eq key key ≡ true

@@ -21,7 +21,7 @@ use Rattle.sc_words.specs.ideal.IdealStore.{Contents, holds_key, part_of}
 use Rattle.sc_paxos_law.proofs.Among.{Among-either, Among-left, Among-right}
 use Rattle.sc_words.proofs.PaxosProofs.ListLemmas.{Among-filter, Each-among, Each-append, Each-from, from_filter}
 use Rattle.sc_law_entries.proofs.RingProofs.Finds.{Pairwise, pairwise_filter}
-use Rattle.sc_world_entries.specs.scan.Order.{Pair, held, is_low, ordered}
+use Rattle.sc_world_entries.specs.scans.Order.{Pair, held, is_low, ordered}
 
 -- two pairs have two keys
 abbrev pub KeysDiffer : Pair → Pair → Type 0

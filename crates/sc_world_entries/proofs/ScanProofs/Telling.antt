@@ -30,13 +30,13 @@ use Rattle.sc_meaning.specs.sound.GroupsOf.{birth_at, entries_at, groups_at, is_
 use Rattle.sc_meaning.specs.sound.Logs.{decided_state}
 use Rattle.sc_meaning.specs.sound.Soundness.{IsOneMap}
 use Rattle.sc_law_entries.specs.logs.Findings.{AreItsLogs}
-use Rattle.sc_world_entries.specs.declared.scan.walking.Part.{Part}
-use Rattle.sc_world_entries.specs.declared.scan.scans.Shown.{Shown}
-use Rattle.sc_world_entries.specs.scan.Laws.{ShareNothing, EntriesCountLogs, HasMap, IsOfItsLog, IsWithinCut, ScansShow, ShareArc, WalksShareArcs}
-use Rattle.sc_world_entries.specs.scan.Order.{Pair, ordered}
-use Rattle.sc_world_entries.specs.scan.Scan.{entries_in, pairs_in, scan_of, shown}
-use Rattle.sc_world_entries.specs.scan.Scan as scan
-use Rattle.sc_world_entries.specs.scan.Walk.{parts_in}
+use Rattle.sc_world_entries.specs.declared.scans.walking.Part.{Part}
+use Rattle.sc_world_entries.specs.declared.scans.scans.Shown.{Shown}
+use Rattle.sc_world_entries.specs.scans.Laws.{ShareNothing, EntriesCountLogs, HasMap, IsOfItsLog, IsWithinCut, ScansShow, ShareArc, WalksShareArcs}
+use Rattle.sc_world_entries.specs.scans.Order.{Pair, ordered}
+use Rattle.sc_world_entries.specs.scans.Scan.{entries_in, pairs_in, scan_of, shown}
+use Rattle.sc_world_entries.specs.scans.Scan as scan
+use Rattle.sc_world_entries.specs.scans.Walk.{parts_in}
 use Rattle.sc_world_entries.proofs.ScanProofs.Pairs.{KeysDiffer, entries_differ, entry_found, found_entry, found_in_part, from_order, in_order, order_differs, pairwise_append, part_found}
 
 -- the parts of what is shown of parts

@@ -8,9 +8,9 @@ use Rattle.sc_words.proofs.PaxosProofs.ListLemmas.{Each-from, find_found}
 use Rattle.sc_law_entries.proofs.RingProofs.Finds.{Pairwise, all_pairs}
 use Rattle.sc_meaning.specs.declared.entries.Cut.{Cut}
 use Rattle.sc_meaning.specs.entries.Rings.{Covers}
-use Rattle.sc_world_entries.specs.declared.scan.walking.Part.{Part}
-use Rattle.sc_world_entries.specs.scan.Laws.{ShareNothing, IsWithinCut, WalksShareArcs}
-use Rattle.sc_world_entries.specs.scan.Walk.{first_part, holds_start, left_behind, parts_from, parts_in, reach, walk}
+use Rattle.sc_world_entries.specs.declared.scans.walking.Part.{Part}
+use Rattle.sc_world_entries.specs.scans.Laws.{ShareNothing, IsWithinCut, WalksShareArcs}
+use Rattle.sc_world_entries.specs.scans.Walk.{first_part, holds_start, left_behind, parts_from, parts_in, reach, walk}
 use Rattle.sc_world_entries.proofs.ScanProofs.Circle.{behind, beyond, end_fits, fewer, near}
 
 -- ---- the walk, step by step

@@ -3,8 +3,8 @@ use Rattle.std.specs.Prelude.{IfSome}
 use Rattle.sc_actor.specs.declared.rows.Row.{Row}
 use Rattle.sc_words.specs.declared.commands.orders.OrderLine.{OrderLine}
 use Rattle.sc_mail.specs.declared.bodies.Mail.{Mail}
-use Rattle.sc_world_entries.specs.scan.Scan.{entries_in, scan_of}
-use Rattle.sc_world_entries.specs.scan.Text.{scan_lines}
+use Rattle.sc_world_entries.specs.scans.Scan.{entries_in, scan_of}
+use Rattle.sc_world_entries.specs.scans.Text.{scan_lines}
 use Rattle.sc_meaning.specs.sound.GroupsOf.{entries_at, world_at}
 use Rattle.sc_meaning.specs.sound.Players.{as_nodes}
 use Rattle.sc_meaning.specs.sound.Soundness.{IsSoundThroughout}

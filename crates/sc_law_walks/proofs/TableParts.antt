@@ -1,0 +1,219 @@
+-- What holds of any replica with its mails is kept while the replica offers, is elected, stops, and executes entries.
+use Rattle.std.proofs.Common.{◌≡◌, ℕ, ◌+◌, ◌-◌, ◌^◌, ◌<◌, ◌≤◌, ◌&&◌, nat_le, eqb, Bool, true, false, cond, List, [], ◌∷◌, ◌++◌, length, Option, Some, None, refl, arith}
+use Rattle.std.specs.Prelude.{is_some}
+use Rattle.sc_base.specs.Definitions.{Each, is_member, least_of}
+use Rattle.std.specs.List.{list_any}
+use Rattle.std.proofs.lemmas.Bool.{cond_both, and_parts}
+use Rattle.sc_node_table.specs.Definitions.{at_slot, has_act, with_act, act_queued, elected, ended, stopped, saw, left_gone, left, is_among, looked_for, looked, executed_one, child_at, next_child, has_room, next_ready, ending, executed_ready, all_ready, executed, turned_down, answered, Found, is_act, from_backlog, from_acts, from_queues, found_by, found_for, offered, pumped_from, pumped, ReplicaState, Place, Executed, next, members, settled, may_offer, first_set, childless, taken_at, under_way, is_idle, last_slot, next_queued}
+use Rattle.sc_node_table.specs.Values.{Ballot, Command, Base, Route, AnswerBody, Mail, Must, Gap}
+use Rattle.sc_words.specs.declared.paxos.answers.Must.TheVariants.{Value, Free as Open}
+use Rattle.sc_group_table.specs.machine.Definitions.{child_by}
+use Rattle.sc_words.proofs.PaxosProofs.Lemmas.{at_least_itself, Each-append}
+use Rattle.sc_words.specs.paxos.Definitions.{IsAtLeast, below, must}
+use Rattle.sc_law_walks.proofs.Calls.{next_found}
+use Rattle.sc_law_walks.proofs.Ways.{either_way}
+use Rattle.sc_law_walks.specs.Definitions.{IsFiledOnMail, IfThere}
+use Rattle.sc_law_walks.proofs.PlaceWalks.{entered_place}
+use Rattle.sc_law_walks.proofs.TableWalks.{TableWalk, MayEnter}
+
+-- one of two, where the test fails
+none_there : {X : Type 0} (o : Option X) → is_some o ≡ false → o ≡ None
+none_there None e = refl
+none_there (Some x) e = cc
+
+-- a ballot that is seen is no later than the greatest
+pub seen_top : (ballot : Ballot) (place : Place) → IsAtLeast (saw ballot place).0.top ballot
+unfolding saw ended
+seen_top ballot (r, mails) =
+    let seen : ReplicaState = cond (below r.top ballot) (record r { top = ballot }) r in
+    let s : IsAtLeast seen.top ballot = cond_both (below r.top ballot) (record r { top = ballot }) r (λ (x : ReplicaState). IsAtLeast x.top ballot) (λ _. at_least_itself ballot) (λ f. f) in
+    either_way (λ (p : Place). IsAtLeast p.0.top ballot) (r.running && below r.leader.ballot ballot) (stopped (Some ballot.node) (seen, mails)) (seen, mails) s s
+
+-- a ballot that is seen leaves the acceptor
+pub seen_acceptor : (ballot : Ballot) (place : Place) → (saw ballot place).0.acceptor ≡ place.0.acceptor
+unfolding saw ended
+seen_acceptor ballot (r, mails) =
+    let seen : ReplicaState = cond (below r.top ballot) (record r { top = ballot }) r in
+    let same : seen.acceptor ≡ r.acceptor = either_way (λ (x : ReplicaState). x.acceptor ≡ r.acceptor) (below r.top ballot) (record r { top = ballot }) r refl refl in
+    either_way (λ (p : Place). p.0.acceptor ≡ r.acceptor) (r.running && below r.leader.ballot ballot) (stopped (Some ballot.node) (seen, mails)) (seen, mails) same same
+
+-- what is ready is executed by one that runs
+ready_so : (r : ReplicaState) (command : Command) → next_ready r ≡ Some command → (r.running ≡ true) × (at_slot r.ready (next r) ≡ Some command)
+ready_so r command e = by r.running (has_room r) refl e
+  where
+    by : (b c : Bool) → r.running ≡ b → cond (b && c) (at_slot r.ready (next r)) None ≡ Some command → (r.running ≡ true) × (at_slot r.ready (next r) ≡ Some command)
+    by true true t e2 = (t, e2)
+    by true false t e2 = cc
+    by false c f e2 = cc
+
+module _ (w : TableWalk) where
+  abbrev pub Before : Place → Type 0
+  Before place = w.facts.Early place
+
+  abbrev pub After : Place → Type 0
+  After place = w.facts.Late place
+
+  abbrev pub AfterAll : Executed → Type 0
+  AfterAll step = w.facts.Late step.0 × Each w.facts.Child step.1
+
+  -- ---- the pump: a replica that runs, whose next slot stays with the members of the open slots, and which has nothing at the slot
+
+  abbrev Pumps : ℕ → ℕ → Place → Type 0
+  Pumps x n place = After place × (place.0.running ≡ true) × (next place.0 ≡ x) × (length place.0.sets ≡ n)
+
+  module _ (x n slot : ℕ) (set : List ℕ) where
+    abbrev At : Place → Type 0
+    At place = Pumps x n place × (slot < next place.0 + length place.0.sets) × (taken_at place.0 slot ≡ None)
+
+    -- it is so after what was found is offered
+    abbrev Finds : Found → Type 0
+    Finds found = IfThere (λ command. Pumps x n (offered slot set command found.1)) (Pumps x n found.1) found.0
+
+    offered_so : (command : Command) (r : ReplicaState) (mails : List Mail) → r.running ≡ true → next r ≡ x → length r.sets ≡ n → After (offered slot set command (r, mails)) → Pumps x n (offered slot set command (r, mails))
+    unfolding offered
+    offered_so command r mails on same many k = (k, on, same, many)
+
+    -- the requests that are turned down are taken out one by one
+    module _ (r : ReplicaState) where
+      abbrev Left : List Command → List Mail → Type 0
+      Left backlog mails = At (record r { backlog = backlog }, mails)
+
+      abbrev Next : Option Command × List Command × List Mail → Type 0
+      Next found = Finds (found.0, (record r { backlog = found.1 }, found.2))
+
+      turned_out : (command : Command) (answer : AnswerBody) (backlog : List Command) (mails : List Mail) → turned_down r.group.core command ≡ Some answer → Left (command ∷ backlog) mails → Left backlog (answered r.me r.group.core.id answer command mails)
+      turned_out command answer backlog mails e k = ((w.states.turned command answer backlog (record r { backlog = command ∷ backlog }) mails k.0.1 refl e k.0.0, k.0.1, k.0.2, k.0.3), k.1, k.2)
+
+      call_offered : (command : Command) (backlog : List Command) (mails : List Mail) → Left (command ∷ backlog) mails → Next (Some command, backlog, mails)
+      call_offered command backlog mails k = offered_so command (record r { backlog = backlog }) mails k.0.1 k.0.2 k.0.3 (w.states.offers_call slot set command backlog (record r { backlog = command ∷ backlog }) mails k.0.1 k.1 k.2 refl k.0.0)
+
+      calls_left : (backlog : List Command) (mails : List Mail) → Left backlog mails → Next (next_queued r.me (is_idle r) r.group.core backlog mails)
+      calls_left backlog mails k = next_found r.me (is_idle r) r.group.core Left Next (λ cs ms q. q.0) call_offered (λ command answer cs ms wait e q. turned_out command answer cs ms e q) backlog mails k
+
+    calls_find : (place : Place) → At place → Finds (from_backlog place)
+    unfolding from_backlog
+    calls_find (r, mails) k = calls_left r r.backlog mails k
+
+    acts_find : (acts : List Command) (place : Place) → place.0.acts ≡ acts → At place → Finds (from_acts acts place)
+    acts_find [] place e k = calls_find place k
+    acts_find (act ∷ acts) (r, mails) e k =
+        either_way Finds (is_idle r) (Some act, (record r { acts = acts }, mails)) (None, (r, mails))
+        (offered_so act (record r { acts = acts }) mails k.0.1 k.0.2 k.0.3 (w.states.offers_act slot set act acts r mails k.0.1 k.1 k.2 e k.0.0)) k.0
+
+    queues_find : (place : Place) → At place → Finds (from_queues place)
+    unfolding from_queues
+    queues_find (r, mails) k = either_way Finds (list_any is_act (under_way r)) (None, (r, mails)) (from_acts r.acts (r, mails)) k.0 (acts_find r.acts (r, mails) refl k)
+
+    by_find : (what : Must Command) (place : Place) → must slot place.0.leader ≡ what → At place → Finds (found_by what place)
+    by_find (Value command) (r, mails) e k = offered_so command r mails k.0.1 k.0.2 k.0.3 (w.states.offers_value slot set command r mails k.0.1 k.1 k.2 e k.0.0)
+    by_find Gap (r, mails) e k = offered_so _ r mails k.0.1 k.0.2 k.0.3 (w.states.offers_noop slot set r mails k.0.1 k.1 k.2 k.0.0)
+    by_find Open place e k = queues_find place k
+
+    slot_finds : (place : Place) → At place → Finds (found_for slot place)
+    unfolding found_for
+    slot_finds (r, mails) k = by_find (must slot r.leader) (r, mails) refl k
+
+  pump_by : (x n slot : ℕ) (set : List ℕ) (sets : List (List ℕ)) (found : Found) → Finds x n slot set found → ((place : Place) → Pumps x n place → Pumps x n (pumped_from (slot + 1) sets place))
+      → Pumps x n (elim (found.0) [ None ↦ found.1 | Some command ↦ pumped_from (slot + 1) sets (offered slot set command found.1) ])
+  pump_by x n slot set sets (None, place) k more = k
+  pump_by x n slot set sets (Some command, place) k more = more (offered slot set command place) k
+
+  from_pumps : (x n slot : ℕ) (sets : List (List ℕ)) (place : Place) → slot + length sets ≤ x + n → Pumps x n place → Pumps x n (pumped_from slot sets place)
+  unfolding pumped_from
+  from_pumps x n slot [] place low k = k
+  from_pumps x n slot (set ∷ sets) place low k =
+      let here : slot < next place.0 + length place.0.sets = (let same = k.2 in let many = k.3 in omega (arith, low, same, many)) in
+      let more : (slot + 1) + length sets ≤ x + n = omega (arith, low) in
+      cond_both (is_some (taken_at place.0 slot)) _ _ (Pumps x n) (λ _. from_pumps x n (slot + 1) sets place more k)
+      (λ none. either_way (Pumps x n) (may_offer place.0 set) _ _ (pump_by x n slot set sets (found_for slot place) (slot_finds x n slot set place (k, here, none_there (taken_at place.0 slot) none)) (λ p q. from_pumps x n (slot + 1) sets p more q)) k)
+
+  pub pumps : (place : Place) → After place → After (pumped place)
+  unfolding pumped
+  pumps place k =
+      cond_both (settled place.0 && nat_le (next place.0) last_slot) (pumped_from (next place.0) place.0.sets place) place After
+      (λ t. (from_pumps (next place.0) (length place.0.sets) (next place.0) place.0.sets place (omega arith) (k, (and_parts place.0.running (may_offer place.0 (first_set place.0.sets)) (and_parts (settled place.0) (nat_le (next place.0) last_slot) t).0).0, refl, refl)).0) (λ _. k)
+
+  -- a command of a transaction waits last, unless there is one of its kind
+  pub act_waits : (act : Command) (r : ReplicaState) (mails : List Mail) → IsFiledOnMail act → r.running ≡ true → w.facts.Files act → After (r, mails) → After (with_act act r, mails)
+  act_waits act r mails good on brought k = cond_both (has_act act r) r (record r { acts = r.acts ++ act ∷ [] }) (λ (x : ReplicaState). After (x, mails)) (λ _. k) (λ f. w.states.filed act r mails on good f brought k)
+
+  pub acts_pump : (act : Command) (place : Place) → IsFiledOnMail act → place.0.running ≡ true → w.facts.Files act → Before place → After (act_queued act place)
+  unfolding act_queued
+  acts_pump act (r, mails) good on brought k = pumps (with_act act r, mails) (act_waits act r mails good on brought (w.states.late (r, mails) k))
+
+  -- ---- leaders
+
+  pub self_election : (place : Place) → Before place → After (elected place)
+  unfolding elected
+  self_election (r, mails) k = either_way After (eqb r.top.round (2 ^ 32 - 1)) _ _ (w.states.late (r, mails) k) (w.states.elected r mails k)
+
+  pub sees_ballot : (ballot : Ballot) (place : Place) → w.facts.Round ballot → Before place → Before (saw ballot place)
+  unfolding saw
+  sees_ballot ballot (r, mails) good k =
+      let seen : ReplicaState = cond (below r.top ballot) (record r { top = ballot }) r in
+      cond_both (r.running && below r.leader.ballot ballot) (stopped (Some ballot.node) (seen, mails)) (seen, mails) Before
+      (λ t. (let on = and_parts r.running (below r.leader.ballot ballot) t in w.states.overtaken ballot r mails good on.0 on.1 k))
+      (λ f. cond_both (below r.top ballot) (record r { top = ballot }) r (λ (x : ReplicaState). Before (x, mails)) (λ t. w.states.seen ballot r mails good t f k) (λ _. k))
+
+  -- ---- an entry, and what was ready after it
+
+  gone_leaves : (gone : Option Route) (place : Place) → place.0.group.core.gone ≡ gone → place.0.running ≡ true → Before place → Before (left_gone gone place)
+  gone_leaves (Some into) (r, mails) e on k = w.states.goes into r mails on e k
+  gone_leaves None (r, mails) e on k =
+      either_way Before (is_member (members r) r.me) (r, mails) (stopped (Some (least_of (members r))) (r, mails)) k (w.states.stops (Some (least_of (members r))) r mails on k)
+
+  leaves : (place : Place) → Before place → Before (left place)
+  unfolding left
+  leaves (r, mails) k = cond_both r.running (left_gone r.group.core.gone (r, mails)) (r, mails) Before (λ on. gone_leaves r.group.core.gone (r, mails) refl on k) (λ _. k)
+
+  looks_by : (gone : Option Route) (place : Place) → place.0.running ≡ false → Before place → After (looked_for gone place)
+  looks_by (Some into) place off k = w.states.late place k
+  looks_by None (r, mails) off k =
+      either_way After (is_among (members r) r.hint) (r, mails) _ (w.states.late (r, mails) k)
+      (either_way After (eqb (least_of (members r)) r.me) (elected (record r { hint = Some r.me }, mails)) (record r { hint = Some (least_of (members r)) }, mails)
+      (self_election (record r { hint = Some r.me }, mails) (w.states.hinted (Some r.me) r mails off k))
+      (w.states.late (record r { hint = Some (least_of (members r)) }, mails) (w.states.hinted (Some (least_of (members r))) r mails off k)))
+
+  pub looks : (place : Place) → Before place → After (looked place)
+  unfolding looked
+  looks (r, mails) k = cond_both r.running (r, mails) (looked_for r.group.core.gone (r, mails)) After (λ _. w.states.late (r, mails) k) (λ off. looks_by r.group.core.gone (r, mails) off k)
+
+  entry_by : (counted : Bool) (command : Command) (r : ReplicaState) (mails : List Mail) → MayEnter w.facts counted command r → Before (r, mails) → Before (entered_place counted command (r, mails))
+  entry_by true command r mails may k = w.states.counted_entry command r mails may.0 may.1 may.2 k
+  entry_by false command r mails may k = w.states.learnt_entry may.0 may.1 command r mails may.2 may.3 k
+
+  -- the entry, where the invariant holds with its slot cleared
+  entry_goes : (counted : Bool) (command : Command) (place : Place) → Before (entered_place counted command place) → After (executed_one counted command place)
+  unfolding executed_one
+  entry_goes counted command (r, mails) k = looks (left (entered_place counted command (r, mails))) (leaves (entered_place counted command (r, mails)) k)
+
+  child_by_entry : (counted : Bool) (command : Command) (r : ReplicaState) (mails : List Mail) → MayEnter w.facts counted command r → Before (r, mails) → (o : Option Base) → child_by r.group command ≡ o → Each w.facts.Child (child_at r.me o)
+  child_by_entry counted command r mails may k None e = tt
+  child_by_entry counted command r mails may k (Some child) e = either_way (Each w.facts.Child) (is_member child.core.members r.me) (child ∷ []) [] (w.states.children counted command r mails child may e k, tt) tt
+
+  -- the child of an entry, before those of what follows it
+  children_by : (counted : Bool) (command : Command) (r : ReplicaState) (mails : List Mail) (rest : List Base) → MayEnter w.facts counted command r → Before (r, mails) → Each w.facts.Child rest → Each w.facts.Child (next_child command r ++ rest)
+  children_by counted command r mails rest may k more = Each-append w.facts.Child (next_child command r) rest (child_by_entry counted command r mails may k (child_by r.group command) refl) more
+
+  ready_by : (es : List (ℕ × Command)) (place : Place) (o : Option Command) → next_ready place.0 ≡ o → After place → ((p : Place) → After p → AfterAll (executed_ready es p))
+      → AfterAll (elim o [ None ↦ childless place | Some command ↦ ending (next_child command place.0) (executed_ready es (executed_one true command place)) ])
+  ready_by es place None e k more = (k, tt)
+  ready_by es (r, mails) (Some command) e k more =
+      let so = ready_so r command e in
+      let again = w.states.again command r mails so.0 so.1 k in
+      let after = executed_ready es (executed_one true command (r, mails)) in
+      let rest : AfterAll after = more (executed_one true command (r, mails)) (entry_goes true command (r, mails) (entry_by true command r mails (so.0, so.1, again.1) again.0)) in
+      (pumps after.0 rest.0, children_by true command r mails after.1 (so.0, so.1, again.1) again.0 rest.1)
+
+  ready_executed : (es : List (ℕ × Command)) (place : Place) → After place → AfterAll (executed_ready es place)
+  unfolding executed_ready
+  ready_executed [] place k = (k, tt)
+  ready_executed (e ∷ es) place k = ready_by es place (next_ready place.0) refl k (λ p q. ready_executed es p q)
+
+  -- .. and what was ready after it
+  pub execution : (counted : Bool) (command : Command) (place : Place) → MayEnter w.facts counted command place.0 → Before place → AfterAll (executed counted command place)
+  unfolding executed
+  execution counted command (r, mails) may k =
+      let after : Place = executed_one counted command (r, mails) in
+      let rest : AfterAll (all_ready after) = ready_executed after.0.ready after (entry_goes counted command (r, mails) (entry_by counted command r mails may k)) in
+      (pumps (all_ready after).0 rest.0, children_by counted command r mails (all_ready after).1 may k rest.1)

@@ -1,5 +1,0 @@
-use Rattle.sc_world_entries.proofs.ScanProofs.Telling.{entries_count}
-use Rattle.sc_world_entries.proofs.scan.laws.entries_count_logs.Goals as goal
-
-pub returns : goal.returns
-returns c = entries_count

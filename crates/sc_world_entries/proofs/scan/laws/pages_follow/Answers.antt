@@ -1,5 +1,0 @@
-use Rattle.sc_world_entries.proofs.ScanProofs.Paged.{pages_follow}
-use Rattle.sc_world_entries.proofs.scan.laws.pages_follow.Goals as goal
-
-pub returns : goal.returns
-returns c = pages_follow

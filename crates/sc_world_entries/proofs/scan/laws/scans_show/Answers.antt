@@ -1,5 +1,0 @@
-use Rattle.sc_world_entries.proofs.ScanProofs.Telling.{scans_show}
-use Rattle.sc_world_entries.proofs.scan.laws.scans_show.Goals as goal
-
-pub returns : goal.returns
-returns c = scans_show c.walks_share_arcs.ensures

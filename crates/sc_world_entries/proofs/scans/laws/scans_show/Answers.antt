@@ -1,0 +1,5 @@
+use Rattle.sc_world_entries.proofs.ScanProofs.Telling.{scans_show}
+use Rattle.sc_world_entries.proofs.scans.laws.scans_show.Goals as goal
+
+pub returns : goal.returns
+returns c = scans_show c.walks_share_arcs.ensures
