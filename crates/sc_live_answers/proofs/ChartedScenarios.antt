@@ -29,7 +29,7 @@ use Rattle.sc_live_answers.proofs.LineEnds.{orders_same, rooms_for, within_deliv
 use Rattle.sc_live_answers.proofs.SegmentParts.{IsFramed, SegmentLaws}
 use Rattle.sc_live_answers.proofs.SegmentRows.{RowLaws, with_other}
 use Rattle.sc_live_answers.proofs.SegmentRows as rows_of
-use Rattle.sc_live_answers.proofs.ChartSequence.{split_among}
+use Rattle.sc_live_answers.proofs.SentMail.{sent_with}
 
 -- ---- no mail is under way for the desk
 
@@ -55,24 +55,6 @@ unseated (seat ∷ seats) who none = by (eqb seat.who who) none (unseated seats 
         → (b || list_any (λ actor. eqb actor who) (numbers_of seats)) ≡ false
     by true e more = cc
     by false e more = more e
-
--- mail that is under way was sent
-sent_with : (test : Mail → Bool) (sent : List Mail) (counts : List ℕ) (mail : Mail) → Among mail (mail_with test sent counts) → Among mail sent
-sent_with test [] counts mail a = absurd a
-sent_with test (m ∷ sent) [] mail a = absurd a
-sent_with test (m ∷ sent) (c ∷ counts) mail a = elim (split_among (cond (test m) (replicate c m) []) (mail_with test sent counts) mail a) [
-  | inl here ↦ inl (one c (passes (test m) here))
-  | inr more ↦ inr (sent_with test sent counts mail more)
-]
-  where
-    passes : (b : Bool) → Among mail (cond b (replicate c m) []) → Among mail (replicate c m)
-    passes true x = x
-    passes false x = absurd x
-
-    one : (n : ℕ) → Among mail (replicate n m) → m ≡ mail
-    one zero x = absurd x
-    one (suc n) (inl e) = e
-    one (suc n) (inr x) = one n x
 
 -- the laws by which lines are judged
 pub record LineLaws : Type 0 where
@@ -132,7 +114,7 @@ module _ (segment : SegmentLaws) (rows_laws : RowLaws) (laws : LineLaws) (words 
   rests_timely rows lawful timely short quiet = rests_in rows (in_calm rows lawful timely short) quiet
 
   -- in a quiet journal in which no line was cut off the results of all orders are reported
-  pub reports_settled : (rows : Rows) → Lawful as_nodes words scenario rows → unsettled s (schedule scenario) rows ≡ false → length rows ≤ 2 ^ 28 → is_quiet s rows ≡ true → AreReported rows
+  pub reports_settled : (rows : Rows) → Lawful as_nodes words scenario rows → unsettled s (schedule scenario) rows ≡ false → length rows ≤ 2 ^ 28 → is_quiet s rows ≡ true → AreReported (births as_nodes scenario) rows
   reports_settled rows lawful uncut short quiet =
       let is = in_calm rows lawful (settled_in_time s (schedule scenario) (laws.spaced_law 0 scenario calm).0 rows lawful uncut) short in
       (rows_of.quiet_rests segment rows_laws words scenario begins.first begins.others (orders_of scenario + 1) (length scenario.groups + orders_of scenario) rows (frame rows is) rows (whole rows) is.timely quiet).reported

@@ -19,18 +19,20 @@ use Rattle.sc_scenario.specs.declared.scenario.scenarios.Scenario.{Scenario}
 use Rattle.sc_node_table.specs.Definitions.{NodeState, result_sent, replica_of, group_of_order, ordered_of, untaken, queued_or_refused, ordered_command, ordered_row, ReplicaState, Place, next, last_slot, settled, may_offer, first_set}
 use Rattle.sc_meaning.specs.sound.Definitions.{Player, player_table, node_seat, births, as_nodes}
 use Rattle.sc_live_steps.specs.calm.Definitions.{players, IsAtRest, Rows}
-use Rattle.sc_live_steps.specs.orders.Definitions.{MayFile}
+use Rattle.sc_live_steps.specs.orders.Definitions.{Asking, Unbound, Here, Stage, Still, Recorded, IsAt, MayFile}
 use Rattle.sc_live_steps.proofs.OrdersProofs.Lemmas.{tables-order}
 use Rattle.sc_live_journals.specs.rows.Definitions.{view_at, IsSeat, with_event, IsReplicasRow}
 use Rattle.sc_live_journals.proofs.RowsProofs.Lemmas.{rows_replicas, view_was}
-use Rattle.sc_live_journals.specs.scenes.Definitions.{LeadsAlone, scene_at}
+use Rattle.sc_live_journals.specs.scenes.Definitions.{LeadsAlone, StageAfter, scene_at}
 use Rattle.sc_live_journals.proofs.ScenesProofs.Lemmas.{all_sent, tell}
-use Rattle.sc_live_answers.specs.Definitions.{IsCalmJournal, IsPrefixOf, IsGiven, IsReported, Waits, IsOrderHeld}
+use Rattle.sc_live_answers.specs.Definitions.{IsCalmJournal, IsPrefixOf, IsGiven, IsTold, IsRefusalSent, IsReported, Waits, IsOrderHeld}
 use Rattle.sc_live_answers.specs.GivenOrders.{may_be_given, names_nodes}
 use Rattle.sc_live_answers.proofs.ErrandReceivers.{node_seated}
 use Rattle.sc_live_answers.proofs.OrderCommands.{settled_by}
 use Rattle.sc_live_answers.proofs.QuestionedGroups.{rests_idle}
-use Rattle.sc_live_answers.proofs.ReportedMail.{reported_behind, desk_reports}
+use Rattle.sc_live_answers.proofs.ReportedMail.{told_behind, desk_reports}
+use Rattle.sc_live_answers.proofs.OrderFactsAtStart.{begun_so, still_unbound, ordered_unbound}
+use Rattle.sc_words.specs.declared.commands.orders.OrderResult.TheVariants.{Aborted}
 
 -- ---- the orders that rows give
 
@@ -57,6 +59,23 @@ given_allowed words scenario journal rows row line calm prefix e =
   where
     told_by : (n : ℕ) → 1 ≤ n → is_reported n ≡ true
     told_by n low = lt-ltb 0 n (omega (arith, low))
+
+-- a coordinator has no vote to record where an order is given
+pub refusal_at_start : (births : List (Seat Player)) (rows : Rows) (seat : Seat Player) (line : OrderLine) → StageAfter births rows seat (Told line) Still → (stage : Stage) → IsAt stage (scene_at births (with_event rows seat (Told line))) → (sent : List Mail) → IsRefusalSent sent stage
+refusal_at_start births rows seat line found stage at sent = by stage at
+  where
+    unbound : (name : Draw) → ((scene_at births (with_event rows seat (Told line))).at name).bond ≡ Unbound
+    unbound name = elim found.2 [
+      | inl e ↦ still_unbound (scene_at births (with_event rows seat (Told line))) (subst (λ x. IsAt x (scene_at births (with_event rows seat (Told line)))) e found.1) name
+      | inr g ↦ elim (begun_so g.group found.0 g.step) [
+        | inl e ↦ still_unbound (scene_at births (with_event rows seat (Told line))) (subst (λ x. IsAt x (scene_at births (with_event rows seat (Told line)))) e found.1) name
+        | inr o ↦ ordered_unbound (scene_at births (with_event rows seat (Told line))) g.group o.0 o.1 (subst (λ x. IsAt x (scene_at births (with_event rows seat (Told line)))) o.2 found.1) name
+      ]
+    ]
+
+    by : (s : Stage) → IsAt s (scene_at births (with_event rows seat (Told line))) → IsRefusalSent sent s
+    by (Recorded deal agreed host) a = absurd (let both : Asking deal.tx deal.asked deal.turn ≡ Unbound = sym (ap (λ (h : Here). h.bond) a.parties.0.0) ∙ unbound deal.coord in cc)
+    by _ a = tt
 
 -- ---- who is born as a node stays one
 
@@ -93,15 +112,19 @@ module _ (words : ℕ → ℕ → ℕ × ℕ) (scenario : Scenario) (quiet : Row
   then = with_event quiet seat (Told line)
 
   abbrev Result : Type 0
-  Result = IsReported (mails (with_event quiet seat (Told line))) line.number ⊎ IsOrderHeld (scene_at (births as_nodes scenario) (with_event quiet seat (Told line)))
+  Result = IsReported (births as_nodes scenario) (with_event quiet seat (Told line)) line.number ⊎ IsOrderHeld (scene_at (births as_nodes scenario) (with_event quiet seat (Told line)))
 
   abbrev sent : List Mail
   sent = (row_of player_table seat quiet (Told line)).sent
 
   reports : (me : ℕ) (why : OrderRefusal) → sent ≡ result_sent me line.number (Refused why) [] → Result
   reports me why e =
-      inl (subst (λ ms. IsReported ms line.number) (sym (mails-snoc quiet (row_of player_table seat quiet (Told line))))
-      (reported_behind line.number (mails quiet) sent (subst (λ ms. IsReported ms line.number) (sym e) (desk_reports me line.number (Refused why) []))))
+      inl (record {
+        result = Refused why;
+        told = subst (λ ms. IsTold ms line.number (Refused why)) (sym (mails-snoc quiet (row_of player_table seat quiet (Told line))))
+            (told_behind line.number (Refused why) (mails quiet) sent (subst (λ ms. IsTold ms line.number (Refused why)) (sym e) (desk_reports me line.number (Refused why) [])));
+        cause = λ aborted. absurd (let both : Refused why ≡ Aborted = aborted in cc);
+      })
 
   at_node : (node : NodeState) × (value player_table seat quiet ≡ Node node)
   unfolding IsNodes

@@ -4,7 +4,7 @@ use Rattle.std.proofs.lemmas.Bool.{cases_Bool, eq-eqb, eqb-true, cond-true, cond
 use Rattle.std.specs.Option.{option_map}
 use Rattle.sc_base.specs.Definitions.{Among, is_member}
 use Rattle.sc_group_table.specs.policy.Definitions.{is_reported}
-use Rattle.sc_node_table.specs.Values.{Ballot, Draw, Command, OrderLine, Mail, MailBody, Request, Answer, Prepare, Promise, Accept, Accepted, Nack, Learn, Ask, Install, TxPrepare, TxVote, TxOutcome, TxElsewhere, TxWatch, TxWatched, Told as ToldMail, Node, Client, Seat, Event, Deliver, Got, Flight}
+use Rattle.sc_node_table.specs.Values.{Ballot, Draw, Command, OrderLine, OrderResult, Mail, MailBody, Request, Answer, Prepare, Promise, Accept, Accepted, Nack, Learn, Ask, Install, TxPrepare, TxVote, TxOutcome, TxElsewhere, TxWatch, TxWatched, Told as ToldMail, Node, Client, Seat, Event, Deliver, Got, Flight}
 use Rattle.sc_group_table.specs.machine.Definitions.{Group, applied}
 use Rattle.sc_client_table.specs.table.Definitions.{Client as ClientState}
 use Rattle.sc_actor.specs.Definitions.{mails, numbered, value, row_of}
@@ -20,7 +20,7 @@ use Rattle.sc_live_journals.specs.rows.Definitions.{view_at, IsSeat, with_event}
 use Rattle.sc_live_journals.proofs.RowsProofs.Lemmas.{view_is, view_others, view_was, none_some}
 use Rattle.sc_live_journals.specs.scenes.Definitions.{Expects, IsAsking, IsWaiting, Aborted, BesideFinds, AtAnother, AtLeader, Changed, Decided, Ended, FindsFlight, FindsOrder, FindsReplica, Heard, Late, LeaderFinds, Leaves, Opened, Voted, ComesTo, ComesToLeader, IsBeside, Led, Unled, scene_at, IsTaking, IsTablesRow, StaysIn, Creates, LeadsAlone, LeavesOrMakes}
 use Rattle.sc_live_journals.proofs.ScenesProofs.Lemmas.{unknown_apart, row_of_comes, takes_one, answers_reach, errand_among, now_is, was_is, calm_is, tell}
-use Rattle.sc_live_answers.specs.Definitions.{HasStepped, Rested, Executed, IsReported}
+use Rattle.sc_live_answers.specs.Definitions.{HasStepped, Rested, Executed, IsTold}
 use Rattle.sc_live_answers.proofs.ReportedMail.{Ends as EndsOrder, entry_reports}
 use Rattle.sc_live_journals.proofs.ScenesProofs.AnswersAndLateMail.{untouched, asks_leave, votes_late, learnt_late, sent_late}
 
@@ -32,7 +32,7 @@ some_or_none (x ∷ xs) = inr (λ e. cc)
 pub data HasActed (r : ReplicaState) (after : Place) : Type 0 where
   Waited : after.0.running ≡ r.running → after.0.group ≡ r.group → (works r ≡ []) ⊎ (works after.0 ≡ works r) → HasActed r after
   Ran : (flight : Flight Command) (work : Work) → Among flight r.leader.flights → works r ≡ work ∷ [] → work_by flight.value ≡ Some work → works after.0 ≡ [] → after.0.group ≡ (applied r.group flight.value).0
-      → (StaysIn flight.value r.me r.group → after.0.running ≡ true) → ((n : ℕ) → is_reported n ≡ true → EndsOrder n flight.value r.group → IsReported after.1 n) → HasActed r after
+      → (StaysIn flight.value r.me r.group → after.0.running ≡ true) → ((n : ℕ) (result : OrderResult) → is_reported n ≡ true → EndsOrder n result flight.value r.group → IsTold after.1 n result) → HasActed r after
 
 -- so it has taken a step
 pub steps_of : (r : ReplicaState) (after : Place) → HasActed r after → HasStepped r after.0
@@ -67,7 +67,7 @@ counts from named ballot slot flight work r flies is = elim (votes-count-alone f
       let run : RunsAlone flight.value d.readied made = subst (λ p. RunsAlone flight.value d.readied p) (sym d.is) (entries-run-alone flight.value work d.readied d.lone is) in
       Ran flight work (subst (Among flight) (sym flies.flights) (inl refl)) (flies_work flight work r flies is) is run.work (run.group ∙ ap (λ g. (applied g flight.value).0) d.group)
       (λ stays. run.leads (ap (λ (g : Group). (applied g flight.value).0.core.gone) d.group ∙ stays.stands) (ap (λ (g : Group). is_member (applied g flight.value).0.core.members d.readied.me) d.group ∙ (ap (is_member (applied r.group flight.value).0.core.members) d.me ∙ stays.mine)))
-      (λ n told ends. subst (λ (p : Place). IsReported p.1 n) (sym d.is) (entry_reports n flight.value d.readied [] told (subst (EndsOrder n flight.value) (sym d.group) ends))))
+      (λ n result told ends. subst (λ (p : Place). IsTold p.1 n result) (sym d.is) (entry_reports n result flight.value d.readied [] told (subst (EndsOrder n result flight.value) (sym d.group) ends))))
 ]
 
 module _ (words : ℕ → ℕ → ℕ × ℕ) (births : List (Seat Player)) (rows : Rows) (seat : Seat Player) (number : ℕ) (mail : Mail) (group : Draw) (r : ReplicaState) (c : ComesToLeader words births rows seat number mail group r) (under : IsUnderWay (scene_at births rows)) where
@@ -222,7 +222,7 @@ module _ (words : ℕ → ℕ → ℕ × ℕ) (births : List (Seat Player)) (row
   -- one that leads goes on so, and what it reports is reported in the row
   abbrev pub Acts : Draw → ℕ → ReplicaState → Type 0
   Acts name host r =
-      (after : Place) × (view_at births (with_event rows seat event) name host ≡ Some after.0) × HasActed r after × ((n : ℕ) → IsReported after.1 n → IsReported (row_of player_table seat rows event).sent n)
+      (after : Place) × (view_at births (with_event rows seat event) name host ≡ Some after.0) × HasActed r after × ((n : ℕ) (result : OrderResult) → IsTold after.1 n result → IsTold (row_of player_table seat rows event).sent n result)
 
   abbrev pub Comes : Draw → ℕ → ReplicaState → Type 0
   Comes name host r = (after : ReplicaState) × (view_at births (with_event rows seat event) name host ≡ Some after) × HasStepped r after
@@ -232,11 +232,11 @@ module _ (words : ℕ → ℕ → ℕ × ℕ) (births : List (Seat Player)) (row
 
   module _ (name : Draw) (r : ReplicaState) (runs : r.running ≡ true) where
     waits : (host : ℕ) → view_at births (with_event rows seat event) name host ≡ Some r → Acts name host r
-    waits host e = ((r, []), e, stays_put r, λ n k. absurd k.among)
+    waits host e = ((r, []), e, stays_put r, λ n result k. absurd k.among)
 
     from_fate : view_at births rows name seat.who ≡ Some r → Fate name → Acts name seat.who r
     from_fate has (Same e) = waits seat.who (e ∙ has)
-    from_fate has (Leading x after leads row acts) = (after, row.is, subst (λ y. HasActed y after) (some_same x r (sym leads.is_there ∙ has)) acts, λ n k. subst (λ ms. IsReported ms n) (sym row.sends) k)
+    from_fate has (Leading x after leads row acts) = (after, row.is, subst (λ y. HasActed y after) (some_same x r (sym leads.is_there ∙ has)) acts, λ n result k. subst (λ ms. IsTold ms n result) (sym row.sends) k)
     from_fate has (Aside mail x c (Led node lead leads ne off) f) = absurd (ne (sym (leads.alone seat.who r has runs)))
     from_fate has (Aside mail x c (Unled u) f) = absurd (true≢false (sym runs ∙ u.none seat.who r has))
     from_fate has (Missed mail node t none) = absurd (none_some (sym none ∙ (sym (view_was births rows seat event name born (Node node) t.is_node) ∙ has)))

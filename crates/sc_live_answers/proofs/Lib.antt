@@ -263,6 +263,7 @@ pub mod YoungGroupLaws
 pub mod Lemmas
 pub mod OrderNumbers
 pub mod ReportedMail
+pub mod SentMail
 pub mod OrderResults
 pub mod HeldOrders
 pub mod HeldOrdersAtStart

@@ -18,7 +18,7 @@ use Rattle.sc_live_journals.specs.rows.Definitions.{view_at, with_event}
 use Rattle.sc_live_journals.proofs.RowsProofs.Lemmas.{view_was}
 use Rattle.sc_live_journals.specs.mail.Definitions.{SlotsAreLeft, ReplicasLast, MailMayCome}
 use Rattle.sc_live_journals.specs.logs.Definitions.{ViewsAreReplicas, SlotsHaveRosters, logged_sets}
-use Rattle.sc_live_answers.specs.Definitions.{ReplicasRunLogs, IsUnsettled, IsNamedGuide, NewestStay, WellLedLeadAlone, IsOrdersRow, OrdersRowsFind, OrdersRowsMeet, IsQuietWhileYoung, IsSentStep, NextRowsAreSent, SentReplicas, IsNoRequest, IsPlainAt, over_at, slot_leaders_at, NextRowsRise, IsRisingOn, IsRoundSince, OrdersKeepRounds, PrefixesAreFound, NoMailForStrangers, IsCalmJournal, AreSent, ContinuesBy, IsNamedGroup, IsUnder, IsYoungAt, AllLeadAlone, IsKnownMail, OrderRowsFindCalm, ViewsAgree, ChildrenAreCreated, IsWorkingRow, ChildrenWereNowhere, IsUnanswered, YoungGroupsStay, AreSeen, IsTrueSince, LeadsSince, EntriesAreTrue, MailComesUnsettled, TakesSince, IsHinted, CoordinatorsAreHinted, HintedOrdersGoOn, AreSettled, CoordinatorsAreSettled, SettledOrdersGoOn, EndingGroupsGoOn, IsGoingSince, NamesStayFew, NoneWaits, AskedGroupsStood, ContinuesSince, TrueOrdersGoOn, IsGuidedRow, DeliveriesKeepWork, WorkStandsAlone, FlightsAreEntries, OrderErrandsGoToNodes, IsOfJournal, IsOrderedSince, DeliveriesKeepOrdered, TakersAreNodes, LawfulReplicasAreNamedOnce, IsTrueEntry, Does, HasNumber, LockNumber, IsReported, IsGiven, IsOrderHeld}
+use Rattle.sc_live_answers.specs.Definitions.{ReplicasRunLogs, IsUnsettled, IsNamedGuide, NewestStay, WellLedLeadAlone, IsOrdersRow, OrdersRowsFind, OrdersRowsMeet, IsQuietWhileYoung, IsSentStep, NextRowsAreSent, SentReplicas, IsNoRequest, IsPlainAt, over_at, slot_leaders_at, NextRowsRise, IsRisingOn, IsRoundSince, OrdersKeepRounds, PrefixesAreFound, NoMailForStrangers, IsCalmJournal, AreSent, ContinuesBy, IsNamedGroup, IsUnder, IsYoungAt, AllLeadAlone, IsKnownMail, OrderRowsFindCalm, ViewsAgree, ChildrenAreCreated, IsWorkingRow, ChildrenWereNowhere, IsUnanswered, YoungGroupsStay, AreSeen, IsTrueSince, LeadsSince, EntriesAreTrue, MailComesUnsettled, TakesSince, IsHinted, CoordinatorsAreHinted, HintedOrdersGoOn, AreSettled, CoordinatorsAreSettled, SettledOrdersGoOn, EndingGroupsGoOn, IsGoingSince, NamesStayFew, NoneWaits, AskedGroupsStood, ContinuesSince, TrueOrdersGoOn, IsGuidedRow, DeliveriesKeepWork, WorkStandsAlone, FlightsAreEntries, OrderErrandsGoToNodes, IsOfJournal, IsOrderedSince, DeliveriesKeepOrdered, TakersAreNodes, LawfulReplicasAreNamedOnce, IsTrueEntry, Does, HasNumber, LockNumber, IsRefusalSent, IsReported, IsGiven, IsOrderHeld}
 use Rattle.sc_live_journals.specs.scenes.Definitions.{IsThere, IsNowhere, AreUntouched, IsDelivered, FreshGroupsStay, FindsOrder, GoesBy, StageAfter, IsTaking, LeadsAlone, scene_at}
 use Rattle.sc_live_steps.specs.entries.LoneEntries.{IsEntry}
 use Rattle.sc_live_journals.specs.charts.Definitions.{chart_at, quiet_prefix}
@@ -30,7 +30,7 @@ use Rattle.sc_live_answers.proofs.GuidedGroups.{named_there}
 use Rattle.sc_live_answers.proofs.ClientsUnderOrders.{started_still, other_stays}
 use Rattle.sc_live_answers.proofs.PlayerReplicas.{place_of}
 use Rattle.sc_live_answers.proofs.SentMailGroups.{known_after}
-use Rattle.sc_live_answers.proofs.HeldOrders.{AreLeaders, held_on}
+use Rattle.sc_live_answers.proofs.HeldOrders.{AreLeaders, held_on, refusal_on}
 use Rattle.sc_live_answers.proofs.HeldOrdersAtStart.{given_rows}
 use Rattle.sc_live_answers.proofs.UnusedNames.{order_unnamed}
 
@@ -264,10 +264,13 @@ module _ (all_bounded : ValidScenariosAreBounded) (few_law : SlotsAreLeft) (logs
     alone = lead_after;
   }
 
-  result_after : IsReported (mails then) o.line.number ⊎ IsOrderHeld (scene_at all then)
+  refusal_after : IsRefusalSent (mails then) next_stage.0
+  refusal_after = refusal_on all rows row (Deliver number) under.stage next_stage.0 under.untouched.stands o.refusal next_stage.2
+
+  result_after : IsReported all then o.line.number ⊎ IsOrderHeld (scene_at all then)
   result_after =
       held_on o.line.number o.told words all quiet rows seat number on.seated on.timely finds under.stage under.untouched.stands o.true_since.done
-      (order_unnamed words scenario quiet rows under.stage (all_bounded scenario calm.valid) (found_law words scenario journal quiet calm under.rests.prefix).lawful o.true_since) leaders next_stage.0 next_stage.1.stands next_stage.2 o.result
+      (order_unnamed words scenario quiet rows under.stage (all_bounded scenario calm.valid) (found_law words scenario journal quiet calm under.rests.prefix).lawful o.true_since) leaders o.refusal next_stage.0 next_stage.1.stands next_stage.2 o.result
 
   only_after : (other : OrderLine) → IsGiven then other → IsGiven quiet other ⊎ (other ≡ o.line)
   only_after other given = elim (given_rows rows row other given) [
@@ -291,6 +294,7 @@ module _ (all_bounded : ValidScenariosAreBounded) (few_law : SlotsAreLeft) (logs
     line = o.line;
     only = only_after;
     told = o.told;
+    refusal = refusal_after;
     result = result_after;
     task = o.task;
     is_task = o.is_task;

@@ -25,7 +25,7 @@ use Rattle.sc_live_answers.proofs.GuidedGroups.{named_there, reached_even}
 use Rattle.sc_live_answers.proofs.ClientsUnderOrders.{started_still, told_stays}
 use Rattle.sc_live_answers.proofs.SentMailGroups.{known_told}
 use Rattle.sc_group_table.specs.policy.Definitions.{is_reported as is_told_order}
-use Rattle.sc_live_answers.proofs.HeldOrdersAtStart.{given_allowed, given_rows, held_at_start}
+use Rattle.sc_live_answers.proofs.HeldOrdersAtStart.{given_allowed, given_rows, refusal_at_start, held_at_start}
 use Rattle.sc_live_answers.proofs.WellLedLeaders.{well_led_lead_alone}
 
 module _ (all_bounded : ValidScenariosAreBounded) (few_law : SlotsAreLeft) (logs_law : ReplicasRunLogs) (views_law : ViewsAreReplicas) (rosters_law : SlotsHaveRosters) (next_law : NextRowsAreSent) (newest_law : NewestStay) (found_law : PrefixesAreFound) (no_law : NoMailForStrangers)
@@ -187,6 +187,7 @@ module _ (all_bounded : ValidScenariosAreBounded) (few_law : SlotsAreLeft) (logs
         line = line;
         only = only_begins;
         told = allowed.1;
+        refusal = refusal_at_start all quiet seat line (step_law words all quiet seat (Told line) seated timely finds Still rests.still) begun.0 begun.1.stands (mails then);
         result = held_at_start words scenario quiet seat line seated allowed.0 (λ name who r e. (at_rest name who r e, λ runs. plain name who r e, room name who r e)) lead_after;
         task = work.0;
         is_task = work.1;

@@ -19,25 +19,26 @@ use Rattle.sc_node_table.specs.declared.Before.{Before}
 use Rattle.sc_law_walks.proofs.Lemmas.{either_way, executed_place, welcomed_place, next_found}
 use Rattle.sc_law_walks.proofs.PlaceWalks.{Talk, grows}
 use Rattle.sc_law_walks.proofs.Talks.{all_sent, others_sent, client_reported, desk_reported, one_answered, all_answered, all_dismissed, vote_reported, watch_reported, spoken_said}
-use Rattle.sc_live_answers.specs.Definitions.{IsReported}
+use Rattle.sc_live_answers.specs.Definitions.{IsTold}
 
 -- more mail reports it too
-pub reported_more : (n : ℕ) (mails more : List Mail) → IsReported mails n → IsReported (mails ++ more) n
-reported_more n mails more k = record { mail = k.mail; result = k.result; among = Among-left k.mail mails more k.among; body = k.body }
+pub told_more : (n : ℕ) (result : OrderResult) (mails more : List Mail) → IsTold mails n result → IsTold (mails ++ more) n result
+told_more n result mails more k = record { mail = k.mail; among = Among-left k.mail mails more k.among; body = k.body }
 
-pub reported_behind : (n : ℕ) (mails more : List Mail) → IsReported more n → IsReported (mails ++ more) n
-reported_behind n mails more k = record { mail = k.mail; result = k.result; among = Among-right k.mail mails more k.among; body = k.body }
+pub told_behind : (n : ℕ) (result : OrderResult) (mails more : List Mail) → IsTold more n result → IsTold (mails ++ more) n result
+told_behind n result mails more k = record { mail = k.mail; among = Among-right k.mail mails more k.among; body = k.body }
 
 -- a report to the desk
-pub desk_reports : (me n : ℕ) (result : OrderResult) (mails : List Mail) → IsReported (result_sent me n result mails) n
-desk_reports me n result mails = reported_behind n mails (record { from = me; to = 0; body = Told n result } ∷ []) (record { mail = record { from = me; to = 0; body = Told n result }; result = result; among = inl refl; body = refl })
+pub desk_reports : (me n : ℕ) (result : OrderResult) (mails : List Mail) → IsTold (result_sent me n result mails) n result
+desk_reports me n result mails =
+    told_behind n result mails (record { from = me; to = 0; body = Told n result } ∷ []) (record { mail = record { from = me; to = 0; body = Told n result }; among = inl refl; body = refl })
 
-module _ (n : ℕ) where
+module _ (n : ℕ) (result : OrderResult) where
   abbrev Q : List Mail → Type 0
-  Q mails = IsReported mails n
+  Q mails = IsTold mails n result
 
   more_said : (mails : List Mail) (mail : Mail) → Q mails → Q (mails ++ mail ∷ [])
-  more_said mails mail k = reported_more n mails (mail ∷ []) k
+  more_said mails mail k = told_more n result mails (mail ∷ []) k
 
   talk : (me : ℕ) → Talk me Q
   talk me = grows me Q more_said
@@ -45,9 +46,9 @@ module _ (n : ℕ) where
   abbrev H : Place → Type 0
   H place = Q place.1
 
-  order_reports : (me : ℕ) (result : OrderResult) (mails : List Mail) → is_reported n ≡ true → Q (order_reported me n result mails)
+  order_reports : (me : ℕ) (mails : List Mail) → is_reported n ≡ true → Q (order_reported me n result mails)
   unfolding order_reported
-  order_reports me result mails told = subst Q (sym (cond-true (is_reported n) (result_sent me n result mails) mails told)) (desk_reports me n result mails)
+  order_reports me mails told = subst Q (sym (cond-true (is_reported n) (result_sent me n result mails) mails told)) (desk_reports me n result mails)
 
   -- ---- the pump
 
@@ -129,10 +130,10 @@ module _ (n : ℕ) where
   calls_told (Some answer) _ place m = m
   calls_told None _ place m = m
 
-  effects_told : (result : Option OrderResult) (command : Command) (place : Place) → H place → H (effect_reported result command place)
+  effects_told : (o : Option OrderResult) (command : Command) (place : Place) → H place → H (effect_reported o command place)
   unfolding effect_reported
   effects_told None command place m = m
-  effects_told (Some result) command (r, mails) m = desk_reported r.me Q (talk r.me) (order_number command) result mails m
+  effects_told (Some other) command (r, mails) m = desk_reported r.me Q (talk r.me) (order_number command) other mails m
 
   announces : (counted : Bool) (effect : Effect) (command : Command) (place : Place) → H place → H (announced counted effect command place)
   unfolding announced
@@ -182,24 +183,31 @@ module _ (n : ℕ) where
 
   -- ---- an entry that ends the order
 
-  -- a join or a leave reports its result; a split, or an entry of a transaction, reports that of the order that it ends
+  -- the entry ends the order with this number by this result: a join or a leave by what it does; a split, or an entry of a transaction, by what it decides
   abbrev pub Ends : Command → Group → Type 0
   Ends command group =
-      ((order_number command ≡ n) × (result : OrderResult) × (order_result command (applied group command).1 ≡ Some result))
-      ⊎ ((spoken_number (before_of group.core).order command ≡ n) × (result : OrderResult) × (begun_result (before_of group.core).alone (applied group command).1 command ≡ Some result))
+      ((order_number command ≡ n) × (order_result command (applied group command).1 ≡ Some result))
+      ⊎ ((spoken_number (before_of group.core).order command ≡ n) × (begun_result (before_of group.core).alone (applied group command).1 command ≡ Some result))
 
-  effect_reports : (command : Command) (result : OrderResult) (o : Option OrderResult) (place : Place) → is_reported n ≡ true → order_number command ≡ n → o ≡ Some result → H (effect_reported o command place)
+  -- a report of this number and result
+  own_reports : (me number : ℕ) (other : OrderResult) (mails : List Mail) → is_reported n ≡ true → number ≡ n → other ≡ result → Q (order_reported me number other mails)
+  own_reports me number other mails told same is = subst (λ (k : ℕ). Q (order_reported me k other mails)) (sym same) (subst (λ (x : OrderResult). Q (order_reported me n x mails)) (sym is) (order_reports me mails told))
+
+  some_own : (other : OrderResult) → Some other ≡ Some result → other ≡ result
+  some_own other e = cc
+
+  effect_reports : (command : Command) (o : Option OrderResult) (place : Place) → is_reported n ≡ true → order_number command ≡ n → o ≡ Some result → H (effect_reported o command place)
   unfolding effect_reported
-  effect_reports command result None place told number e = absurd cc
-  effect_reports command result (Some other) (r, mails) told number e = subst (λ (k : ℕ). Q (order_reported r.me k other mails)) (sym number) (order_reports r.me other mails told)
+  effect_reports command None place told number e = absurd cc
+  effect_reports command (Some other) (r, mails) told number e = own_reports r.me (order_number command) other mails told number (some_own other e)
 
-  announced_reports : (effect : Effect) (command : Command) (result : OrderResult) (place : Place) → is_reported n ≡ true → order_number command ≡ n → order_result command effect ≡ Some result → H (announced true effect command place)
+  announced_reports : (effect : Effect) (command : Command) (place : Place) → is_reported n ≡ true → order_number command ≡ n → order_result command effect ≡ Some result → H (announced true effect command place)
   unfolding announced
-  announced_reports effect command result place told number e = effect_reports command result (order_result command effect) (answered_or_put_back (answer_of effect) command place) told number e
+  announced_reports effect command place told number e = effect_reports command (order_result command effect) (answered_or_put_back (answer_of effect) command place) told number e
 
-  begun_reports : (me number : ℕ) (result : OrderResult) (o : Option OrderResult) (mails : List Mail) → is_reported n ≡ true → number ≡ n → o ≡ Some result → Q (result_reported me o number mails)
-  begun_reports me number result None mails told same e = absurd cc
-  begun_reports me number result (Some other) mails told same e = subst (λ (k : ℕ). Q (order_reported me k other mails)) (sym same) (order_reports me other mails told)
+  begun_reports : (me number : ℕ) (o : Option OrderResult) (mails : List Mail) → is_reported n ≡ true → number ≡ n → o ≡ Some result → Q (result_reported me o number mails)
+  begun_reports me number None mails told same e = absurd cc
+  begun_reports me number (Some other) mails told same e = own_reports me number other mails told same (some_own other e)
 
   -- how a transaction goes on comes behind the report
   module _ (me : ℕ) where
@@ -257,20 +265,20 @@ module _ (n : ℕ) where
     went_more group before effect (RecordWatch tx vote by) mails m = watch_replies (decided_in effect) vote before tx by mails m
     went_more group before effect _ mails m = m
 
-  spoken_reports : (before : Before) (effect : Effect) (command : Command) (result : OrderResult) (place : Place) → is_reported n ≡ true → spoken_number before.order command ≡ n → begun_result before.alone effect command ≡ Some result → H (spoken true before effect command place)
+  spoken_reports : (before : Before) (effect : Effect) (command : Command) (place : Place) → is_reported n ≡ true → spoken_number before.order command ≡ n → begun_result before.alone effect command ≡ Some result → H (spoken true before effect command place)
   unfolding spoken spoken_mails begun_reported
-  spoken_reports before effect command result (r, mails) told number e =
+  spoken_reports before effect command (r, mails) told number e =
       went_more r.me r.group before effect command (result_reported r.me (begun_result before.alone effect command) (spoken_number before.order command) mails)
-      (begun_reports r.me (spoken_number before.order command) result (begun_result before.alone effect command) mails told number e)
+      (begun_reports r.me (spoken_number before.order command) (begun_result before.alone effect command) mails told number e)
 
   one_ends : (command : Command) (r : ReplicaState) (mails : List Mail) → is_reported n ≡ true → Ends command r.group → H (executed_one true command (r, mails))
   unfolding executed_one
   one_ends command r mails told (inl k) =
-      after_announced command r (announced true (applied r.group command).1 command (entered command r, mails)) (announced_reports (applied r.group command).1 command k.1 (entered command r, mails) told k.0 k.2)
+      after_announced command r (announced true (applied r.group command).1 command (entered command r, mails)) (announced_reports (applied r.group command).1 command (entered command r, mails) told k.0 k.1)
   one_ends command r mails told (inr k) =
       after_spoken command r (spoken true (before_of r.group.core) (applied r.group command).1 command (announced true (applied r.group command).1 command (entered command r, mails)))
-      (spoken_reports (before_of r.group.core) (applied r.group command).1 command k.1 (announced true (applied r.group command).1 command (entered command r, mails)) told k.0 k.2)
+      (spoken_reports (before_of r.group.core) (applied r.group command).1 command (announced true (applied r.group command).1 command (entered command r, mails)) told k.0 k.1)
 
   -- the leader that counted the entry reports the result
-  pub entry_reports : (command : Command) (r : ReplicaState) (mails : List Mail) → is_reported n ≡ true → Ends command r.group → IsReported (executed true command (r, mails)).0.1 n
+  pub entry_reports : (command : Command) (r : ReplicaState) (mails : List Mail) → is_reported n ≡ true → Ends command r.group → IsTold (executed true command (r, mails)).0.1 n result
   entry_reports command r mails told k = executed_place H (λ o. Unit {0}) (λ place m. tt) (λ other place o m. one_goes other place m) pumps true command (r, mails) (one_ends command r mails told k)

@@ -15,10 +15,8 @@ use Rattle.sc_live_plain.specs.Definitions.{DoHintsRise, replicas_after}
 use Rattle.sc_live_journals.specs.rows.Definitions.{IsSeat, with_event}
 use Rattle.sc_live_journals.specs.charts.Definitions.{chart_at, names_at, quiet_prefix}
 use Rattle.sc_live_answers.specs.Definitions.{IsCalmJournal, IsPrefixOf, ContinuesBy, RestsAt, JournalsBeginResting, GoesToNode, RequestsSendNoErrands, NodeErrandsReachPlayers, IsAskedSince, RequestsBeginAsked, AskedRowsGoOn, AskedRowsFindCalm, RequestsKeepGroups, RequestsRestAgain, IsOrderedSince, OrdersBeginOrdered, DeliveriesKeepOrdered, OrdersLeaveResting, HasFewNames, ClientsAreNear, NamesStayFew, IsReported, AreReported}
-use Rattle.sc_actor.proofs.Lemmas.{mails-append, mails-snoc}
-use Rattle.sc_live_answers.proofs.HeldOrders.{none_holds}
+use Rattle.sc_live_answers.proofs.HeldOrders.{none_holds, reported_later}
 use Rattle.sc_live_answers.proofs.HeldOrdersAtStart.{given_rows}
-use Rattle.sc_live_answers.proofs.ReportedMail.{reported_more}
 use Rattle.sc_live_answers.proofs.Segments.{Parts, IsSegment, segments}
 
 -- an order that is given
@@ -27,9 +25,9 @@ told_line (Told line) told = (line, refl)
 told_line _ told = absurd (true≢false (sym told))
 
 -- a row that gives no order leaves the results reported
-reported_on : (rows : Rows) (row : Row Mail OrderLine) → is_told row.event ≡ false → AreReported rows → AreReported (rows ++ row ∷ [])
-reported_on rows row untold all line given = elim (given_rows rows row line given) [
-  | inl before ↦ subst (λ ms. IsReported ms line.number) (sym (mails-snoc rows row)) (reported_more line.number (mails rows) row.sent (all line before))
+reported_on : (births : List (Seat Player)) (rows : Rows) (row : Row Mail OrderLine) → is_told row.event ≡ false → AreReported births rows → AreReported births (rows ++ row ∷ [])
+reported_on births rows row untold all line given = elim (given_rows rows row line given) [
+  | inl before ↦ reported_later births rows (row ∷ []) line.number (all line before)
   | inr e ↦ absurd (true≢false (sym (ap is_told e) ∙ untold))
 ]
 
@@ -65,14 +63,14 @@ module _ (laws : SegmentLaws) (words : ℕ → ℕ → ℕ × ℕ) (scenario : S
   -- a quiet prefix that rests, in which errands went to nodes, no more groups were led than there were groups and orders, and the result of each order was reported
   pub record RestsSo (quiet : Rows) : Type 0 where
     pub rests : RestsAt words scenario first journal quiet
-    pub reported : AreReported quiet
+    pub reported : AreReported (births as_nodes scenario) quiet
     pub home : Each (GoesToNode scenario) (mails quiet)
     pub named : HasFewNames scenario quiet
 
   -- clients asked alone since
   pub record AsksSo (quiet rows : Rows) : Type 0 where
     pub asked : IsAskedSince words scenario first far sends journal quiet rows
-    pub reported : AreReported (quiet ++ rows)
+    pub reported : AreReported (births as_nodes scenario) (quiet ++ rows)
     pub home : Each (GoesToNode scenario) (mails (quiet ++ rows))
     pub named : names_at all (quiet ++ rows) ≡ names_at all quiet
 
@@ -86,7 +84,7 @@ module _ (laws : SegmentLaws) (words : ℕ → ℕ → ℕ × ℕ) (scenario : S
   pub asks_none : (quiet : Rows) → IsPrefixOf journal quiet → RestsSo quiet → AsksSo quiet []
   asks_none quiet prefix r = record {
     asked = (laws.ask_law words scenario first others far sends journal quiet frame.calm frame.groups r.rests (frame.few quiet prefix).0).0;
-    reported = subst AreReported (sym (append-nil quiet)) r.reported;
+    reported = subst (AreReported (births as_nodes scenario)) (sym (append-nil quiet)) r.reported;
     home = subst (λ (l : Rows). Each (GoesToNode scenario) (mails l)) (sym (append-nil quiet)) r.home;
     named = ap (names_at all) (append-nil quiet);
   }
@@ -98,7 +96,7 @@ module _ (laws : SegmentLaws) (words : ℕ → ℕ → ℕ × ℕ) (scenario : S
       let later = laws.stay_law words scenario first others far sends journal quiet rows row frame.calm frame.groups a.asked prefix untold in
       record {
         asked = later;
-        reported = subst AreReported shift (reported_on (quiet ++ rows) row untold a.reported);
+        reported = subst (AreReported (births as_nodes scenario)) shift (reported_on (births as_nodes scenario) (quiet ++ rows) row untold a.reported);
         home = laws.silent_law words scenario first others far sends journal quiet rows row frame.calm frame.groups r.rests a.asked.known a.asked.requested later.requested a.home;
         named = ap (names_at all) (sym shift)
             ∙ laws.names_law.asked words scenario first journal quiet (quiet ++ rows) row frame.calm r.rests
@@ -176,9 +174,9 @@ module _ (laws : SegmentLaws) (words : ℕ → ℕ → ℕ × ℕ) (scenario : S
     over = λ quiet rows prefix timely r o still. record {
       rests = laws.over_law words scenario first others journal quiet (quiet ++ rows) frame.groups frame.calm o still;
       reported = λ line given. elim (o.only line given) [
-        | inl before ↦ subst (λ ms. IsReported ms line.number) (sym (mails-append quiet rows)) (reported_more line.number (mails quiet) (mails rows) (r.reported line before))
+        | inl before ↦ reported_later (births as_nodes scenario) quiet rows line.number (r.reported line before)
         | inr same ↦ elim o.result [
-          | inl told ↦ subst (λ (x : OrderLine). IsReported (mails (quiet ++ rows)) x.number) (sym same) told
+          | inl told ↦ subst (λ (x : OrderLine). IsReported (births as_nodes scenario) (quiet ++ rows) x.number) (sym same) told
           | inr held ↦ absurd (none_holds Still (scene_at all (quiet ++ rows)) (λ none. none) (laws.over_law words scenario first others journal quiet (quiet ++ rows) frame.groups frame.calm o still).still held)
         ]
       ];

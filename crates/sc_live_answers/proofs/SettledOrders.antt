@@ -4,8 +4,8 @@ use Rattle.std.proofs.lemmas.List.{map-append}
 use Rattle.sc_base.specs.Definitions.{Among, Each}
 use Rattle.sc_node_table.specs.Values.{OrderLine, Mail, Seat, Row, Line}
 use Rattle.sc_actor.specs.declared.schedules.Line.TheVariants as line
-use Rattle.sc_actor.specs.Definitions.{mails, has_crashed, System, IsLawful, unsettled}
-use Rattle.sc_actor.proofs.Lemmas.{lawful-prefix, mails-append}
+use Rattle.sc_actor.specs.Definitions.{has_crashed, System, IsLawful, unsettled}
+use Rattle.sc_actor.proofs.Lemmas.{lawful-prefix}
 use Rattle.sc_words.proofs.PaxosProofs.Lemmas.{Each-among, Each-from_All}
 use Rattle.sc_live_orderly.proofs.Lemmas.{in_time_tidy, settled_in_time, uncut_before}
 use Rattle.sc_scenario.specs.scenario.Definitions.{ValidScenariosAreBounded, IsBoundedLine}
@@ -19,7 +19,7 @@ use Rattle.sc_live_plain.proofs.Lemmas.{first_delivery, many_line, calm_lines_ar
 use Rattle.sc_live_answers.specs.Definitions.{IsReported, SettledJournalsReport, SettledOrdersAreReported}
 use Rattle.sc_live_answers.proofs.ErrandReceivers.{node_seated}
 use Rattle.sc_live_answers.proofs.PassedOrders.{WasQuietAfter, was_quiet_after}
-use Rattle.sc_live_answers.proofs.ReportedMail.{reported_more}
+use Rattle.sc_live_answers.proofs.HeldOrders.{reported_later}
 
 -- where a line stands among others
 line_place : (one : SchedLine) (lines : List SchedLine) → Among one lines → (before after : List SchedLine) × (lines ≡ before ++ one ∷ after)
@@ -44,4 +44,4 @@ orders_reported all_bounded report_law words scenario journal valid calm lawful 
     let settled = uncut_before s (schedule scenario) was.before was.after (subst (λ l. unsettled s (schedule scenario) l ≡ false) was.rows_are uncut) in
     let longer = ap length was.rows_are ∙ length-append was.before was.after in
     let reported = report_law words scenario was.before valid calm begins settled (omega (arith, short, longer)) was.quiet order (record { row = was.given.row; among = was.given.among; gives = was.given.gives }) in
-    subst (λ ms. IsReported ms order.number) (sym (ap mails was.rows_are ∙ mails-append was.before was.after)) (reported_more order.number (mails was.before) (mails was.after) reported)
+    subst (λ rows. IsReported (births as_nodes scenario) rows order.number) (sym was.rows_are) (reported_later (births as_nodes scenario) was.before was.after order.number reported)

@@ -32,7 +32,7 @@ use Rattle.sc_live_answers.specs.WaitingActs.{HaveNoneWaiting}
 use Rattle.sc_live_answers.specs.CreatedGroups.{AreCreatedByOrder}
 use Rattle.sc_group_table.specs.policy.Definitions.{is_reported}
 use Rattle.sc_live_answers.specs.OrderTasks.{Task}
-use Rattle.sc_live_answers.specs.ReportedOrders.{IsGiven, IsReported, IsOrderHeld}
+use Rattle.sc_live_answers.specs.ReportedOrders.{IsGiven, IsRefusalSent, IsReported, IsOrderHeld}
 use Rattle.sc_live_answers.specs.WaitingWork.{AreAtWork, IsTaskOf}
 
 -- if the mail names a group, a group of the journal has that name
@@ -54,7 +54,8 @@ pub record IsOrderedSince (words : ℕ → ℕ → ℕ × ℕ) (scenario : Scena
   pub line : OrderLine
   pub only : (other : OrderLine) → IsGiven rows other → IsGiven quiet other ⊎ (other ≡ line)
   pub told : is_reported line.number ≡ true
-  pub result : IsReported (mails rows) line.number ⊎ IsOrderHeld (scene_at (births as_nodes scenario) rows)
+  pub refusal : IsRefusalSent (mails rows) under.stage
+  pub result : IsReported (births as_nodes scenario) rows line.number ⊎ IsOrderHeld (scene_at (births as_nodes scenario) rows)
   pub task : Task
   pub is_task : IsTaskOf (births as_nodes scenario) quiet line task
   pub work : AreAtWork task words (births as_nodes scenario) rows

@@ -53,8 +53,9 @@ pub fn settled_requests_are_answered()
 }
 
 /// Proves that in each whole lawful journal of a valid calm scenario in which no line of deliveries
-/// was cut off, and that has at most 2^28 rows, the result of each order is reported to the desk:
-/// done, committed, aborted, or refused with its cause. No order stays open.
+/// was cut off, and that has at most 2^28 rows, a result of each order is reported to the desk:
+/// done, committed, refused with its cause, or aborted. No order stays open, and an order is
+/// reported as aborted only where a group voted No in its transaction.
 pub fn settled_orders_are_reported()
     ensures { SettledOrdersAreReported }
 {
