@@ -16,10 +16,11 @@ use Rattle.sc_scenario.specs.scenario.Groups.{lone_name}
 use Rattle.sc_scenario.specs.declared.scenario.scenarios.Asks.{Asks}
 use Rattle.sc_scenario.specs.declared.scenario.scenarios.Scenario.{Scenario}
 use Rattle.sc_meaning.specs.sound.Example.{alone, put_it, get_it, ballot, mail, row}
-use Rattle.sc_meaning.specs.sound.Players.{system_of, schedule, as_nodes, route_of}
+use Rattle.sc_meaning.specs.sound.Players.{births, system_of, schedule, as_nodes, route_of}
 use Rattle.sc_meaning.specs.sound.Requests.{kept_replies}
 use Rattle.sc_live_plain.specs.Budget.{AreAnswered}
 use Rattle.sc_live_plain.specs.CalmBudget.{IsCalmAtBudget}
+use Rattle.sc_live_answers.specs.ReportedOrders.{AreOrdersReported, IsReported}
 use Rattle.sc_live_plain.proofs.ExampleBudget.{asks, calm_at_budget, lines_of, ordered}
 
 -- node 2 is ordered to join
@@ -72,4 +73,26 @@ answered first others groups_are one a is =
       | inl same ↦ subst (λ (x : Asks). length (kept_replies (route_of first) x rows) ≡ length x.ops) same
           (subst (λ (b : Base). length (kept_replies (route_of b) asks rows) ≡ 2) first_is refl)
       | inr none ↦ absurd none
+    ]
+
+-- the order's result is reported: done
+done : IsReported (births as_nodes joined) rows 1
+unfolding rows
+done = record { result = Done; told = record { mail = record { from = 1; to = 0; body = Tells 1 Done }; among = inr (inr (inl refl)); body = refl }; cause = λ e. cc }
+
+reported : AreOrdersReported joined rows
+unfolding ordered lines_of
+reported node line a =
+    elim a [
+      | inl same ↦ (let is : join_it ≡ line = cc in subst (λ (l : OrderLine). IsReported (births as_nodes joined) rows l.number) is done)
+      | inr b ↦ elim b [
+        | inl e ↦ cc
+        | inr c ↦ elim c [
+          | inl e ↦ cc
+          | inr d ↦ elim d [
+            | inl e ↦ cc
+            | inr none ↦ absurd none
+          ]
+        ]
+      ]
     ]
