@@ -1,0 +1,2 @@
+pub mod FixedMembers
+pub mod Definitions
