@@ -1,2 +1,4 @@
 pub mod FixedMembers
+pub mod HealedSchedules
+pub mod HealedStores
 pub mod Definitions
