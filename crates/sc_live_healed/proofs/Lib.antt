@@ -1,0 +1,2 @@
+mod AskingClients
+mod AskingClientRows

@@ -2,3 +2,4 @@
 pub use Rattle.sc_live_healed.specs.FixedMembers.{IsFixedCommand, IsFixedRequest, IsFixedGroup, IsFixedReplica, RunsInOwnBallot, IsFollower, KeepsBallots, IsOfMembers, IsFixedBase, IsFixedAnswer, IsFixedBody, IsFixedMail, IsFixedNode}
 pub use Rattle.sc_live_healed.specs.HealedSchedules.{crashes, is_order, lives, HasLivingMajorities, NodeTurn, ClientTurn, node_lines, client_line, client_lines, IsHealed}
 pub use Rattle.sc_live_healed.specs.HealedStores.{IsIdleLeader, IsIdleStore, HasReplies, AskedACrashedNode, Counts, IsAtEnd, StaysIdle, AnswersTurns, AnswersAll, Heals, HealedStoresAnswer}
+pub use Rattle.sc_live_healed.specs.AskingClients.{IsAskingOn, IsAskingClient}
