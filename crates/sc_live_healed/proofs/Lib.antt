@@ -1,0 +1,5 @@
+pub mod FixedWalks
+pub mod FixedPumps
+pub mod FixedRows
+pub mod FixedTicks
+pub mod FixedEntries
