@@ -179,12 +179,12 @@ module _ (base : Base) (me : ℕ) (w : FixedWalk base me) where
 
   -- ---- Learn, Ask and Install
 
-  learns : (from : ℕ) (group : Draw) (slot : ℕ) (command : Command) (place : Place) → Hears from (Learn group slot command) → P place → After (learn_row from slot command place)
+  learns : (from : ℕ) (group : Draw) (slot : ℕ) (command : Command) (place : Place) → Hears from (Learn group slot command) → w.First place.0 → P place → After (learn_row from slot command place)
   unfolding learn_row
-  learns from group slot command (r, mails) h k =
+  learns from group slot command (r, mails) h first k =
       either_way After (nat_lt last_slot slot) (childless (r, mails)) _ k
       (cond_both (eqb slot (next r)) (executed false command (r, mails)) _ After
-      (λ t. execution base me w false command (r, mails) (w.learnt_entry from group command r mails (subst (λ s. Hears from (Learn group s command)) (eqb-true slot (next r) t) h) k))
+      (λ t. execution base me w false command (r, mails) (w.learnt_entry from group command r mails (subst (λ s. Hears from (Learn group s command)) (eqb-true slot (next r) t) h) first k))
       (λ _. cond_both (nat_lt (next r) slot) (childless (r, sent r.me from (Ask (name_of r) (next r)) mails)) (childless (r, mails)) After
       (λ t. w.wants from slot r mails (w.heard from (Learn group slot command) h).1.0 (ltb-true (next r) slot t) k) (λ _. k)))
 
@@ -236,22 +236,22 @@ module _ (base : Base) (me : ℕ) (w : FixedWalk base me) where
 
   -- ---- all mail: none of orders or transactions is heard
 
-  pub takes_mail : (from : ℕ) (body : MailBody) (place : Place) → Hears from body → P place → After (mailed from body place)
+  pub takes_mail : (from : ℕ) (body : MailBody) (place : Place) → Hears from body → w.First place.0 → P place → After (mailed from body place)
   unfolding mailed
-  takes_mail from (Request group client seq op) place h k = requests from group client seq op place h k
-  takes_mail from (Prepare group ballot from_slot) place h k = prepares from group ballot from_slot place h k
-  takes_mail from (Promise group ballot reports) place h k = polls_pump from group ballot reports place h k
-  takes_mail from (Accept group ballot slot command) place h k = accepts from group ballot slot command place h k
-  takes_mail from (Accepted group ballot slot) place h k = votes_count from group ballot slot place h k
-  takes_mail from (Nack group ballot) place h k = nacks from group ballot place h k
-  takes_mail from (Learn group slot command) place h k = learns from group slot command place h k
-  takes_mail from (Ask group from_slot) place h k = answers_ask from group from_slot place h k
-  takes_mail from (Install group slot sent sets) place h k = installs from group slot sent sets place h k
-  takes_mail from (Answer group seq answer) place h k = k
-  takes_mail from (TxPrepare tx offer) place h k = absurd (w.heard from (TxPrepare tx offer) h)
-  takes_mail from (TxVote tx coord part vote) place h k = absurd (w.heard from (TxVote tx coord part vote) h)
-  takes_mail from (TxOutcome tx part outcome) place h k = absurd (w.heard from (TxOutcome tx part outcome) h)
-  takes_mail from (TxElsewhere tx coord hint) place h k = absurd (w.heard from (TxElsewhere tx coord hint) h)
-  takes_mail from (TxWatch tx watch) place h k = absurd (w.heard from (TxWatch tx watch) h)
-  takes_mail from (TxWatched tx coord part vote) place h k = absurd (w.heard from (TxWatched tx coord part vote) h)
-  takes_mail from (Told order result) place h k = absurd (w.heard from (Told order result) h)
+  takes_mail from (Request group client seq op) place h first k = requests from group client seq op place h k
+  takes_mail from (Prepare group ballot from_slot) place h first k = prepares from group ballot from_slot place h k
+  takes_mail from (Promise group ballot reports) place h first k = polls_pump from group ballot reports place h k
+  takes_mail from (Accept group ballot slot command) place h first k = accepts from group ballot slot command place h k
+  takes_mail from (Accepted group ballot slot) place h first k = votes_count from group ballot slot place h k
+  takes_mail from (Nack group ballot) place h first k = nacks from group ballot place h k
+  takes_mail from (Learn group slot command) place h first k = learns from group slot command place h first k
+  takes_mail from (Ask group from_slot) place h first k = answers_ask from group from_slot place h k
+  takes_mail from (Install group slot sent sets) place h first k = installs from group slot sent sets place h k
+  takes_mail from (Answer group seq answer) place h first k = k
+  takes_mail from (TxPrepare tx offer) place h first k = absurd (w.heard from (TxPrepare tx offer) h)
+  takes_mail from (TxVote tx coord part vote) place h first k = absurd (w.heard from (TxVote tx coord part vote) h)
+  takes_mail from (TxOutcome tx part outcome) place h first k = absurd (w.heard from (TxOutcome tx part outcome) h)
+  takes_mail from (TxElsewhere tx coord hint) place h first k = absurd (w.heard from (TxElsewhere tx coord hint) h)
+  takes_mail from (TxWatch tx watch) place h first k = absurd (w.heard from (TxWatch tx watch) h)
+  takes_mail from (TxWatched tx coord part vote) place h first k = absurd (w.heard from (TxWatched tx coord part vote) h)
+  takes_mail from (Told order result) place h first k = absurd (w.heard from (Told order result) h)

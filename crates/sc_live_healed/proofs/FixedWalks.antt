@@ -32,9 +32,10 @@ pub record IsFixedPlace (base : Base) (me : ℕ) (place : Place) : Type 0 where
 abbrev pub IsMember : Base → ℕ → Type 0
 IsMember base node = is_member base.core.members node ≡ true
 
--- One invariant of replicas of such a group with their mails: what holds of them, what is heard, and that each part of a row keeps it.
+-- One invariant of replicas of such a group with their mails: what holds of the replica that a row finds, what holds of replicas and mails, what is heard, and that each part of a row keeps it.
 pub record FixedWalk (base : Base) (me : ℕ) : Type 1 where
   pub fresh : IsFresh base me
+  pub First : ReplicaState → Type 0
   pub P : Place → Type 0
   pub Hears : ℕ → MailBody → Type 0
   pub Sees : Ballot → Type 0
@@ -52,7 +53,7 @@ pub record FixedWalk (base : Base) (me : ℕ) : Type 1 where
       → P (offered slot set command (record r { backlog = backlog }, mails))
   -- entries
   pub counted_entry : (command : Command) (r : ReplicaState) (mails : List Mail) → r.running ≡ true → at_slot r.ready (next r) ≡ Some command → P (r, mails) → P (entered_place true command (r, mails))
-  pub learnt_entry : (from : ℕ) (group : Draw) (command : Command) (r : ReplicaState) (mails : List Mail) → Hears from (Learn group (next r) command) → P (r, mails) → P (entered_place false command (r, mails))
+  pub learnt_entry : (from : ℕ) (group : Draw) (command : Command) (r : ReplicaState) (mails : List Mail) → Hears from (Learn group (next r) command) → First r → P (r, mails) → P (entered_place false command (r, mails))
   -- leaders
   pub seen : (ballot : Ballot) (r : ReplicaState) (mails : List Mail) → Sees ballot → below r.top ballot ≡ true → GoesOn ballot r → P (r, mails) → P (record r { top = ballot }, mails)
   pub overtaken : (ballot : Ballot) (r : ReplicaState) (mails : List Mail) → Sees ballot → r.running ≡ true → below r.leader.ballot ballot ≡ true → P (r, mails) → P (stopped (Some ballot.node) (cond (below r.top ballot) (record r { top = ballot }) r, mails))

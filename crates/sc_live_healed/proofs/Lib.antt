@@ -5,3 +5,4 @@ pub mod FixedTicks
 pub mod FixedEntries
 pub mod AskingClients
 pub mod AskingClientRows
+pub mod TakenRequests
