@@ -6,3 +6,4 @@ pub mod FixedEntries
 pub mod AskingClients
 pub mod AskingClientRows
 pub mod TakenRequests
+pub mod ApartSlots
