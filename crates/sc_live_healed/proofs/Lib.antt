@@ -3,3 +3,5 @@ pub mod FixedPumps
 pub mod FixedRows
 pub mod FixedTicks
 pub mod FixedEntries
+pub mod FixedParts
+pub mod FixedPlaces
