@@ -381,7 +381,7 @@ module _ (base : Base) (me : ℕ) (fresh : IsFresh base me) where
   }
 
   -- a row of mail, and a tick of a node without policy, leave such a replica and send such mail
-  pub mailed_fixed : (from : ℕ) (body : MailBody) (place : Place) → IsFixedBody base from me body → F place → F (mailed from body place).0
+  pub mailed_fixed : (from : ℕ) (body : MailBody) (place : Place) → IsFixedBody base from me body → F place → F (mailed from body place).0 × ((mailed from body place).1 ≡ [])
   mailed_fixed from body place h k = takes_mail base me fixed_walk from body place h k
 
   pub ticked_fixed : (drawer : Drawer) (place : Place) → F place → F (tick_row false drawer place)

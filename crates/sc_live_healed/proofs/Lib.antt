@@ -5,3 +5,5 @@ pub mod FixedTicks
 pub mod FixedEntries
 pub mod FixedParts
 pub mod FixedPlaces
+pub mod FixedNodes
+pub mod Lemmas
