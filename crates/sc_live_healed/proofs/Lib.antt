@@ -7,3 +7,5 @@ pub mod FixedParts
 pub mod FixedPlaces
 pub mod FixedNodes
 pub mod Lemmas
+pub mod FixedBirths
+pub mod FixedClients
