@@ -6,14 +6,15 @@ use Rattle.std.proofs.lemmas.Bool.{cond_both, cond-true, and_parts, eq-eqb, or_l
 use Rattle.std.specs.List.{list_any}
 use Rattle.sc_words.proofs.PaxosProofs.Lemmas.{Each-from}
 use Rattle.sc_node_table.specs.Definitions.{at_slot, ended, left_gone, left, is_among, looked_for, looked, executed_one, next_child, has_room, next_ready, ending, executed_ready, all_ready, executed, turned_down, answered, Found, is_act, from_backlog, from_acts, from_queues, found_by, found_for, offered, pumped_from, pumped, ReplicaState, Place, Executed, next, members, settled, may_offer, first_set, childless, taken_at, under_way, is_idle, last_slot, next_queued, slots_ahead}
-use Rattle.sc_node_table.specs.Values.{Ballot, Command, Base, Core, Route, AnswerBody, Mail, Must, Gap}
+use Rattle.sc_node_table.specs.Values.{Ballot, Command, Noop, Call, Base, Core, Route, AnswerBody, Mail, Must, Gap}
 use Rattle.sc_words.specs.declared.paxos.answers.Must.TheVariants.{Value, Free as Open}
 use Rattle.sc_group_table.specs.machine.Definitions.{child_by}
 use Rattle.sc_words.specs.paxos.Definitions.{must}
 use Rattle.sc_law_walks.proofs.Lemmas.{next_found, either_way, entered_place}
 use Rattle.sc_law_walks.specs.Definitions.{IfThere}
 use Rattle.sc_live_healed.proofs.FixedWalks.{FixedWalk, IsFixedPlace, IsMember, IsFresh}
-use Rattle.sc_live_healed.specs.Definitions.{IsFollower}
+use Rattle.sc_live_healed.proofs.FixedParts.{ready_fixed}
+use Rattle.sc_live_healed.specs.Definitions.{IsFixedCommand, IsFollower}
 
 -- one of two, where the test fails
 none_there : {X : Type 0} (o : Option X) → is_some o ≡ false → o ≡ None
@@ -28,6 +29,13 @@ ready_so r command e = by r.running (has_room r) refl e
     by true true t e2 = (t, e2)
     by true false t e2 = cc
     by false c f e2 = cc
+
+-- a request or a Noop makes no child
+no_children : (base : Base) (command : Command) (r : ReplicaState) (rest : List Base) → IsFixedCommand base command → rest ≡ [] → next_child command r ++ rest ≡ []
+no_children base Noop r rest f e = e
+no_children base (Call client seq op) r rest f e = e
+no_children base _ r rest (inl f) e = absurd f
+no_children base _ r rest (inr g) e = absurd (cc)
 
 -- each of these nodes is one of them
 pub member_of : (nodes : List ℕ) (node : ℕ) → Among node nodes → is_member nodes node ≡ true
@@ -173,24 +181,28 @@ module _ (base : Base) (me : ℕ) (w : FixedWalk base me) where
   entry_goes : (counted : Bool) (command : Command) (place : Place) → P (entered_place counted command place) → P (executed_one counted command place)
   entry_goes counted command place k = subst P (sym (entry_is_all counted command place k)) k
 
-  abbrev After : Executed → Type 0
-  After step = P step.0
+  -- no child is made
+  abbrev pub After : Executed → Type 0
+  After step = P step.0 × (step.1 ≡ [])
 
-  ready_by : (es : List (ℕ × Command)) (place : Place) (o : Option Command) → next_ready place.0 ≡ o → P place → ((p : Place) → P p → P (executed_ready es p).0)
+  ready_by : (es : List (ℕ × Command)) (place : Place) (o : Option Command) → next_ready place.0 ≡ o → P place → ((p : Place) → P p → After (executed_ready es p))
       → After (elim o [ None ↦ childless place | Some command ↦ ending (next_child command place.0) (executed_ready es (executed_one true command place)) ])
-  ready_by es place None e k more = k
+  ready_by es place None e k more = (k, refl)
   ready_by es (r, mails) (Some command) e k more =
       let so = ready_so r command e in
-      pumps (executed_ready es (executed_one true command (r, mails))).0 (more (executed_one true command (r, mails)) (entry_goes true command (r, mails) (w.counted_entry command r mails so.0 so.1 k)))
+      let after = executed_ready es (executed_one true command (r, mails)) in
+      let rest : After after = more (executed_one true command (r, mails)) (entry_goes true command (r, mails) (w.counted_entry command r mails so.0 so.1 k)) in
+      (pumps after.0 rest.0, no_children base command r after.1 (ready_fixed base r.ready (next r) command so.1 (w.frame (r, mails) k).fixed.ready) rest.1)
 
-  ready_executed : (es : List (ℕ × Command)) (place : Place) → P place → P (executed_ready es place).0
+  ready_executed : (es : List (ℕ × Command)) (place : Place) → P place → After (executed_ready es place)
   unfolding executed_ready
-  ready_executed [] place k = k
+  ready_executed [] place k = (k, refl)
   ready_executed (e ∷ es) place k = ready_by es place (next_ready place.0) refl k (λ p q. ready_executed es p q)
 
   -- .. and what was ready after it
-  pub execution : (counted : Bool) (command : Command) (place : Place) → P (entered_place counted command place) → P (executed counted command place).0
+  pub execution : (counted : Bool) (command : Command) (place : Place) → IsFixedCommand base command → P (entered_place counted command place) → After (executed counted command place)
   unfolding executed
-  execution counted command place k =
+  execution counted command place f k =
       let after : Place = executed_one counted command place in
-      pumps (all_ready after).0 (ready_executed after.0.ready after (entry_goes counted command place k))
+      let rest : After (all_ready after) = ready_executed after.0.ready after (entry_goes counted command place k) in
+      (pumps (all_ready after).0 rest.0, no_children base command place.0 (all_ready after).1 f rest.1)

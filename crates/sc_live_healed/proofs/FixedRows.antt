@@ -16,8 +16,9 @@ use Rattle.sc_law_walks.proofs.Talks.{all_sent, others_sent}
 use Rattle.sc_law_walks.proofs.Lemmas.{either_way}
 use Rattle.sc_law_walks.specs.Definitions.{GoesOn}
 use Rattle.sc_live_healed.proofs.FixedWalks.{FixedWalk, IsFixedPlace, IsMember, IsFresh}
+use Rattle.sc_live_healed.proofs.FixedParts.{counted_fixed}
 use Rattle.sc_live_healed.proofs.FixedPumps.{OfMembers, open_members, pumps, execution, not_gone, is_still_member, set_members}
-use Rattle.sc_live_healed.specs.Definitions.{IsFixedBody, IsFixedBase}
+use Rattle.sc_live_healed.specs.Definitions.{IsFixedCommand}
 
 -- a ballot that is seen is no later than the greatest
 pub seen_top : (ballot : Ballot) (place : Place) → IsAtLeast (saw ballot place).0.top ballot
@@ -71,9 +72,9 @@ module _ (base : Base) (me : ℕ) (w : FixedWalk base me) where
   abbrev P : Place → Type 0
   P place = w.P place
 
-  -- what a row leaves, beside the children that it makes
+  -- what a row leaves: no child is made
   abbrev pub After : Executed → Type 0
-  After step = P step.0
+  After step = P step.0 × (step.1 ≡ [])
 
   abbrev Hears : ℕ → MailBody → Type 0
   Hears from body = w.Hears from body
@@ -150,28 +151,28 @@ module _ (base : Base) (me : ℕ) (w : FixedWalk base me) where
       let after : Place = (record r { leader = (promise_counted from ballot reports r.leader).1 }, mails) in
       cond_both (leads ballot r) (pumped after) (r, mails) P (λ t. pumps base me w after (w.polled from group ballot reports r mails (leads_on ballot r t) h k)) (λ _. k)
 
-  readies : (slot : ℕ) (command : Command) (place : Place) → place.0.running ≡ true → P (record place.0 { ready = with_slot place.0.ready slot command }, place.1) → After (readied slot command place)
+  readies : (slot : ℕ) (command : Command) (place : Place) → place.0.running ≡ true → IsFixedCommand base command → P (record place.0 { ready = with_slot place.0.ready slot command }, place.1) → After (readied slot command place)
   unfolding readied
-  readies slot command (r, mails) on k =
+  readies slot command (r, mails) on f k =
       let after : ReplicaState = record r { ready = with_slot r.ready slot command } in
       cond_both (eqb slot (next r) && has_room r) (executed true command (after, mails)) (childless (after, mails)) After
       (λ t. (let same = eqb-true slot (next r) (and_parts (eqb slot (next r)) (has_room r) t).0 in
-      execution base me w true command (after, mails) (w.counted_entry command after mails on (subst (λ s. at_slot (with_slot r.ready slot command) s ≡ Some command) same (put_there r.ready slot command)) k))) (λ _. k)
+      execution base me w true command (after, mails) f (w.counted_entry command after mails on (subst (λ s. at_slot (with_slot r.ready slot command) s ≡ Some command) same (put_there r.ready slot command)) k))) (λ _. (k, refl))
 
-  tallies : (slot : ℕ) (p : Counted Command × LeaderState Command) (place : Place) → place.0.running ≡ true → ((command : Command) → p.0 ≡ Chosen command → P (record place.0 { leader = p.1; ready = with_slot place.0.ready slot command }, place.1))
+  tallies : (slot : ℕ) (p : Counted Command × LeaderState Command) (place : Place) → place.0.running ≡ true → ((command : Command) → p.0 ≡ Chosen command → IsFixedCommand base command × P (record place.0 { leader = p.1; ready = with_slot place.0.ready slot command }, place.1))
       → ((count : ℕ) → p.0 ≡ NotYet count → P (record place.0 { leader = p.1 }, place.1)) → After (vote_tallied slot p place)
-  tallies slot (Chosen command, leader) (r, mails) on decides counts = readies slot command (record r { leader = leader }, mails) on (decides command refl)
-  tallies slot (NotYet count, leader) (r, mails) on decides counts = counts count refl
+  tallies slot (Chosen command, leader) (r, mails) on decides counts = (let so = decides command refl in readies slot command (record r { leader = leader }, mails) on so.0 so.1)
+  tallies slot (NotYet count, leader) (r, mails) on decides counts = (counts count refl, refl)
 
   votes_by : (from : ℕ) (group : Draw) (ballot : Ballot) (slot : ℕ) (set : Option (List ℕ)) (place : Place) → place.0.running ≡ true → Hears from (Accepted group ballot slot) → P place → After (voted from ballot slot set place)
-  votes_by from group ballot slot None place on h k = k
+  votes_by from group ballot slot None place on h k = (k, refl)
   votes_by from group ballot slot (Some set) (r, mails) on h k =
-      tallies slot (counted from ballot slot set r.leader) (r, mails) on (λ command e. w.chosen from group ballot slot set command r mails on h e k) (λ count e. w.counts from group ballot slot set count r mails on h e k)
+      tallies slot (counted from ballot slot set r.leader) (r, mails) on (λ command e. ((counted_fixed base from ballot slot set r.leader (w.frame (r, mails) k).fixed.flights).chosen command e, w.chosen from group ballot slot set command r mails on h e k)) (λ count e. w.counts from group ballot slot set count r mails on h e k)
 
   votes_count : (from : ℕ) (group : Draw) (ballot : Ballot) (slot : ℕ) (place : Place) → Hears from (Accepted group ballot slot) → P place → After (accepted_row from ballot slot place)
   unfolding accepted_row
   votes_count from group ballot slot (r, mails) h k =
-      cond_both (leads ballot r) (voted from ballot slot (set_at slot r) (r, mails)) (childless (r, mails)) After (λ t. votes_by from group ballot slot (set_at slot r) (r, mails) (leads_on ballot r t) h k) (λ _. k)
+      cond_both (leads ballot r) (voted from ballot slot (set_at slot r) (r, mails)) (childless (r, mails)) After (λ t. votes_by from group ballot slot (set_at slot r) (r, mails) (leads_on ballot r t) h k) (λ _. (k, refl))
 
   nacks : (from : ℕ) (group : Draw) (ballot : Ballot) (place : Place) → Hears from (Nack group ballot) → P place → P (nack_row ballot place)
   unfolding nack_row
@@ -182,11 +183,11 @@ module _ (base : Base) (me : ℕ) (w : FixedWalk base me) where
   learns : (from : ℕ) (group : Draw) (slot : ℕ) (command : Command) (place : Place) → Hears from (Learn group slot command) → w.First place.0 → P place → After (learn_row from slot command place)
   unfolding learn_row
   learns from group slot command (r, mails) h first k =
-      either_way After (nat_lt last_slot slot) (childless (r, mails)) _ k
+      either_way After (nat_lt last_slot slot) (childless (r, mails)) _ (k, refl)
       (cond_both (eqb slot (next r)) (executed false command (r, mails)) _ After
-      (λ t. execution base me w false command (r, mails) (w.learnt_entry from group command r mails (subst (λ s. Hears from (Learn group s command)) (eqb-true slot (next r) t) h) first k))
+      (λ t. execution base me w false command (r, mails) (w.heard from (Learn group slot command) h).2 (w.learnt_entry from group command r mails (subst (λ s. Hears from (Learn group s command)) (eqb-true slot (next r) t) h) first k))
       (λ _. cond_both (nat_lt (next r) slot) (childless (r, sent r.me from (Ask (name_of r) (next r)) mails)) (childless (r, mails)) After
-      (λ t. w.wants from slot r mails (w.heard from (Learn group slot command) h).1.0 (ltb-true (next r) slot t) k) (λ _. k)))
+      (λ t. (w.wants from slot r mails (w.heard from (Learn group slot command) h).1.0 (ltb-true (next r) slot t) k, refl)) (λ _. (k, refl))))
 
   module _ (from : ℕ) (m : IsMember base from) where
     teaches_by : (count : ℕ) (r : ReplicaState) (slot : ℕ) (mails : List Mail) (o : Option Command) → entry_at slot r.log ≡ o → P (r, mails) → ((more : List Mail) → P (r, more) → P (r, taught count r from (slot + 1) more))
@@ -238,16 +239,16 @@ module _ (base : Base) (me : ℕ) (w : FixedWalk base me) where
 
   pub takes_mail : (from : ℕ) (body : MailBody) (place : Place) → Hears from body → w.First place.0 → P place → After (mailed from body place)
   unfolding mailed
-  takes_mail from (Request group client seq op) place h first k = requests from group client seq op place h k
-  takes_mail from (Prepare group ballot from_slot) place h first k = prepares from group ballot from_slot place h k
-  takes_mail from (Promise group ballot reports) place h first k = polls_pump from group ballot reports place h k
-  takes_mail from (Accept group ballot slot command) place h first k = accepts from group ballot slot command place h k
+  takes_mail from (Request group client seq op) place h first k = (requests from group client seq op place h k, refl)
+  takes_mail from (Prepare group ballot from_slot) place h first k = (prepares from group ballot from_slot place h k, refl)
+  takes_mail from (Promise group ballot reports) place h first k = (polls_pump from group ballot reports place h k, refl)
+  takes_mail from (Accept group ballot slot command) place h first k = (accepts from group ballot slot command place h k, refl)
   takes_mail from (Accepted group ballot slot) place h first k = votes_count from group ballot slot place h k
-  takes_mail from (Nack group ballot) place h first k = nacks from group ballot place h k
+  takes_mail from (Nack group ballot) place h first k = (nacks from group ballot place h k, refl)
   takes_mail from (Learn group slot command) place h first k = learns from group slot command place h first k
-  takes_mail from (Ask group from_slot) place h first k = answers_ask from group from_slot place h k
-  takes_mail from (Install group slot sent sets) place h first k = installs from group slot sent sets place h k
-  takes_mail from (Answer group seq answer) place h first k = k
+  takes_mail from (Ask group from_slot) place h first k = (answers_ask from group from_slot place h k, refl)
+  takes_mail from (Install group slot sent sets) place h first k = (installs from group slot sent sets place h k, refl)
+  takes_mail from (Answer group seq answer) place h first k = (k, refl)
   takes_mail from (TxPrepare tx offer) place h first k = absurd (w.heard from (TxPrepare tx offer) h)
   takes_mail from (TxVote tx coord part vote) place h first k = absurd (w.heard from (TxVote tx coord part vote) h)
   takes_mail from (TxOutcome tx part outcome) place h first k = absurd (w.heard from (TxOutcome tx part outcome) h)

@@ -3,7 +3,13 @@ pub mod FixedPumps
 pub mod FixedRows
 pub mod FixedTicks
 pub mod FixedEntries
+pub mod FixedParts
+pub mod FixedPlaces
+pub mod FixedNodes
+pub mod FixedBirths
+pub mod FixedClients
 pub mod AskingClients
 pub mod AskingClientRows
 pub mod TakenRequests
 pub mod ApartSlots
+pub mod Lemmas
