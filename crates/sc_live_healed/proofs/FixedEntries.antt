@@ -29,11 +29,11 @@ none_passes : {X : Type 0} (p : X → Bool) (xs : List X) → Each (λ x. p x �
 none_passes p [] e = refl
 none_passes p (x ∷ xs) e = cond-false (p x) (x ∷ filter p xs) (filter p xs) e.0 ∙ none_passes p xs e.1
 
-none_new : (nodes : List ℕ) → filter (λ node. not (is_member nodes node)) nodes ≡ []
+pub none_new : (nodes : List ℕ) → filter (λ node. not (is_member nodes node)) nodes ≡ []
 none_new nodes = none_passes (λ node. not (is_member nodes node)) nodes (Each-from (λ node. not (is_member nodes node) ≡ false) nodes (λ node a. ap not (member_of nodes node a)))
 
 -- of a request or a Noop nothing is reported to the desk
-no_result : (base : Base) (command : Command) (effect : Effect) → IsFixedCommand base command → order_result command effect ≡ None
+pub no_result : (base : Base) (command : Command) (effect : Effect) → IsFixedCommand base command → order_result command effect ≡ None
 no_result base Noop effect f = refl
 no_result base (Call client seq op) effect f = refl
 no_result base command effect (inr e) = subst (λ (c : Command). order_result c effect ≡ None) (sym e) refl
@@ -44,7 +44,7 @@ no_result base command effect (inl f) = elim_request base command effect f
     elim_request base _ effect f = absurd f
 
 -- and nothing is said to others
-no_speech : (base : Base) (counted : Bool) (me : ℕ) (group before : Group) (effect : Effect) (command : Command) (mails : List Mail) → IsFixedCommand base command → spoken_mails counted me group (before_of before.core) effect command mails ≡ mails
+pub no_speech : (base : Base) (counted : Bool) (me : ℕ) (group before : Group) (effect : Effect) (command : Command) (mails : List Mail) → IsFixedCommand base command → spoken_mails counted me group (before_of before.core) effect command mails ≡ mails
 unfolding spoken_mails begun_reported went_on
 no_speech base counted me group before effect Noop mails f = either_way (λ (ms : List Mail). ms ≡ mails) counted mails mails refl refl
 no_speech base counted me group before effect (Call client seq op) mails f = either_way (λ (ms : List Mail). ms ≡ mails) counted mails mails refl refl

@@ -12,4 +12,7 @@ pub mod AskingClients
 pub mod AskingClientRows
 pub mod TakenRequests
 pub mod ApartSlots
+pub mod EnteredPlaces
+pub mod HeldRequests
+pub mod HeldRequestRows
 pub mod Lemmas

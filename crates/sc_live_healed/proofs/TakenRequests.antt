@@ -72,7 +72,7 @@ module _ (client seq : ℕ) where
 
   -- ---- what is found at the slots
 
-  flight_found : (fs : List (Flight Command)) (f : Flight Command) → Among f fs → flights_at f.slot fs ≤ 1 → flight_at f.slot fs ≡ Some f
+  pub flight_found : (fs : List (Flight Command)) (f : Flight Command) → Among f fs → flights_at f.slot fs ≤ 1 → flight_at f.slot fs ≡ Some f
   flight_found [] f a most = absurd a
   flight_found (x ∷ fs) f (inl is) most =
       cond-true (eqb x.slot f.slot) (Some x) (flight_at f.slot fs) (eq-eqb x.slot f.slot (ap (λ (y : Flight Command). y.slot) is)) ∙ ap Some is
@@ -177,7 +177,7 @@ module _ (client seq : ℕ) where
   -- ---- queues
 
   -- a request of the client that is queued has the number that is found, where no other is
-  without_ours : (who : ℕ) (backlog : List Command) (command : Command) → Among command backlog → IsOurs command → (client ≡ who → queued_number backlog who ≡ Some seq → ⊥) → Among command (without_request backlog who)
+  pub without_ours : (who : ℕ) (backlog : List Command) (command : Command) → Among command backlog → IsOurs command → (client ≡ who → queued_number backlog who ≡ Some seq → ⊥) → Among command (without_request backlog who)
   without_ours who [] command a ours other = absurd a
   without_ours who (c ∷ backlog) command (inl same) ours other =
       let our_c : IsOurs c = subst IsOurs (sym same) ours in
