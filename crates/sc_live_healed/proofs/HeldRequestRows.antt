@@ -1,11 +1,11 @@
 -- The walk of a request that a leader holds: each row of mail leaves it held, or its client answered.
-use Rattle.std.proofs.Common.{◌≡◌, ℕ, ◌+◌, ◌-◌, ◌<◌, ◌≤◌, eqb, ltb, nat_le, Bool, true, false, true≢false, cond, List, [], ◌∷◌, ◌++◌, length, Option, Some, None, ◌⊎◌, inl, inr, refl, sym, ◌∙◌, ap, subst, arith}
+use Rattle.std.proofs.Common.{◌≡◌, ℕ, ◌+◌, ◌-◌, ◌<◌, ◌≤◌, eqb, ltb, nat_le, ◌&&◌, not, Bool, true, false, true≢false, cond, List, [], ◌∷◌, ◌++◌, length, Option, Some, None, ◌⊎◌, inl, inr, refl, sym, ◌∙◌, ap, subst, arith}
 use Rattle.std.proofs.lemmas.Bool.{cond_both, cases_Bool, leb-false, both_ways}
 use Rattle.sc_base.specs.Definitions.{Among, Each, same_ballot, is_member, client_actor}
 use Rattle.sc_node_table.specs.Values.{Ballot, Draw, Base, Core, Op, Reply, Command, Noop, Call, AnswerBody, Value, NotLeader, Mail, MailBody, Request, Answer, Prepare, Promise, Accept, Accepted, Nack, Learn, Ask, Install, Flight, Report}
 use Rattle.sc_group_table.specs.machine.Definitions.{Group, applied}
-use Rattle.sc_words.specs.paxos.Definitions.{LeaderState, with_flight_at, without_flight, promise_counted, counted, below}
-use Rattle.sc_node_table.specs.Definitions.{ReplicaState, Place, next, taken_at, sent, sent_all, ended, at_slot, without_slot, stopped, offered, entered, answer_of, answered_or_put_back, put_back, landed, hinted, forgotten, request_before, queued_number, slots_ahead}
+use Rattle.sc_words.specs.paxos.Definitions.{LeaderState, with_flight_at, without_flight, promise_counted, counted, below, with_voters, after_promise, after_accept}
+use Rattle.sc_node_table.specs.Definitions.{ReplicaState, Place, next, jumped, with_slot, without_request, taken_at, sent, sent_all, ended, at_slot, without_slot, stopped, offered, entered, answer_of, answered_or_put_back, put_back, landed, hinted, forgotten, request_before, queued_number, slots_ahead}
 use Rattle.sc_law_walks.proofs.Queues.{turned_sets}
 use Rattle.sc_law_walks.proofs.Lemmas.{either_way, back_any, entered_next, cleared, entered_place}
 use Rattle.sc_words.proofs.PaxosProofs.Lemmas.{Each-among}
@@ -72,7 +72,7 @@ module _ (base : Base) (me client seq : ℕ) (Elsewhere : Type 0) (f : FixedWalk
   Learns (Learn group slot command) = Elsewhere ⊎ (is_call client seq command ≡ false)
   Learns _ = Unit {0}
 
-  name_is : (place : Place) → f.P place → place.0.group.core.id ≡ base.core.id
+  pub name_is : (place : Place) → f.P place → place.0.group.core.id ≡ base.core.id
   name_is place k = ap (λ (core : Core). core.id) (f.frame place k).fixed.group
 
   -- as many slots are open
@@ -184,7 +184,7 @@ module _ (base : Base) (me client seq : ℕ) (Elsewhere : Type 0) (f : FixedWalk
     counts_entry = by (is_call client seq command) refl
 
   -- a learnt entry: another command
-  learns_entry : (from : ℕ) (group : Draw) (command : Command) (r : ReplicaState) (mails : List Mail) → f.Hears from (Learn group (next r) command) → Learns (Learn group (next r) command) → f.First r → (r.running ≡ true → at_slot r.ready (next r) ≡ None) → P (r, mails) → M (entered_place false command (r, mails))
+  pub learns_entry : (from : ℕ) (group : Draw) (command : Command) (r : ReplicaState) (mails : List Mail) → f.Hears from (Learn group (next r) command) → Learns (Learn group (next r) command) → f.First r → (r.running ≡ true → at_slot r.ready (next r) ≡ None) → P (r, mails) → M (entered_place false command (r, mails))
   learns_entry from group command r mails h l first unready k =
       let fixed : IsFixedCommand base command = (f.heard from (Learn group (next r) command) h).2 in
       let after : Place = landed false (next r) command (entered command r, mails) in
@@ -219,21 +219,21 @@ module _ (base : Base) (me client seq : ℕ) (Elsewhere : Type 0) (f : FixedWalk
   same_held r after backlog flights ready (Ready e a ours) = Ready e (subst (λ (es : List (ℕ × Command)). Among e es) (sym ready) a) ours
 
   -- what changes neither
-  unchanged : (r after : ReplicaState) (mails more : List Mail) → after.backlog ≡ r.backlog → after.leader.flights ≡ r.leader.flights → after.ready ≡ r.ready → next after ≡ next r → length after.sets ≡ length r.sets → (r.running ≡ true → after.running ≡ true)
+  pub unchanged : (r after : ReplicaState) (mails more : List Mail) → after.backlog ≡ r.backlog → after.leader.flights ≡ r.leader.flights → after.ready ≡ r.ready → next after ≡ next r → length after.sets ≡ length r.sets → (r.running ≡ true → after.running ≡ true)
       → ((mail : Mail) → Among mail mails → Among mail more) → M (r, mails) → M (after, more)
   unchanged r after mails more backlog flights ready at_next many runs grow m =
       (same_apart r after flights ready at_next many m.0, held_on base me client seq Elsewhere r after mails more runs (λ _ h. same_held r after backlog flights ready h) grow m.1)
 
   -- one mail more
-  pushed : (r : ReplicaState) (mails : List Mail) (to : ℕ) (body : MailBody) → M (r, mails) → M (r, sent r.me to body mails)
+  pub pushed : (r : ReplicaState) (mails : List Mail) (to : ℕ) (body : MailBody) → M (r, mails) → M (r, sent r.me to body mails)
   pushed r mails to body m = (m.0, held_push base me client seq Elsewhere r mails to body m.1)
 
-  offers_more : (slot : ℕ) (set : List ℕ) (command : Command) (r : ReplicaState) (mails : List Mail) → next r ≤ slot → slot < next r + length r.sets → taken_at r slot ≡ None → M (r, mails) → M (offered slot set command (r, mails))
+  pub offers_more : (slot : ℕ) (set : List ℕ) (command : Command) (r : ReplicaState) (mails : List Mail) → next r ≤ slot → slot < next r + length r.sets → taken_at r slot ≡ None → M (r, mails) → M (offered slot set command (r, mails))
   unfolding offered
   offers_more slot set command r mails low near none m =
       (apart_flown slot command r none low near m.0, held_offers base me client seq Elsewhere slot set command r mails (flown_held client seq slot command r) m.1)
 
-  offers_head : (slot : ℕ) (set : List ℕ) (command : Command) (backlog : List Command) (r : ReplicaState) (mails : List Mail) → next r ≤ slot → slot < next r + length r.sets → taken_at r slot ≡ None → r.backlog ≡ command ∷ backlog → M (r, mails) → M (offered slot set command (record r { backlog = backlog }, mails))
+  pub offers_head : (slot : ℕ) (set : List ℕ) (command : Command) (backlog : List Command) (r : ReplicaState) (mails : List Mail) → next r ≤ slot → slot < next r + length r.sets → taken_at r slot ≡ None → r.backlog ≡ command ∷ backlog → M (r, mails) → M (offered slot set command (record r { backlog = backlog }, mails))
   unfolding offered
   offers_head slot set command backlog r mails low near none e m = (
     apart_flown slot command (record r { backlog = backlog }) none low near (record { once = m.0.once; open_ = m.0.open_ }),
@@ -241,13 +241,133 @@ module _ (base : Base) (me client seq : ℕ) (Elsewhere : Type 0) (f : FixedWalk
     (λ mail a. all_kept r.me (Accept r.group.core.id r.leader.ballot slot command) set mails mail a) m.1,
   )
 
-  stops_so : (hint : ℕ) (r : ReplicaState) (mails : List Mail) → f.P (r, mails) → M (r, mails) → M (stopped (Some hint) (r, mails))
+  pub stops_so : (hint : ℕ) (r : ReplicaState) (mails : List Mail) → r.me ≡ me → r.group.core.id ≡ base.core.id → M (r, mails) → M (stopped (Some hint) (r, mails))
   unfolding ended
-  stops_so hint r mails k m = (
+  stops_so hint r mails mine named m = (
     record { once = λ s. omega arith; open_ = λ s some. absurd (omega (arith, some)) },
-    held_stops base me client seq Elsewhere hint r mails (f.frame (r, mails) k).me_is (name_is (r, mails) k) m.0 m.1,
+    held_stops base me client seq Elsewhere hint r mails mine named m.0 m.1,
   )
 
-  hinted_same : (ballot : Ballot) (r after : ReplicaState) (mails more : List Mail) → ((x : ReplicaState) → M (r, mails) → (x.backlog ≡ r.backlog) × (x.leader.flights ≡ r.leader.flights) × (x.ready ≡ r.ready) × (next x ≡ next r) × (length x.sets ≡ length r.sets) × (r.running ≡ true → x.running ≡ true) → M (x, more)) → after.backlog ≡ r.backlog → after.leader.flights ≡ r.leader.flights → after.ready ≡ r.ready → next after ≡ next r → length after.sets ≡ length r.sets → (r.running ≡ true → after.running ≡ true) → M (r, mails) → M (hinted ballot after, more)
-  hinted_same ballot r after mails more same backlog flights ready at_next many runs m =
-      cond_both after.running after (record after { hint = Some ballot.node }) (λ (x : ReplicaState). M (x, more)) (λ _. same after m (backlog, flights, ready, at_next, many, runs)) (λ _. same (record after { hint = Some ballot.node }) m (backlog, flights, ready, at_next, many, runs))
+  -- who does not run has nothing at any slot
+  rests_apart : (r after : ReplicaState) → r.leader.flights ≡ [] → r.ready ≡ [] → after.leader.flights ≡ r.leader.flights → after.ready ≡ r.ready → AreApart after
+  rests_apart r after flights ready same_flights same_ready = record {
+    once = λ s. (let a = ap (λ fs. flights_at s fs) (same_flights ∙ flights) in let b = ap (λ (es : List (ℕ × Command)). entries_at s es) (same_ready ∙ ready) in omega (arith, a, b));
+    open_ = λ s some. (let a = ap (λ fs. flights_at s fs) (same_flights ∙ flights) in let b = ap (λ (es : List (ℕ × Command)). entries_at s es) (same_ready ∙ ready) in absurd (omega (arith, some, a, b)));
+  }
+
+  jumps_parts : (slot : ℕ) (sent_ : Base) (sets : List (List ℕ)) (r : ReplicaState) → ((jumped slot sent_ sets r).leader ≡ r.leader) × ((jumped slot sent_ sets r).ready ≡ r.ready) × ((jumped slot sent_ sets r).running ≡ r.running)
+  unfolding jumped forgotten
+  jumps_parts slot sent_ sets r = (refl, refl, refl)
+
+  pub jumps_so : (from slot : ℕ) (sent_ : Base) (sets : List (List ℕ)) (r : ReplicaState) (mails : List Mail) → r.running ≡ false → f.P (r, mails) → M (r, mails) → M (record (jumped slot sent_ sets r) { hint = Some from }, mails)
+  jumps_so from slot sent_ sets r mails off k m =
+      let rests = (f.frame (r, mails) k).ballots.stopped off in
+      let parts = jumps_parts slot sent_ sets r in (
+        rests_apart r (record (jumped slot sent_ sets r) { hint = Some from }) rests.flights rests.ready (ap (λ (l : LeaderState Command). l.flights) parts.0) parts.1,
+        held_on base me client seq Elsewhere r (record (jumped slot sent_ sets r) { hint = Some from }) mails mails (λ on. absurd (true≢false (sym on ∙ off))) (λ on h. absurd (true≢false (sym on ∙ off))) (λ mail a. a) m.1,
+      )
+
+  -- a promise is counted apart from the flights
+  pub polled_same : (from : ℕ) (ballot : Ballot) (reports : List (Report Command)) (l : LeaderState Command) → (promise_counted from ballot reports l).1.flights ≡ l.flights
+  polled_same from ballot reports l = either_way (λ (x : Bool × LeaderState Command). x.1.flights ≡ l.flights) (same_ballot ballot l.ballot && not (is_member l.promisers from)) _ _ refl refl
+
+  -- the head of the queue is a request of the group
+  pub head_request : (command : Command) (backlog : List Command) (r : ReplicaState) (mails : List Mail) → r.backlog ≡ command ∷ backlog → f.P (r, mails) → IsFixedRequest base command
+  head_request command backlog r mails e k = (subst (Each (IsFixedRequest base)) e (f.frame (r, mails) k).fixed.backlog).0
+
+  -- who does not run follows the node of a ballot
+  pub hinted_same : (ballot : Ballot) (r after : ReplicaState) (mails more : List Mail) → after.backlog ≡ r.backlog → after.leader.flights ≡ r.leader.flights → after.ready ≡ r.ready → next after ≡ next r → length after.sets ≡ length r.sets → (r.running ≡ true → after.running ≡ true)
+      → ((mail : Mail) → Among mail mails → Among mail more) → M (r, mails) → M (hinted ballot after, more)
+  hinted_same ballot r after mails more backlog flights ready at_next many runs grow m =
+      cond_both after.running after (record after { hint = Some ballot.node }) (λ (x : ReplicaState). M (x, more)) (λ _. unchanged r after mails more backlog flights ready at_next many runs grow m) (λ _. unchanged r (record after { hint = Some ballot.node }) mails more backlog flights ready at_next many runs grow m)
+
+  -- a request that is queued last, and one that takes the place of an earlier one of its client
+  pub queued_last : (c s : ℕ) (op : Op) (r : ReplicaState) (mails : List Mail) → M (r, mails) → M (record r { backlog = r.backlog ++ Call c s op ∷ [] }, mails)
+  queued_last c s op r mails m = (
+    record { once = m.0.once; open_ = m.0.open_ },
+    held_on base me client seq Elsewhere r (record r { backlog = r.backlog ++ Call c s op ∷ [] }) mails mails (λ on. on) (λ _ h. by h) (λ mail a. a) m.1,
+  )
+    where
+      by : IsHeld client seq r → IsHeld client seq (record r { backlog = r.backlog ++ Call c s op ∷ [] })
+      by (Queued command a ours) = Queued command (among_push r.backlog (Call c s op) command a) ours
+      by (Flying x a ours) = Flying x a ours
+      by (Ready e a ours) = Ready e a ours
+
+  pub queued_again : (c s other : ℕ) (op : Op) (r : ReplicaState) (mails : List Mail) → queued_number r.backlog c ≡ Some other → other < s → (c ≡ client → s ≤ seq) → M (r, mails) → M (record r { backlog = without_request r.backlog c ++ Call c s op ∷ [] }, mails)
+  queued_again c s other op r mails e up low m = (
+    record { once = m.0.once; open_ = m.0.open_ },
+    held_on base me client seq Elsewhere r (record r { backlog = without_request r.backlog c ++ Call c s op ∷ [] }) mails mails (λ on. on) (λ _ h. by h) (λ mail a. a) m.1,
+  )
+    where
+      one_number : {a b : ℕ} → Some a ≡ Some b → a ≡ b
+      one_number q = cc
+
+      by : IsHeld client seq r → IsHeld client seq (record r { backlog = without_request r.backlog c ++ Call c s op ∷ [] })
+      by (Queued command a ours) =
+          Queued command (among_push (without_request r.backlog c) (Call c s op) command (without_ours client seq c r.backlog command a ours (λ own q. (
+            let least = low (sym own) in
+            let same : other ≡ seq = one_number (sym e ∙ q) in
+            absurd (omega (arith, up, least, same)))))) ours
+      by (Flying x a ours) = Flying x a ours
+      by (Ready en a ours) = Ready en a ours
+
+  abbrev pub held_walk : FixedWalk base me
+  held_walk = record {
+    fresh = f.fresh;
+    First = λ r. f.First r × (r.running ≡ true → at_slot r.ready (next r) ≡ None);
+    P = λ place. P place;
+    Hears = λ from body. f.Hears from body × Learns body;
+    Sees = λ ballot. f.Sees ballot;
+    frame = λ place k. f.frame place k.0;
+    heard = λ from body h. f.heard from body h.0;
+    prepare_seen = λ from group ballot from_slot h. f.prepare_seen from group ballot from_slot h.0;
+    accept_seen = λ from group ballot slot command h. f.accept_seen from group ballot slot command h.0;
+    nack_seen = λ from group promised h. f.nack_seen from group promised h.0;
+    turned = λ command answer backlog r mails on e turn k. absurd (never_turned base me f.fresh command r.group.core answer (head_request command backlog r mails e k.0) (f.frame (r, mails) k.0).fixed.group turn);
+    offers_value = λ slot set command r mails on low near none e of k. (f.offers_value slot set command r mails on low near none e of k.0, offers_more slot set command r mails low near none k.1);
+    offers_noop = λ slot set r mails on low near none of k. (f.offers_noop slot set r mails on low near none of k.0, offers_more slot set Noop r mails low near none k.1);
+    offers_call = λ slot set command backlog r mails on low near none e of k. (f.offers_call slot set command backlog r mails on low near none e of k.0, offers_head slot set command backlog r mails low near none e k.1);
+    counted_entry = λ command r mails on e k. (f.counted_entry command r mails on e k.0, counts_entry command r mails on e k);
+    learnt_entry = λ from group command r mails h first k. (f.learnt_entry from group command r mails h.0 first.0 k.0, learns_entry from group command r mails h.0 h.1 first.0 first.1 k);
+    seen = λ ballot r mails sees up goes k. (f.seen ballot r mails sees up goes k.0, unchanged r (record r { top = ballot }) mails mails refl refl refl refl refl (λ on. on) (λ mail a. a) k.1);
+    overtaken = λ ballot r mails sees on low k. (
+      f.overtaken ballot r mails sees on low k.0,
+      (let mine = (f.frame (r, mails) k.0).me_is in let named = name_is (r, mails) k.0 in
+      cond_both (below r.top ballot) (record r { top = ballot }) r (λ (x : ReplicaState). M (stopped (Some ballot.node) (x, mails)))
+      (λ _. stops_so ballot.node (record r { top = ballot }) mails mine named (unchanged r (record r { top = ballot }) mails mails refl refl refl refl refl (λ on. on) (λ mail a. a) k.1)) (λ _. stops_so ballot.node r mails mine named k.1)),
+    );
+    polled = λ from group ballot reports r mails on h k. (
+      f.polled from group ballot reports r mails on h.0 k.0,
+      unchanged r (record r { leader = (promise_counted from ballot reports r.leader).1 }) mails mails refl (polled_same from ballot reports r.leader) refl refl refl (λ on. on) (λ mail a. a) k.1,
+    );
+    counts = λ from group ballot slot set count r mails on h e k. (
+      f.counts from group ballot slot set count r mails on h.0 e k.0,
+      counts_by (λ l. M (record r { leader = l }, mails)) from ballot slot set count r.leader e k.1
+      (λ voters. (apart_voted slot voters r k.1.0, held_on base me client seq Elsewhere r (record r { leader = record r.leader { flights = with_voters slot voters r.leader.flights } }) mails mails (λ on. on) (λ _ held. voted_held client seq slot voters r held) (λ mail a. a) k.1.1)),
+    );
+    chosen = λ from group ballot slot set command r mails on h e k. (
+      f.chosen from group ballot slot set command r mails on h.0 e k.0,
+      (let d = decides from ballot slot set command r.leader e in
+      (apart_decided slot command r (counted from ballot slot set r.leader).1 d k.1.0, held_on base me client seq Elsewhere r (record r { leader = (counted from ballot slot set r.leader).1; ready = with_slot r.ready slot command }) mails mails (λ on. on) (λ _ held. decided_held client seq slot command r (counted from ballot slot set r.leader).1 d k.1.0 held) (λ mail a. a) k.1.1)),
+    );
+    promised = λ from group ballot from_slot r mails h top goes may k. (
+      f.promised from group ballot from_slot r mails h.0 top goes may k.0,
+      hinted_same ballot r (record r { acceptor = after_promise ballot r.acceptor }) mails _ refl refl refl refl refl (λ on. on) (λ mail a. among_push mails _ mail a) k.1,
+    );
+    accepted = λ from group report r mails h top goes may k. (
+      f.accepted from group report r mails h.0 top goes may k.0,
+      hinted_same report.ballot r (record r { acceptor = after_accept report r.acceptor }) mails _ refl refl refl refl refl (λ on. on) (λ mail a. among_push mails _ mail a) k.1,
+    );
+    nacks = λ to r mails m k. (f.nacks to r mails m k.0, pushed r mails to _ k.1);
+    installs = λ to r mails m k. (f.installs to r mails m k.0, pushed r mails to _ k.1);
+    recalls = λ to slot command r mails m e k. (f.recalls to slot command r mails m e k.0, pushed r mails to _ k.1);
+    wants = λ to slot r mails m low k. (f.wants to slot r mails m low k.0, pushed r mails to _ k.1);
+    stops = λ from r mails m on k. (f.stops from r mails m on k.0, stops_so from r mails (f.frame (r, mails) k.0).me_is (name_is (r, mails) k.0) k.1);
+    jumps = λ from group slot sent_ sets r mails h later off k. (f.jumps from group slot sent_ sets r mails h.0 later off k.0, jumps_so from slot sent_ sets r mails off k.0 k.1);
+    refuses = λ c s op answer r mails e k. (f.refuses c s op answer r mails e k.0, pushed r mails (client_actor c) _ k.1);
+    requested = λ from group c s op r mails h e none k. (f.requested from group c s op r mails h.0 e none k.0, queued_last c s op r mails k.1);
+    requested_again = λ from group c s other op r mails h e some more k. (
+      f.requested_again from group c s other op r mails h.0 e some more k.0,
+      queued_again c s other op r mails some (let up = leb-false s other more in omega (arith, up)) (asked from group c s op h.0) k.1,
+    );
+  }
