@@ -9,3 +9,5 @@ pub mod FixedNodes
 pub mod Lemmas
 pub mod FixedBirths
 pub mod FixedClients
+pub mod FixedJournals
+pub mod UntoldRows
