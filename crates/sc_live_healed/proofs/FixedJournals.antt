@@ -1,17 +1,15 @@
 -- In each lawful journal without orders and policy every node keeps replicas of groups that are not reshaped, every client knows these groups alone, and every mail is of one of them.
-use Rattle.std.proofs.Common.{◌≡◌, ℕ, zero, suc, ◌+◌, ◌-◌, eqb, Bool, true, false, cond, List, [], ◌∷◌, ◌++◌, map, filter, find, Option, Some, None, refl, sym, ◌∙◌, ap, subst, inl, inr}
+use Rattle.std.proofs.Common.{◌≡◌, ℕ, zero, suc, eqb, true, false, cond, List, [], ◌∷◌, ◌++◌, map, filter, find, Option, Some, refl, sym, ◌∙◌, ap, subst, inl, inr}
 use Rattle.std.specs.Option.{option_map}
 use Rattle.std.proofs.lemmas.Bool.{cond_both, cond-true, eqb-true}
 use Rattle.sc_base.specs.Definitions.{Among, Each, is_member, same_draw}
 use Rattle.sc_base.proofs.Lemmas.{same_name}
-use Rattle.sc_node_table.specs.Values.{Draw, Seat, Row, Event, Deliver, Drop, Again, Crash, Input, Got, Base, OrderLine, Mail, Node, Client}
+use Rattle.sc_node_table.specs.Values.{Seat, Row, Event, Deliver, Drop, Again, Crash, Input, Got, Base, OrderLine, Mail, Node, Client}
 use Rattle.sc_actor.specs.declared.rows.Event.TheVariants.{Tick as TickEvent, Go as GoEvent, Told as ToldEvent}
 use Rattle.sc_actor.specs.declared.rows.Input.TheVariants.{Tick, Go, Told}
 use Rattle.sc_actor.specs.Definitions.{mails, numbered, acted, input_of, value, IsStep, IsOpen, IsLoose}
-use Rattle.sc_actor.proofs.Lemmas.{lawful-induction, lawful-prefix, value-snoc, mails-snoc, find-who}
-use Rattle.sc_client_table.specs.table.Definitions.{Client as ClientState, born_client}
-use Rattle.sc_client_table.specs.lookup.Definitions.{new_way}
-use Rattle.sc_node_table.specs.Definitions.{NodeState, ReplicaState, name_of, replica_of, born_node, born_replica, born_replicas, first_ballot, slots_ahead, numbers_from}
+use Rattle.sc_actor.proofs.Lemmas.{lawful-induction, value-snoc, mails-snoc}
+use Rattle.sc_node_table.specs.Definitions.{ReplicaState, replica_of, born_node, born_replica, born_replicas, first_ballot, slots_ahead, numbers_from}
 use Rattle.sc_words.proofs.PaxosProofs.Lemmas.{Each-among, Each-append, Each-from, find_found, at_least_itself}
 use Rattle.sc_scenario.specs.declared.scenario.scenarios.Scenario.{Scenario}
 use Rattle.sc_scenario.specs.declared.scenario.scenarios.Asks.{Asks as Requests}
@@ -23,7 +21,7 @@ use Rattle.sc_live_healed.proofs.FixedWalks.{IsMember}
 use Rattle.sc_live_healed.proofs.FixedNodes.{AreFresh, MayTake, IsOne, steps_fixed}
 use Rattle.sc_live_healed.proofs.FixedBirths.{groups_fresh}
 use Rattle.sc_live_healed.proofs.FixedClients.{client_fixed}
-use Rattle.sc_live_healed.specs.Definitions.{IsFixedReplica, KeepsBallots, IsFixedMail, IsFixedNode, IsFixedClient, KnowsFixed}
+use Rattle.sc_live_healed.specs.Definitions.{IsFixedMail, IsFixedNode, IsFixedClient}
 
 -- the rows of a journal
 abbrev pub Rows : Type 0

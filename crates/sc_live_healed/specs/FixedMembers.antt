@@ -1,7 +1,7 @@
 -- What holds of each replica and each mail in any journal without orders and policy: the members of each group are those of its birth, and nothing but requests is executed.
-use Rattle.std.specs.Prelude.{◌≡◌, ℕ, true, false, List, [], replicate, Option, Some, None, ◌⊎◌}
+use Rattle.std.specs.Prelude.{◌≡◌, ℕ, true, false, List, [], replicate, Some, None, ◌⊎◌}
 use Rattle.sc_base.specs.Definitions.{Among, Each, is_member}
-use Rattle.sc_node_table.specs.Values.{Draw, Ballot, Base, Command, Noop, Call, Join, Leave, Split, Begin, Prepared, RecordVote, GiveUp, Finish, Watched, RecordWatch, AnswerBody, Value, NotLeader, NotMine, Gone, Stale, Mail, MailBody, Request, Answer, Prepare, Promise, Accept, Accepted, Nack, Learn, Ask, Install, TxPrepare, TxVote, TxOutcome, TxElsewhere, TxWatch, TxWatched, Told, Report, Flight}
+use Rattle.sc_node_table.specs.Values.{Draw, Base, Command, Noop, Call, Join, Leave, Split, Begin, Prepared, RecordVote, GiveUp, Finish, Watched, RecordWatch, AnswerBody, Value, NotLeader, NotMine, Gone, Stale, Mail, MailBody, Request, Answer, Prepare, Promise, Accept, Accepted, Nack, Learn, Ask, Install, TxPrepare, TxVote, TxOutcome, TxElsewhere, TxWatch, TxWatched, Told, Report, Flight}
 use Rattle.sc_words.specs.ideal.Definitions.{key_of, holds_key}
 use Rattle.sc_words.specs.paxos.Definitions.{IsAtLeast}
 use Rattle.sc_group_table.specs.machine.Definitions.{Group}
