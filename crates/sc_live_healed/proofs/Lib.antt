@@ -4,6 +4,7 @@ pub mod FixedRows
 pub mod FixedTicks
 pub mod FixedEntries
 pub mod FixedParts
+pub mod FixedChanges
 pub mod FixedPlaces
 pub mod FixedNodes
 pub mod Lemmas
