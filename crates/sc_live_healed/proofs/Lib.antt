@@ -13,3 +13,4 @@ pub mod FixedClients
 pub mod FixedJournals
 pub mod UntoldRows
 pub mod FixedBesides
+pub mod MovedReplicas
