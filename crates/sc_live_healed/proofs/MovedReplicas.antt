@@ -1,20 +1,22 @@
 -- What a row that is no tick changes of a replica of a group that is not reshaped: its greatest ballot rises, what it asks is within it, it promises nothing but what the mail brings, it begins to lead no ballot, and it loses no promise of its own ballot.
 use Rattle.std.proofs.Common.{◌≡◌, ℕ, ◌+◌, ◌-◌, ◌<◌, ◌≤◌, ◌/◌, ◌*◌, ◌&&◌, not, max, Bool, true, false, true≢false, cond, List, [], ◌∷◌, ◌++◌, drop, length, Option, Some, None, ◌⊎◌, inl, inr, refl, sym, ◌∙◌, ap, subst, arith}
 use Rattle.std.proofs.lemmas.Bool.{cond_both}
-use Rattle.sc_base.specs.Definitions.{Among, Each, same_ballot, is_majority, is_member, client_actor}
+use Rattle.sc_base.specs.Definitions.{Among, Each, Drawer, same_ballot, is_majority, is_member, client_actor}
 use Rattle.sc_words.proofs.PaxosProofs.Lemmas.{Each-append, Each-weaker, not_below_parts, below_parts}
 use Rattle.sc_paxos_law.proofs.Lemmas.{Among-left, among-member, member-among}
 use Rattle.sc_node_table.specs.Values.{Ballot, Draw, Op, Command, Noop, Call, Base, Core, AnswerBody, Counted, Mail, MailBody, Request, Answer, Prepare, Promise, Accept, Accepted, Nack, Learn, Ask, Install, Flight, TxPrepare, TxVote, TxOutcome, TxElsewhere, TxWatch, TxWatched, Told, Report}
 use Rattle.sc_group_table.specs.machine.Definitions.{base_of}
 use Rattle.sc_words.specs.paxos.Definitions.{IsAtLeast, AcceptorState, LeaderState, below, after_promise, after_accept, reports_from, kept_voters, voters_after, promise_counted, counted, vote_at, flight_at}
-use Rattle.sc_node_table.specs.Definitions.{ended, stopped, entered, forgotten, floor_of, jumped, offered, put_back, answered_all, sent, sent_all, under_way, hinted, mailed, ReplicaState, Place, name_of, next, slots_ahead}
+use Rattle.sc_node_table.specs.Definitions.{ended, stopped, entered, forgotten, floor_of, jumped, offered, put_back, answered_all, sent, sent_all, under_way, hinted, mailed, pumped, tick_row, open_nodes, ReplicaState, Place, name_of, next, slots_ahead}
 use Rattle.sc_law_walks.proofs.Talks.{all_sent, all_answered, all_dismissed, one_answered}
 use Rattle.sc_law_walks.proofs.Lemmas.{either_way, Talk, counted_ballot, promise_ballot, floor_under, entered_next, entered_place}
 use Rattle.sc_live_healed.proofs.FixedWalks.{IsFresh, IsMember, IsFixedPlace, FixedWalk}
 use Rattle.sc_live_healed.proofs.FixedEntries.{FixedEntry, entry_keeps}
 use Rattle.sc_live_healed.proofs.FixedParts.{ready_fixed, applied_core}
+use Rattle.sc_live_healed.proofs.FixedPumps.{pumps, pumps_next}
 use Rattle.sc_live_healed.proofs.FixedRows.{takes_mail}
-use Rattle.sc_live_healed.proofs.FixedBesides.{FixedFacts, FixedStates, both_walk}
+use Rattle.sc_live_healed.proofs.FixedTicks.{ticks}
+use Rattle.sc_live_healed.proofs.FixedBesides.{FixedFacts, FixedStates, FixedTickStates, both_walk, both_ticks}
 use Rattle.sc_live_healed.specs.Definitions.{IsFixedBody, IsFixedCommand, KeepsBallots}
 
 -- a mail that asks for a promise or a vote does so in a round that is not above this one
@@ -29,17 +31,17 @@ Brings (Prepare group asked from_slot) ballot = asked ≡ ballot
 Brings (Accept group asked slot command) ballot = asked ≡ ballot
 Brings _ ballot = ⊥
 
--- What a row leaves of a replica: by its greatest ballot, its promise and floor, whether it runs, with which ballot and promises, its next slot, and the mail.
-pub record Moves (start : ReplicaState) (body : MailBody) (top promised : Ballot) (floor : ℕ) (running : Bool) (ballot : Ballot) (is_first : Bool) (promisers : List ℕ) (next_slot : ℕ) (mails : List Mail) : Type 0 where
+-- What a row leaves of a replica, which may elect itself in it where Elects holds: by its greatest ballot, its promise and floor, whether it runs, with which ballot and promises, its next slot, and the mail.
+pub record Moves (Elects : Type 0) (start : ReplicaState) (body : MailBody) (top promised : Ballot) (floor : ℕ) (running : Bool) (ballot : Ballot) (is_first : Bool) (promisers : List ℕ) (next_slot : ℕ) (mails : List Mail) : Type 0 where
   pub rises : start.top.round ≤ top.round
   pub asks : Each (λ (mail : Mail). AsksWithin top.round mail.body) mails
   pub promise : (promised ≡ start.acceptor.promised) ⊎ Brings body promised
-  pub leads : running ≡ true → (start.running ≡ true) × (ballot ≡ start.leader.ballot) × (is_first ≡ start.leader.is_first) × ((node : ℕ) → is_member start.leader.promisers node ≡ true → is_member promisers node ≡ true)
+  pub leads : running ≡ true → Elects ⊎ ((start.running ≡ true) × (ballot ≡ start.leader.ballot) × (is_first ≡ start.leader.is_first) × ((node : ℕ) → is_member start.leader.promisers node ≡ true → is_member promisers node ≡ true))
   pub floored : floor < next_slot
 
 -- what a row leaves of a replica with its mail
-abbrev pub HasMoved : ReplicaState → MailBody → Place → Type 0
-HasMoved start body (r, mails) = Moves start body r.top r.acceptor.promised r.acceptor.floor r.running r.leader.ballot r.leader.is_first r.leader.promisers (next r) mails
+abbrev pub HasMoved : Type 0 → ReplicaState → MailBody → Place → Type 0
+HasMoved Elects start body (r, mails) = Moves Elects start body r.top r.acceptor.promised r.acceptor.floor r.running r.leader.ballot r.leader.is_first r.leader.promisers (next r) mails
 
 -- a ballot that is at least another is of no earlier round
 pub at_least_round : (a b : Ballot) → IsAtLeast a b → b.round ≤ a.round
@@ -73,15 +75,15 @@ module _ (round : ℕ) where
     sends_on = λ to tx coord hint mails m. pushed me to (TxElsewhere tx coord hint) mails tt m;
   }
 
-module _ (base : Base) (me : ℕ) (fresh : IsFresh base me) (start : ReplicaState) (heard_from : ℕ) (heard_body : MailBody) where
+module _ (base : Base) (me : ℕ) (fresh : IsFresh base me) (Elects : Type 0) (start : ReplicaState) (heard_from : ℕ) (heard_body : MailBody) where
   abbrev E : Place → Type 0
-  E place = HasMoved start heard_body place
+  E place = HasMoved Elects start heard_body place
 
   abbrev F : Place → Type 0
   F place = IsFixedPlace base me place
 
   abbrev pub move_facts : FixedFacts
-  move_facts = record { E = λ place. HasMoved start heard_body place; HeardSo = λ from body. body ≡ heard_body; SeenSo = λ ballot. Unit {0} }
+  move_facts = record { E = λ place. HasMoved Elects start heard_body place; HeardSo = λ from body. body ≡ heard_body; SeenSo = λ ballot. Unit {0} }
 
   says : (r : ReplicaState) (to : ℕ) (body : MailBody) (mails : List Mail) → AsksWithin r.top.round body → E (r, mails) → E (r, sent r.me to body mails)
   says r to body mails a k = record { rises = k.rises; asks = pushed r.top.round r.me to body mails a k.asks; promise = k.promise; leads = k.leads; floored = k.floored }
@@ -188,7 +190,7 @@ module _ (base : Base) (me : ℕ) (fresh : IsFresh base me) (start : ReplicaStat
     rises = k.rises;
     asks = k.asks;
     promise = k.promise;
-    leads = λ on. (let l = k.leads on in (l.0, b ∙ l.1, i ∙ l.2, λ node m. p node (l.3 node m)));
+    leads = λ on. elim (k.leads on) [ inl e ↦ inl e | inr l ↦ inr (l.0, b ∙ l.1, i ∙ l.2, λ node m. p node (l.3 node m)) ];
     floored = k.floored;
   }
 
@@ -259,4 +261,31 @@ module _ (base : Base) (me : ℕ) (fresh : IsFresh base me) (start : ReplicaStat
   pub mailed_moves : start.acceptor.floor < next start → IsFixedBody base heard_from me heard_body → F (start, []) → F (mailed heard_from heard_body (start, [])).0 × E (mailed heard_from heard_body (start, [])).0
   mailed_moves low h f =
       (takes_mail base me (both_walk base me fresh move_facts move_states) heard_from heard_body (start, []) (h, refl)
-      (f, record { rises = omega arith; asks = tt; promise = inl refl; leads = λ on. (on, refl, refl, λ node m. m); floored = low })).0
+      (f, record { rises = omega arith; asks = tt; promise = inl refl; leads = λ on. inr (on, refl, refl, λ node m. m); floored = low })).0
+
+  -- the pump, of the replica that the row found
+  pub pumped_moves : start.acceptor.floor < next start → F (start, []) → F (pumped (start, [])) × E (pumped (start, [])) × (next (pumped (start, [])).0 ≡ next start)
+  pumped_moves low f =
+      let k : F (start, []) × E (start, []) = (f, record { rises = omega arith; asks = tt; promise = inl refl; leads = λ on. inr (on, refl, refl, λ node m. m); floored = low }) in
+      let w : FixedWalk base me = both_walk base me fresh move_facts move_states in
+      let after = pumps base me w (start, []) k in (after.0, after.1, pumps_next base me w (start, []) k)
+
+  -- a tick, which may elect the replica
+  pub tick_states : Elects → FixedTickStates base me move_facts
+  tick_states may = record {
+    elected = λ r mails off f k. record {
+      rises = (let low = k.rises in omega (arith, low));
+      asks = all_sent r.me (Within (r.top.round + 1)) (Prepare (name_of r) (record { round = r.top.round + 1; node = r.me }) (next r)) (λ to ms m. pushed (r.top.round + 1) r.me to (Prepare (name_of r) (record { round = r.top.round + 1; node = r.me }) (next r)) ms (omega arith) m) (open_nodes r.sets) mails
+          (Each-weaker (λ (mail : Mail). AsksWithin r.top.round mail.body) (λ (mail : Mail). AsksWithin (r.top.round + 1) mail.body) (λ mail a. within_more r.top.round (r.top.round + 1) mail.body (omega arith) a) mails k.asks);
+      promise = k.promise;
+      leads = λ on. inl may;
+      floored = k.floored;
+    };
+    reasks = λ to slot command r mails m on e f k. says r to (Accept (name_of r) r.leader.ballot slot command) mails (own_round r mails on f) k;
+    relearns = λ to command r mails m on e f k. says r to (Learn (name_of r) (next r - 1) command) mails tt k;
+  }
+
+  pub ticked_moves : Elects → (drawer : Drawer) → start.acceptor.floor < next start → F (start, []) → F (tick_row false drawer (start, [])) × E (tick_row false drawer (start, []))
+  ticked_moves may drawer low f =
+      ticks base me (both_walk base me fresh move_facts move_states) (both_ticks base me fresh move_facts move_states (tick_states may)) drawer (start, [])
+      (f, record { rises = omega arith; asks = tt; promise = inl refl; leads = λ on. inr (on, refl, refl, λ node m. m); floored = low })
