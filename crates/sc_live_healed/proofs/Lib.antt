@@ -14,3 +14,4 @@ pub mod FixedJournals
 pub mod UntoldRows
 pub mod FixedBesides
 pub mod MovedReplicas
+pub mod PollAnswers

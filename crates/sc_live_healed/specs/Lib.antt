@@ -1,2 +1,3 @@
 pub mod FixedMembers
+pub mod Polls
 pub mod Definitions
