@@ -1,11 +1,11 @@
 -- The groups of a bounded scenario are free at their birth, have names of their own, and follow one another.
-use Rattle.std.proofs.Common.{◌≡◌, ℕ, zero, suc, ◌+◌, ◌-◌, ◌<◌, ◌≤◌, eqb, Bool, true, false, List, [], ◌∷◌, ◌++◌, length, ◌⊎◌, inl, inr, refl, sym, ◌∙◌, ap, subst, arith}
+use Rattle.std.proofs.Common.{◌≡◌, ℕ, zero, suc, ◌+◌, ◌<◌, ◌≤◌, eqb, true, List, [], ◌∷◌, length, ◌⊎◌, inl, inr, refl, sym, ◌∙◌, ap, subst, arith}
 use Rattle.std.proofs.lemmas.Bool.{cond_both, cases_lt, or_left, eq-eqb, eqb-false}
-use Rattle.sc_base.specs.Definitions.{Among, Each, is_member, least_of}
+use Rattle.sc_base.specs.Definitions.{Among, is_member, least_of}
 use Rattle.sc_node_table.specs.Values.{Draw, Base}
 use Rattle.sc_scenario.specs.declared.scenario.drafts.GroupLine.{GroupLine}
 use Rattle.sc_scenario.specs.declared.scenario.scenarios.Scenario.{Scenario}
-use Rattle.sc_scenario.specs.scenario.Definitions.{IsBounded, base_at, bases_up_to, group_at, place_right}
+use Rattle.sc_scenario.specs.scenario.Definitions.{IsBounded, base_at, bases_up_to, place_right}
 use Rattle.sc_paxos_law.proofs.Lemmas.{Among-left, Among-right, Among-either}
 use Rattle.sc_live_healed.proofs.FixedWalks.{IsFresh, IsMember}
 use Rattle.sc_live_healed.proofs.FixedNodes.{AreFresh}

@@ -1,8 +1,8 @@
 -- A node keeps its replicas of groups that are not reshaped, and sends mail of these groups alone, in each of its steps but orders, where it has no policy.
-use Rattle.std.proofs.Common.{◌≡◌, ℕ, ◌&&◌, Bool, true, false, true≢false, cond, List, [], ◌∷◌, ◌++◌, Option, Some, None, refl, sym, ◌∙◌, ap, subst, inl, inr, append-nil}
+use Rattle.std.proofs.Common.{◌≡◌, ℕ, Bool, true, false, List, [], ◌∷◌, ◌++◌, Option, Some, None, refl, sym, ◌∙◌, ap, subst, inl, inr, append-nil}
 use Rattle.std.proofs.lemmas.Bool.{cond_both, cond-true, cond-false, cases_Bool}
 use Rattle.sc_base.specs.Definitions.{Among, Each, Drawer, same_draw, is_member, least_of}
-use Rattle.sc_base.proofs.Lemmas.{draw_is, same_name}
+use Rattle.sc_base.proofs.Lemmas.{draw_is}
 use Rattle.sc_words.proofs.PaxosProofs.Lemmas.{Each-among, Each-append, Each-weaker, find_found}
 use Rattle.sc_node_table.specs.Values.{Draw, Base, Core, Input, Got, OrderLine, Mail, MailBody, Request, Answer, Prepare, Promise, Accept, Accepted, Nack, Learn, Ask, Install, TxPrepare, TxVote, TxOutcome, TxElsewhere, TxWatch, TxWatched, Told}
 use Rattle.sc_actor.specs.declared.rows.Input.TheVariants.{Tick, Go, Told as ToldInput}
@@ -10,7 +10,7 @@ use Rattle.sc_node_table.specs.Definitions.{NodeState, ReplicaState, Place, Exec
 use Rattle.sc_law_walks.proofs.Lemmas.{either_way}
 use Rattle.sc_law_refusal.proofs.RefusalProofs.Joining.{tick_behind}
 use Rattle.sc_live_healed.proofs.FixedWalks.{IsFixedPlace, IsFresh, IsSaid, IsMember}
-use Rattle.sc_live_healed.proofs.FixedPlaces.{mailed_fixed, ticked_fixed, name_is}
+use Rattle.sc_live_healed.proofs.FixedPlaces.{mailed_fixed, ticked_fixed}
 use Rattle.sc_live_healed.specs.Definitions.{IsFixedReplica, KeepsBallots, IsFixedBody, IsFixedMail, IsFixedNode}
 
 -- The groups of a scenario at their birth: each is free and not gone, its first leader and its least node are members, no two have the same name, and each is followed by one of them.

@@ -1,20 +1,19 @@
 -- An invariant of a replica of a group that is not reshaped is kept while the replica offers and executes entries.
-use Rattle.std.proofs.Common.{◌≡◌, ℕ, ◌+◌, ◌-◌, ◌<◌, ◌≤◌, ◌&&◌, ◌||◌, nat_le, eqb, Bool, true, false, cond, List, [], ◌∷◌, ◌++◌, length, replicate, Option, Some, None, refl, sym, ◌∙◌, ap, subst, arith, inl, inr}
+use Rattle.std.proofs.Common.{◌≡◌, ℕ, ◌+◌, ◌<◌, ◌≤◌, ◌&&◌, nat_le, eqb, Bool, true, false, cond, List, [], ◌∷◌, ◌++◌, length, replicate, Option, Some, None, refl, sym, ◌∙◌, ap, subst, arith, inl, inr}
 use Rattle.std.specs.Prelude.{is_some}
 use Rattle.sc_base.specs.Definitions.{Among, Each, is_member}
 use Rattle.std.proofs.lemmas.Bool.{cond_both, cond-true, and_parts, eq-eqb, or_left, or_right}
 use Rattle.std.specs.List.{list_any}
 use Rattle.sc_words.proofs.PaxosProofs.Lemmas.{Each-from}
-use Rattle.sc_node_table.specs.Definitions.{at_slot, ended, left_gone, left, is_among, looked_for, looked, executed_one, next_child, has_room, next_ready, ending, executed_ready, all_ready, executed, turned_down, answered, Found, is_act, from_backlog, from_acts, from_queues, found_by, found_for, offered, pumped_from, pumped, ReplicaState, Place, Executed, next, members, settled, may_offer, first_set, childless, taken_at, under_way, is_idle, last_slot, next_queued, slots_ahead}
-use Rattle.sc_node_table.specs.Values.{Ballot, Command, Noop, Call, Base, Core, Route, AnswerBody, Mail, Must, Gap}
+use Rattle.sc_node_table.specs.Definitions.{at_slot, left_gone, left, is_among, looked_for, looked, executed_one, next_child, has_room, next_ready, ending, executed_ready, all_ready, executed, turned_down, answered, Found, is_act, from_backlog, from_acts, from_queues, found_by, found_for, offered, pumped_from, pumped, ReplicaState, Place, Executed, next, members, settled, may_offer, first_set, childless, taken_at, under_way, is_idle, last_slot, next_queued, slots_ahead}
+use Rattle.sc_node_table.specs.Values.{Command, Noop, Call, Base, Core, Route, AnswerBody, Mail, Must, Gap}
 use Rattle.sc_words.specs.declared.paxos.answers.Must.TheVariants.{Value, Free as Open}
-use Rattle.sc_group_table.specs.machine.Definitions.{child_by}
 use Rattle.sc_words.specs.paxos.Definitions.{must}
 use Rattle.sc_law_walks.proofs.Lemmas.{next_found, either_way, entered_place}
 use Rattle.sc_law_walks.specs.Definitions.{IfThere}
-use Rattle.sc_live_healed.proofs.FixedWalks.{FixedWalk, IsFixedPlace, IsMember, IsFresh}
+use Rattle.sc_live_healed.proofs.FixedWalks.{FixedWalk, IsMember}
 use Rattle.sc_live_healed.proofs.FixedParts.{ready_fixed}
-use Rattle.sc_live_healed.specs.Definitions.{IsFixedCommand, IsFollower}
+use Rattle.sc_live_healed.specs.Definitions.{IsFixedCommand}
 
 -- one of two, where the test fails
 none_there : {X : Type 0} (o : Option X) → is_some o ≡ false → o ≡ None
@@ -137,6 +136,13 @@ module _ (base : Base) (me : ℕ) (w : FixedWalk base me) where
   pumps place k =
       cond_both (settled place.0 && nat_le (next place.0) last_slot) (pumped_from (next place.0) place.0.sets place) place P
       (λ t. (from_pumps (next place.0) (length place.0.sets) (next place.0) place.0.sets place (open_members place k) (omega arith) (omega arith) (k, (and_parts place.0.running (may_offer place.0 (first_set place.0.sets)) (and_parts (settled place.0) (nat_le (next place.0) last_slot) t).0).0, refl, refl)).0) (λ _. k)
+
+  -- the pump executes nothing
+  pub pumps_next : (place : Place) → P place → next (pumped place).0 ≡ next place.0
+  unfolding pumped
+  pumps_next place k =
+      cond_both (settled place.0 && nat_le (next place.0) last_slot) (pumped_from (next place.0) place.0.sets place) place (λ (p : Place). next p.0 ≡ next place.0)
+      (λ t. (from_pumps (next place.0) (length place.0.sets) (next place.0) place.0.sets place (open_members place k) (omega arith) (omega arith) (k, (and_parts place.0.running (may_offer place.0 (first_set place.0.sets)) (and_parts (settled place.0) (nat_le (next place.0) last_slot) t).0).0, refl, refl)).2) (λ _. refl)
 
   -- ---- an entry, and what was ready after it
 

@@ -1,5 +1,5 @@
 -- An invariant of a replica of a group that is not reshaped is kept by the replica's tick, where its node has no policy.
-use Rattle.std.proofs.Common.{◌≡◌, ℕ, ◌+◌, ◌-◌, ◌^◌, ◌||◌, not, eqb, refl, Bool, true, false, true≢false, cond, List, [], ◌∷◌, filter, Option, Some, None, sym, ◌∙◌, ap, subst}
+use Rattle.std.proofs.Common.{◌≡◌, ℕ, ◌+◌, ◌-◌, ◌^◌, ◌||◌, not, eqb, refl, Bool, true, false, cond, List, [], ◌∷◌, Option, Some, None, sym, ◌∙◌, ap, subst}
 use Rattle.std.specs.Prelude.{is_some}
 use Rattle.std.proofs.lemmas.Bool.{cond_both, and_parts}
 use Rattle.sc_base.specs.Definitions.{Each, Drawer, is_member}
@@ -9,7 +9,7 @@ use Rattle.sc_group_table.specs.machine.Definitions.{Group}
 use Rattle.sc_words.specs.paxos.Definitions.{entry_at, has_counted}
 use Rattle.sc_node_table.specs.Definitions.{elected, sent_all, sent_others, sent, pumped, wishing, reminded, reminders, waited_in, ReplicaState, Place, name_of, next, members, settled, is_idle, may_offer, first_set, tick_row, asked_again, uncounted, last_entry_sent, flying}
 use Rattle.sc_law_walks.proofs.Lemmas.{either_way, elected_place}
-use Rattle.sc_live_healed.proofs.FixedWalks.{FixedWalk, FixedTicks, IsMember}
+use Rattle.sc_live_healed.proofs.FixedWalks.{FixedWalk, FixedTickParts, IsMember}
 use Rattle.sc_live_healed.proofs.FixedPumps.{OfMembers, open_members, pumps, set_members}
 
 not_so : (b : Bool) → not b ≡ false → b ≡ true
@@ -50,7 +50,7 @@ unfolding wishing reminded
 tick_alone drawer (r, mails) e =
     ap (λ (ms : List Mail). (waited_in r.group.core.lock r, ms)) (reminds_none r.group.core.lock r.me r.group mails e) ∙ ap (λ (x : ReplicaState). (x, mails)) (waits_none r.group.core.lock r e)
 
-module _ (base : Base) (me : ℕ) (w : FixedWalk base me) (t : FixedTicks base me w) where
+module _ (base : Base) (me : ℕ) (w : FixedWalk base me) (t : FixedTickParts base me w.P) where
   abbrev P : Place → Type 0
   P place = w.P place
 

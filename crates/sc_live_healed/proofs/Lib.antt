@@ -4,10 +4,17 @@ pub mod FixedRows
 pub mod FixedTicks
 pub mod FixedEntries
 pub mod FixedParts
+pub mod FixedChanges
 pub mod FixedPlaces
 pub mod FixedNodes
+pub mod Lemmas
 pub mod FixedBirths
 pub mod FixedClients
+pub mod FixedJournals
+pub mod UntoldRows
+pub mod FixedBesides
+pub mod MovedReplicas
+pub mod PollAnswers
 pub mod AskingClients
 pub mod AskingClientRows
 pub mod TakenRequests
@@ -15,4 +22,3 @@ pub mod ApartSlots
 pub mod EnteredPlaces
 pub mod HeldRequests
 pub mod HeldRequestRows
-pub mod Lemmas

@@ -3,3 +3,4 @@ pub use Rattle.sc_live_healed.specs.FixedMembers.{IsFixedCommand, IsFixedRequest
 pub use Rattle.sc_live_healed.specs.HealedSchedules.{crashes, is_order, lives, HasLivingMajorities, NodeTurn, ClientTurn, node_lines, client_line, client_lines, IsHealed}
 pub use Rattle.sc_live_healed.specs.HealedStores.{IsIdleLeader, IsIdleStore, HasReplies, AskedACrashedNode, Counts, IsAtEnd, StaysIdle, AnswersTurns, AnswersAll, Heals, HealedStoresAnswer}
 pub use Rattle.sc_live_healed.specs.AskingClients.{IsAskingOn, IsAskingClient}
+pub use Rattle.sc_live_healed.specs.Polls.{IsSettledOrStopped, AnswersPoll}

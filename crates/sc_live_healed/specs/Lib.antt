@@ -1,4 +1,5 @@
 pub mod FixedMembers
+pub mod Polls
 pub mod HealedSchedules
 pub mod HealedStores
 pub mod AskingClients
