@@ -22,3 +22,4 @@ pub mod ApartSlots
 pub mod EnteredPlaces
 pub mod HeldRequests
 pub mod HeldRequestRows
+pub mod AskingJournals
