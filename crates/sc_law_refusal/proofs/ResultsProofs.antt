@@ -1,3 +1,5 @@
 pub mod Reports
 pub mod SilentMail
 pub mod LoggedReplicas
+pub mod ReportedRows
+pub mod ReportedNodes

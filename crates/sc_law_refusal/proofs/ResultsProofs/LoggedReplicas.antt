@@ -6,18 +6,19 @@ use Rattle.std.proofs.lemmas.List.{length_push, drop_all}
 use Rattle.sc_base.specs.Definitions.{Among, Each, is_majority, same_ballot}
 use Rattle.sc_node_table.specs.Values.{Ballot, Draw, Command, Base, Counted, Chosen, NotYet, Flight}
 use Rattle.sc_group_table.specs.machine.Definitions.{Group, group_of, applied, state_after}
-use Rattle.sc_words.specs.paxos.Definitions.{LeaderState, flight_at, without_flight_at, installed, kept_voters, voters_after, counted, vote_at}
+use Rattle.sc_words.specs.paxos.Definitions.{LeaderState, LogState, flight_at, without_flight_at, installed, kept_voters, voters_after, counted, vote_at}
 use Rattle.sc_words.proofs.PaxosProofs.Lemmas.{Each-among, Each-weaker, find_found}
 use Rattle.sc_base.proofs.Lemmas.{ballot_is}
 use Rattle.sc_paxos_law.specs.Definitions.{Step, Accepted, Offered, needed, members_of, IsLog, IsChosenAfter, IsLawfulHistory}
 use Rattle.sc_paxos_law.proofs.Lemmas.{earlier, longer_log, was_offered, one_offer}
-use Rattle.sc_node_table.specs.Definitions.{ReplicaState, name_of, next, set_at, entered, forgotten, jumped, named, without_slot, floor_of, waits_in, rest_of, born_replica, installed_replica}
+use Rattle.sc_node_table.specs.Definitions.{ReplicaState, name_of, next, set_at, entered, with_slot, forgotten, jumped, named, without_slot, floor_of, waits_in, rest_of, born_replica, installed_replica}
 use Rattle.sc_law_entries.proofs.HistoryProofs.Lemmas.{state_same}
 use Rattle.sc_law_walks.proofs.Lemmas.{entry_is}
 use Rattle.sc_meaning.specs.sound.Definitions.{Ahead}
 use Rattle.sc_law_groups.proofs.GroupProofs.Lemmas.{IsLearnt, by_own_log, Each-without_slot, each_after, Steps, rule, first, birth, IsReplica, IsState, IsFlying, next_after}
 use Rattle.sc_law_groups.proofs.GroupProofs.Invariant.{HasLog, next_is, pushed_has, cut_has}
 use Rattle.sc_law_groups.proofs.GroupProofs.Held.{floor_low}
+use Rattle.sc_law_groups.proofs.GroupProofs.Counting.{each_with_slot}
 
 module _ (ahead : Ahead) (base : Base) (h : Steps) (lawful : IsLawfulHistory (rule ahead base) (first ahead base) h) where
   abbrev Any : Command → Type 0
@@ -28,13 +29,16 @@ module _ (ahead : Ahead) (base : Base) (h : Steps) (lawful : IsLawfulHistory (ru
   any (command ∷ commands) = (tt, any commands)
 
   -- what a replica has executed is a log of the steps, and its group is the state after it; what is ready was chosen
-  pub record IsLogged (r : ReplicaState) : Type 0 where
+  pub record IsLoggedAs (log : LogState Command) (group : Group) (ready : List (ℕ × Command)) : Type 0 where
     pub whole : List Command
-    pub log_is : HasLog ahead base Any h whole r.log r.group
-    pub ready : Each (λ e. IsLearnt (rule ahead base) h e.0 e.1) r.ready
+    pub log_is : HasLog ahead base Any h whole log group
+    pub is_ready : Each (λ e. IsLearnt (rule ahead base) h e.0 e.1) ready
+
+  abbrev pub IsLogged : ReplicaState → Type 0
+  IsLogged r = IsLoggedAs r.log r.group r.ready
 
   pub is_logged : (made : Command → Type 0) (me : ℕ) (r : ReplicaState) → IsReplica ahead base made h me r → IsLogged r
-  is_logged made me r k = (let l = k.log_is in record { whole = k.whole; log_is = record { low = l.low; entries_are = l.entries_are; group_is = l.group_is; is_log = l.is_log; all_made = any k.whole }; ready = k.ready })
+  is_logged made me r k = (let l = k.log_is in record { whole = k.whole; log_is = record { low = l.low; entries_are = l.entries_are; group_is = l.group_is; is_log = l.is_log; all_made = any k.whole }; is_ready = k.ready })
 
   -- ---- the next entry
 
@@ -56,19 +60,19 @@ module _ (ahead : Ahead) (base : Base) (h : Steps) (lawful : IsLawfulHistory (ru
         whole = k.whole ++ command ∷ [];
         log_is = cut_has ahead base Any h (k.whole ++ command ∷ []) _ _ (floor_of (next r)) (omega (arith, low, at, longer))
             (subst (λ l. HasLog ahead base Any h (k.whole ++ command ∷ []) l (applied r.group command).0) (sym (entry_is command r.log)) has);
-        ready = k.ready;
+        is_ready = k.is_ready;
       }
 
   pub clears : (slot : ℕ) (r : ReplicaState) (leader : LeaderState Command) → IsLogged r → IsLogged (record r { leader = leader; ready = without_slot r.ready slot })
-  clears slot r leader k = record { whole = k.whole; log_is = k.log_is; ready = Each-without_slot (λ e. IsLearnt (rule ahead base) h e.0 e.1) r.ready slot k.ready }
+  clears slot r leader k = record { whole = k.whole; log_is = k.log_is; is_ready = Each-without_slot (λ e. IsLearnt (rule ahead base) h e.0 e.1) r.ready slot k.is_ready }
 
   -- nothing is ready at one that begins or ends a leadership
-  pub unready : (r : ReplicaState) (after : ReplicaState) → after.log ≡ r.log → after.group ≡ r.group → after.ready ≡ [] → IsLogged r → IsLogged after
-  unready r after same_log same_group none k = record {
-    whole = k.whole;
-    log_is = subst (λ l. HasLog ahead base Any h k.whole l after.group) (sym same_log) (subst (λ g. HasLog ahead base Any h k.whole r.log g) (sym same_group) k.log_is);
-    ready = subst (λ es. Each (λ e. IsLearnt (rule ahead base) h e.0 e.1) es) (sym none) tt;
-  }
+  pub unready : (r : ReplicaState) → IsLogged r → IsLoggedAs r.log r.group []
+  unready r k = record { whole = k.whole; log_is = k.log_is; is_ready = tt }
+
+  -- what was chosen may be ready
+  pub readies_more : (slot : ℕ) (command : Command) (r : ReplicaState) → IsLearnt (rule ahead base) h slot command → IsLogged r → IsLoggedAs r.log r.group (with_slot r.ready slot command)
+  readies_more slot command r t k = record { whole = k.whole; log_is = k.log_is; is_ready = each_with_slot (λ e. IsLearnt (rule ahead base) h e.0 e.1) r.ready slot command k.is_ready t }
 
   -- ---- a state that is taken over
 
@@ -90,7 +94,7 @@ module _ (ahead : Ahead) (base : Base) (h : Steps) (lawful : IsLawfulHistory (ru
         whole = t.log;
         log_is = cut_has ahead base Any h t.log _ _ (floor_of slot) (omega (arith, low, count))
             (subst (λ (s : Base). HasLog ahead base Any h t.log (installed slot) (group_of s)) (sym (state_named made (name_of r) slot state sets same t)) (state_has made slot state sets t));
-        ready = k.ready;
+        is_ready = k.is_ready;
       }
 
   pub makes : (made : Command → Type 0) (me : ℕ) (name : Draw) (slot : ℕ) (state : Base) (sets : List (List ℕ)) → name ≡ base.core.id → IsState ahead base made h slot state sets → IsLogged (installed_replica me slot (named name state) sets)
@@ -102,7 +106,7 @@ module _ (ahead : Ahead) (base : Base) (h : Steps) (lawful : IsLawfulHistory (ru
         whole = t.log;
         log_is = cut_has ahead base Any h t.log _ _ (floor_of slot) (omega (arith, low, count))
             (subst (λ (s : Base). HasLog ahead base Any h t.log (installed slot) (group_of s)) (sym (state_named made name slot state sets same t)) (state_has made slot state sets t));
-        ready = tt;
+        is_ready = tt;
       }
 
   -- ---- a vote
