@@ -3,3 +3,4 @@ pub mod SilentMail
 pub mod LoggedReplicas
 pub mod ReportedRows
 pub mod ReportedNodes
+pub mod ReportedJournals
