@@ -1,6 +1,8 @@
 pub mod Reports
 pub mod SilentMail
+pub mod HeldCommands
 pub mod LoggedReplicas
 pub mod ReportedRows
+pub mod ReportedSteps
 pub mod ReportedNodes
 pub mod ReportedJournals

@@ -1,281 +1,290 @@
--- What a replica reports of an order in a row, of an entry that it executes, was decided in the log of its group: an instance of the walk over any replica's table.
-use Rattle.std.proofs.Common.{◌≡◌, ℕ, ◌+◌, ◌-◌, ◌&&◌, ◌==◌, eqb, nat_lt, cond, Bool, true, false, true≢false, refl, sym, ◌∙◌, ap, subst, List, [], ◌∷◌, ◌++◌, Option, Some, None}
-use Rattle.std.proofs.lemmas.Bool.{cond_both, and_parts, eqb-true, eq-eqb}
-use Rattle.sc_base.specs.Definitions.{Among, Drawer, Each, same_ballot, client_actor}
-use Rattle.sc_base.proofs.Lemmas.{ballot_is}
-use Rattle.sc_node_table.specs.Values.{Ballot, Draw, Command, Noop, Base, AnswerBody, OrderLine, OrderResult, Refused, OrderRefusal, Counted, Chosen, NotYet, Mail, MailBody, Request, Answer, Prepare, Promise, Accept, Accepted, Nack, Learn, Ask, Install, TxPrepare, TxVote, TxOutcome, TxElsewhere, TxWatch, TxWatched, Told}
-use Rattle.sc_group_table.specs.machine.Definitions.{Group, base_of, applied, state_after}
-use Rattle.sc_words.specs.paxos.Definitions.{LeaderState, below, counted, without_flight_at}
-use Rattle.sc_words.proofs.PaxosProofs.Lemmas.{Each-among}
+-- What a replica reports of an order in a row: what the log of its group decided by an entry that it executes; or that it does not lead, of an order that waited, where its leadership ended. An instance of the walk over any replica's table.
+use Rattle.std.proofs.Common.{◌≡◌, ℕ, ◌+◌, ◌<◌, ◌≤◌, cond, Bool, true, false, true≢false, refl, sym, ◌∙◌, subst, List, [], ◌∷◌, ◌++◌, Option, Some, None, ◌⊎◌, inl, inr, arith}
+use Rattle.std.proofs.lemmas.Bool.{cond_both}
+use Rattle.sc_base.specs.Definitions.{Among, Drawer, Each}
+use Rattle.sc_node_table.specs.Values.{Ballot, Draw, Command, Noop, Call, Join, Leave, Split, Begin, GiveUp, Base, AnswerBody, OrderLine, OrderResult, Refused, Flight, Report, Mail, MailBody, Request, Prepare, Promise, Accept, Accepted, Learn, Install, Told}
+use Rattle.sc_words.specs.declared.commands.orders.OrderRefusal.TheVariants.{NotLeader}
+use Rattle.sc_group_table.specs.machine.Definitions.{applied, state_after}
+use Rattle.sc_group_table.specs.policy.Definitions.{is_reported}
+use Rattle.sc_words.specs.paxos.Definitions.{LeaderState, below, counted, promise_counted, without_flight_at}
+use Rattle.sc_words.proofs.PaxosProofs.Lemmas.{Each-among, Each-append, Each-weaker}
 use Rattle.sc_paxos_law.specs.Definitions.{IsLog, IsLawfulHistory, Accepted as AcceptedStep}
+use Rattle.sc_law_entries.specs.names.Definitions.{Opt}
 use Rattle.sc_law_entries.proofs.HistoryProofs.Lemmas.{applied_same}
-use Rattle.sc_node_table.specs.Definitions.{ReplicaState, Place, Executed, childless, name_of, next, at_slot, with_slot, set_at, has_room, leads, voted, vote_tallied, readied, accepted_row, executed, open_nodes, ended, entered, jumped, forgotten, offered, put_back, sent, sent_all, answered_all, under_way, before_of, order_number, order_result, begun_result, spoken_number, spoken_mails, begun_reported, result_reported, went_on, ordered_row, tick_row, mailed, made_by, named, installed_replica}
+use Rattle.sc_law_entries.proofs.NamesProofs.Lists.{opt_slot, slot_without, flight_without}
+use Rattle.sc_node_table.specs.Definitions.{ReplicaState, Place, name_of, next, at_slot, without_slot, without_request, open_nodes, ended, entered, jumped, forgotten, offered, put_back, sent_all, answered_all, under_way, before_of, order_number, order_result, begun_result, spoken_number, spoken_mails, begun_reported, result_reported, went_on}
 use Rattle.sc_meaning.specs.sound.Definitions.{Ahead}
-use Rattle.sc_law_groups.proofs.GroupProofs.Lemmas.{IsLearnt, Steps, rule, first, birth, IsReplica, IsState, slot_among}
-use Rattle.sc_law_walks.proofs.Lemmas.{either_way, back_any, TableFacts, TableStates, TableSays, TableWalk, TableTicks, all_heard, TableEntry, entry_holds}
+use Rattle.sc_law_groups.proofs.GroupProofs.Lemmas.{IsLearnt, Steps, rule, first, birth, IsState, slot_among}
+use Rattle.sc_law_walks.specs.Definitions.{IsFiledOnMail}
+use Rattle.sc_law_walks.proofs.Lemmas.{below_round, promise_ballot, counted_ballot, either_way, back_any, TableFacts, TableStates, TableSays, TableWalk, TableTicks, all_heard, TableEntry, entry_holds}
 use Rattle.sc_law_walks.proofs.Talks.{all_sent}
-use Rattle.sc_law_walks.proofs.TableParts.{execution}
-use Rattle.sc_law_walks.proofs.TableRows as rows
-use Rattle.sc_law_walks.proofs.TableTicks as tick
-use Rattle.sc_law_refusal.specs.results.Definitions.{EndsOrder, IfTold, TellAs}
-use Rattle.sc_law_refusal.proofs.ResultsProofs.Reports.{puts, reported, begun_said, went_said, one_answered, all_answered, all_dismissed, order_ends, begun_ends}
+use Rattle.sc_law_refusal.specs.results.Definitions.{IsOf, EndsOrder, IfTold, TellAs}
+use Rattle.sc_law_refusal.proofs.ResultsProofs.Reports.{puts, reported, begun_said, went_said, one_answered, all_answered, all_dismissed, order_ends, begun_ends, is_of}
 use Rattle.sc_law_refusal.proofs.ResultsProofs.SilentMail.{reminders_tell, next_tells, vote_tells, watch_tells, outcome_tells, answer_tells}
-use Rattle.sc_law_refusal.proofs.ResultsProofs.LoggedReplicas.{IsLogged, is_logged, longer_is, enters, clears, unready, readies_more, jumps, makes, vote_chooses}
+use Rattle.sc_law_refusal.proofs.ResultsProofs.HeldCommands.{Commands, Flights, Reports, Ready, Held, without_held, back_held, last_held, flying_held, polled_held, counted_held, must_held}
+use Rattle.sc_law_refusal.proofs.ResultsProofs.LoggedReplicas.{IsLogged, longer_is, enters, clears, unready, jumps}
 
--- what is put at a slot is there
-first_there : (slot : ℕ) (command : Command) (es : List (ℕ × Command)) → at_slot ((slot, command) ∷ es) slot ≡ Some command
-first_there slot command es = cond_both (eqb slot slot) (Some command) (at_slot es slot) (λ (o : Option Command). o ≡ Some command) (λ _. refl) (λ f. absurd (true≢false (sym (eq-eqb slot slot refl) ∙ f)))
+-- what tells so tells what follows from it
+told_so : (Fact More : ℕ → OrderResult → Type 0) → ((number : ℕ) (result : OrderResult) → Fact number result → More number result) → (body : MailBody) → IfTold Fact body → IfTold More body
+told_so Fact More f (Told number result) t = f number result t
+told_so Fact More f (Request group client seq op) t = t
+told_so Fact More f _ t = tt
 
-slot_there : (es : List (ℕ × Command)) (slot : ℕ) (command : Command) → at_slot (with_slot es slot command) slot ≡ Some command
-slot_there [] slot command = first_there slot command []
-slot_there (e ∷ es) slot command =
-    cond_both (eqb e.0 slot) _ _ (λ (xs : List (ℕ × Command)). at_slot xs slot ≡ Some command) (λ _. first_there slot command es)
-    (λ f. either_way (λ (xs : List (ℕ × Command)). at_slot xs slot ≡ Some command) (nat_lt slot e.0) _ _ (first_there slot command (e ∷ es))
-    (cond_both (eqb e.0 slot) (Some e.1) (at_slot (with_slot es slot command) slot) (λ (o : Option Command). o ≡ Some command) (λ t. absurd (true≢false (sym t ∙ f))) (λ _. slot_there es slot command)))
+pub tell_so : (Fact More : ℕ → OrderResult → Type 0) → ((number : ℕ) (result : OrderResult) → Fact number result → More number result) → (mails : List Mail) → TellAs Fact mails → TellAs More mails
+tell_so Fact More f mails m = Each-weaker (λ (mail : Mail). IfTold Fact mail.body) (λ (mail : Mail). IfTold More mail.body) (λ mail t. told_so Fact More f mail.body t) mails m
 
-module _ (ahead : Ahead) (base : Base) (h : Steps) (made : Command → Type 0) where
-  -- what a mail of the group brings is true of its steps
+-- a command, where it is that of an order with a number, waits as W says
+abbrev pub Waits : (ℕ → Command → Type 0) → Command → Type 0
+Waits W command = (number : ℕ) → IsOf number command → is_reported number ≡ true → W number command
+
+filed_waits : (W : ℕ → Command → Type 0) (act : Command) → IsFiledOnMail act → Waits W act
+filed_waits W (Join node order) q = absurd q
+filed_waits W (Leave node order) q = absurd q
+filed_waits W (Split at child order) q = absurd q
+filed_waits W (Begin tx body order) q = absurd q
+filed_waits W Noop q = λ number own t. absurd own
+filed_waits W _ q = λ number own t. absurd own
+
+-- a result is that of an order that is given back, where W says which orders wait
+pub record IsBack (W : ℕ → Command → Type 0) (number : ℕ) (result : OrderResult) : Type 0 where
+  pub command : Command
+  pub own : IsOf number command
+  pub waits : W number command
+  pub hint : Option ℕ
+  pub says : result ≡ Refused (NotLeader hint)
+
+-- a replica has ended a leadership in a row that found a round: it does not run, or it leads in a later round
+abbrev pub HasStopped : ℕ → ReplicaState → Type 0
+HasStopped round r = (r.running ≡ false) ⊎ (round < r.leader.ballot.round)
+
+module _ (ahead : Ahead) (base : Base) (h : Steps) (made : Command → Type 0) (W : ℕ → Command → Type 0) where
+  -- what a mail of the group brings is true of its steps, and the orders that it brings wait
   abbrev pub Brings : ℕ → MailBody → Type 0
   Brings from (Accepted group ballot slot) = (d : Command) × Among (AcceptedStep from ballot slot d) h
   Brings from (Learn group slot command) = IsLearnt (rule ahead base) h slot command
   Brings from (Install group slot state sets) = IsState ahead base made h slot state sets
+  Brings from (Promise group ballot reports) = Each (λ (report : Report Command). Waits W report.value) reports
   Brings from _ = Unit {0}
 
--- the steps of a group before the row; what its log decides of orders is so, and so is each refusal
+-- the steps of a group before the row; what its log decides of orders is so; and the orders that wait at a replica whose greatest round is this one, or that the row brings
 module _ (ahead : Ahead) (base : Base) (h : Steps) (lawful : IsLawfulHistory (rule ahead base) (first ahead base) h) (made : Command → Type 0) (Fact : ℕ → OrderResult → Type 0)
     (decided : (whole : List Command) (command : Command) → IsLog (rule ahead base) h (whole ++ command ∷ []) → (number : ℕ) (result : OrderResult) → EndsOrder (state_after (birth ahead base) whole) command number result → Fact number result)
-    (refused : (number : ℕ) (why : OrderRefusal) → Fact number (Refused why)) where
+    (W : ℕ → Command → Type 0) (round : ℕ) where
   abbrev Logged : ReplicaState → Type 0
   Logged r = (name_of r ≡ base.core.id) × IsLogged ahead base h lawful r
 
-  abbrev Q : List Mail → Type 0
-  Q mails = TellAs Fact mails
+  abbrev P : Command → Type 0
+  P command = Waits W command
+
+  -- a result is so, or, where the leadership has ended in the row, it is that of an order that is given back
+  abbrev pub MayTell : Bool → ℕ → OrderResult → Type 0
+  MayTell ended number result = Fact number result ⊎ ((ended ≡ true) × IsBack W number result)
+
+  abbrev pub Stands : Bool → ReplicaState → Type 0
+  Stands ended r = Logged r × Held P r × (round ≤ r.top.round) × (ended ≡ true → HasStopped round r)
 
   abbrev pub Keeps : Place → Type 0
-  Keeps place = Logged place.0 × Q place.1
+  Keeps place = (ended : Bool) × Stands ended place.0 × TellAs (MayTell ended) place.1
 
   -- ---- an entry
 
-  back_logged : (command : Command) (r : ReplicaState) → Logged r → Logged (put_back command r)
-  back_logged command r k = back_any Logged (λ s acts backlog q. q) command r k
+  back_stands : (ended : Bool) (command : Command) (r : ReplicaState) → P command → Stands ended r → Stands ended (put_back command r)
+  back_stands ended command r c k =
+      let rest = back_any (λ s. Logged s × (round ≤ s.top.round) × (ended ≡ true → HasStopped round s)) (λ s acts backlog q. q) command r (k.0, k.2, k.3) in
+      (rest.0, back_held P command r c k.1, rest.1, rest.2)
 
-  entered_name : (command : Command) (r : ReplicaState) → name_of (entered command r) ≡ name_of r
+  entered_stands : (ended : Bool) (command : Command) (r : ReplicaState) → IsLearnt (rule ahead base) h (next r) command → Stands ended r → Stands ended (entered command r)
   unfolding entered forgotten
-  entered_name command r = (applied_same r.group command).0
-
-  entered_logged : (command : Command) (r : ReplicaState) → Logged r → IsLearnt (rule ahead base) h (next r) command → Logged (entered command r)
-  entered_logged command r k t = (entered_name command r ∙ k.0, enters ahead base h lawful command r k.1 t)
+  entered_stands ended command r t k = (((applied_same r.group command).0 ∙ k.0.0, enters ahead base h lawful command r k.0.1 t), k.1, k.2, k.3)
 
   -- what the entry does to an order is what the log decides of it
   entry_decides : (command : Command) (start : ReplicaState) → Logged start → IsLearnt (rule ahead base) h (next start) command → (number : ℕ) (result : OrderResult) → EndsOrder start.group command number result → Fact number result
   entry_decides command start k t number result ends =
       decided k.1.whole command (longer_is ahead base h lawful start command k.1 t) number result (subst (λ g. EndsOrder g command number result) k.1.log_is.group_is ends)
 
-  spoken_tells : (counted : Bool) (command : Command) (start r : ReplicaState) (mails : List Mail) → ((number : ℕ) (result : OrderResult) → EndsOrder start.group command number result → Fact number result) → Q mails
-      → Q (spoken_mails counted r.me r.group (before_of start.group.core) (applied start.group command).1 command mails)
+  spoken_tells : (ended counted : Bool) (command : Command) (start r : ReplicaState) (mails : List Mail) → ((number : ℕ) (result : OrderResult) → EndsOrder start.group command number result → Fact number result) → TellAs (MayTell ended) mails
+      → TellAs (MayTell ended) (spoken_mails counted r.me r.group (before_of start.group.core) (applied start.group command).1 command mails)
   unfolding spoken_mails begun_reported
-  spoken_tells counted command start r mails fact m =
+  spoken_tells ended counted command start r mails fact m =
+      let Q : List Mail → Type 0 = λ ms. TellAs (MayTell ended) ms in
       let before = before_of start.group.core in
       let effect = (applied start.group command).1 in
       let told : List Mail = result_reported r.me (begun_result before.alone effect command) (spoken_number before.order command) mails in
-      let said : Q told = begun_said r.me Fact (spoken_number before.order command) (begun_result before.alone effect command) mails (λ result e t. fact (spoken_number before.order command) result (begun_ends start.group command result e t)) m in
-      either_way Q counted (went_on r.me r.group before effect command told) told (went_said r.me Fact r.group before effect command told said) said
+      let said : Q told = begun_said r.me (MayTell ended) (spoken_number before.order command) (begun_result before.alone effect command) mails (λ result e t. inl (fact (spoken_number before.order command) result (begun_ends start.group command result e t))) m in
+      either_way Q counted (went_on r.me r.group before effect command told) told (went_said r.me (MayTell ended) r.group before effect command told said) said
 
-  entry_keeps : (counted : Bool) (command : Command) (start : ReplicaState) → Logged start → IsLearnt (rule ahead base) h (next start) command → TableEntry counted command start Keeps Keeps
-  entry_keeps counted command start logged t = record {
-    Lost = λ other. Unit {0};
-    entered = λ mails k. (entered_logged command start k.0 t, k.1);
-    answers = λ client seq op answer r mails c e a k. (k.0, answer_tells r.me Fact client (name_of r) seq answer mails k.1);
-    returned = λ r mails c k. (back_logged command r k.0, k.1);
-    reports = λ result r mails e k. (k.0, reported r.me Fact (order_number command) result mails (λ _. entry_decides command start logged t (order_number command) result (order_ends start.group command result e)) k.1);
-    speaks = λ r mails k. (k.0, spoken_tells counted command start r mails (entry_decides command start logged t) k.1);
-    teaches = λ to r mails c k. (k.0, puts r.me Fact to _ mails tt k.1);
-    installs = λ to r mails c k. (k.0, puts r.me Fact to _ mails tt k.1);
-    repolls = λ to r mails c k. (k.0, puts r.me Fact to _ mails tt k.1);
-    flies = λ other r mails e k. tt;
-    landed = λ place k. ((k.0.0, clears ahead base h lawful (next start) place.0 (without_flight_at (next start) place.0.leader) k.0.1), k.1);
-    back = λ other r mails l k. (back_logged other r k.0, k.1);
+  entry_keeps : (counted : Bool) (command : Command) (start : ReplicaState) → Logged start → IsLearnt (rule ahead base) h (next start) command → (counted ≡ true → P command) → TableEntry counted command start Keeps Keeps
+  entry_keeps counted command start logged t waits = record {
+    Lost = λ other. P other;
+    entered = λ mails k. (k.0, entered_stands k.0 command start t k.1, k.2);
+    answers = λ client seq op answer r mails c e a k. (k.0, k.1, answer_tells r.me (MayTell k.0) client (name_of r) seq answer mails k.2);
+    returned = λ r mails c k. (k.0, back_stands k.0 command r (waits c) k.1, k.2);
+    reports = λ result r mails e k. (k.0, k.1, reported r.me (MayTell k.0) (order_number command) result mails (λ _. inl (entry_decides command start logged t (order_number command) result (order_ends start.group command result e))) k.2);
+    speaks = λ r mails k. (k.0, k.1, spoken_tells k.0 counted command start r mails (entry_decides command start logged t) k.2);
+    teaches = λ to r mails c k. (k.0, k.1, puts r.me (MayTell k.0) to _ mails tt k.2);
+    installs = λ to r mails c k. (k.0, k.1, puts r.me (MayTell k.0) to _ mails tt k.2);
+    repolls = λ to r mails c k. (k.0, k.1, puts r.me (MayTell k.0) to _ mails tt k.2);
+    flies = λ other r mails e k. subst (λ (o : Option Command). Opt P o) e (flying_held P r (next start) k.1.1);
+    landed = λ place k. (k.0, cleared_stands k.0 place.0 k.1, k.2);
+    back = λ other r mails l k. (k.0, back_stands k.0 other r l k.1, k.2);
   }
+    where
+      cleared_stands : (ended : Bool) (r : ReplicaState) → Stands ended r → Stands ended (record r { leader = without_flight_at (next start) r.leader; ready = without_slot r.ready (next start) })
+      cleared_stands ended r k = (
+        (k.0.0, clears ahead base h lawful (next start) r (without_flight_at (next start) r.leader) k.0.1),
+        (k.1.0, k.1.1, flight_without P (next start) r.leader.flights k.1.2, k.1.3, slot_without P r.ready (next start) k.1.4),
+        k.2, k.3,
+      )
 
   -- ---- leaders
 
   ends : (hint : Option ℕ) (answer : AnswerBody) (r : ReplicaState) (mails : List Mail) → Keeps (r, mails) → Keeps (ended hint answer (r, mails))
   unfolding ended
   ends hint answer r mails k = (
-    (k.0.0, unready ahead base h lawful r k.0.1),
-    all_dismissed r.me Fact (name_of r) hint answer r.backlog (answered_all r.me (name_of r) answer (under_way r) mails) (λ command a t. refused (order_number command) _)
-        (all_answered r.me Fact (name_of r) answer (under_way r) mails k.1),
+    true,
+    ((k.1.0.0, unready ahead base h lawful r k.1.0.1), (tt, tt, tt, tt, tt), k.1.2, λ _. inl refl),
+    all_dismissed r.me (MayTell true) (name_of r) hint answer r.backlog (answered_all r.me (name_of r) answer (under_way r) mails)
+        (λ command a t. inr (refl, record { command = command; own = is_of command t; waits = Each-among P r.backlog command k.1.1.0 a (order_number command) (is_of command t) t; hint = hint; says = refl }))
+        (all_answered r.me (MayTell true) (name_of r) answer (under_way r) mails
+        (tell_so (MayTell k.0) (MayTell true) (λ number result t. elim t [ inl f ↦ inl f | inr b ↦ inr (refl, b.1) ]) mails k.2)),
   )
 
-  offers : (slot : ℕ) (set : List ℕ) (command : Command) (r : ReplicaState) (mails : List Mail) → Keeps (r, mails) → Keeps (offered slot set command (r, mails))
+  -- a command is offered
+  offers : (slot : ℕ) (set : List ℕ) (command : Command) (r : ReplicaState) (mails : List Mail) → P command → Keeps (r, mails) → Keeps (offered slot set command (r, mails))
   unfolding offered
-  offers slot set command r mails k = (
+  offers slot set command r mails c k = (
     k.0,
-    all_sent r.me Q (Accept (name_of r) r.leader.ballot slot command) (λ to ms q. puts r.me Fact to _ ms tt q) set mails k.1,
+    (k.1.0, (k.1.1.0, k.1.1.1, Each-append (λ (flight : Flight Command). P flight.value) r.leader.flights (record { slot = slot; value = command; voters = None } ∷ []) k.1.1.2 (c, tt), k.1.1.3, k.1.1.4), k.1.2, k.1.3),
+    all_sent r.me (λ ms. TellAs (MayTell k.0) ms) (Accept (name_of r) r.leader.ballot slot command) (λ to ms q. puts r.me (MayTell k.0) to _ ms tt q) set mails k.2,
   )
 
-  jumped_name : (slot : ℕ) (state : Base) (sets : List (List ℕ)) (r : ReplicaState) → name_of (jumped slot state sets r) ≡ name_of r
+  -- a greater ballot is seen
+  saw_later : (ballot : Ballot) (r : ReplicaState) (mails : List Mail) → below r.top ballot ≡ true → Keeps (r, mails) → Keeps (record r { top = ballot }, mails)
+  saw_later ballot r mails t k = (let later = below_round r.top ballot t in let low = k.1.2 in (k.0, (k.1.0, k.1.1, omega (arith, later, low), k.1.3), k.2))
+
+  -- the leader's ballot stays
+  pub with_leader : (ended : Bool) (r : ReplicaState) (leader : LeaderState Command) → leader.ballot ≡ r.leader.ballot → Flights P leader.flights × Reports P leader.reports → Stands ended r → Stands ended (record r { leader = leader })
+  with_leader ended r leader same l k = (
+    k.0,
+    (k.1.0, k.1.1, l.0, l.1, k.1.4),
+    k.2,
+    λ e. elim (k.3 e) [ inl off ↦ inl off | inr later ↦ inr (subst (λ (b : Ballot). round < b.round) (sym same) later) ],
+  )
+
+  other : (ended : Bool) (slot : ℕ) (state : Base) (sets : List (List ℕ)) (r : ReplicaState) → (name_of r ≡ base.core.id) × Held P r × (round ≤ r.top.round) × (ended ≡ true → HasStopped round r)
+      → (let s : ReplicaState = jumped slot state sets r in (name_of s ≡ base.core.id) × Held P s × (round ≤ s.top.round) × (ended ≡ true → HasStopped round s))
   unfolding jumped forgotten
-  jumped_name slot state sets r = refl
+  other ended slot state sets r k = k
+
+  jumped_stands : (ended : Bool) (slot : ℕ) (state : Base) (sets : List (List ℕ)) (r : ReplicaState) → IsState ahead base made h slot state sets → Stands ended r → Stands ended (jumped slot state sets r)
+  jumped_stands ended slot state sets r t k = (let rest = other ended slot state sets r (k.0.0, k.1, k.2, k.3) in ((rest.0, jumps ahead base h lawful made slot state sets r k.0.0 t k.0.1), rest.1, rest.2, rest.3))
 
   -- ---- the walk
 
-  -- what a mail of the group says of its log; votes are counted apart
-  abbrev pub Says : MailBody → Type 0
-  Says (Learn group slot command) = IsLearnt (rule ahead base) h slot command
-  Says (Install group slot state sets) = IsState ahead base made h slot state sets
-  Says (Accepted group ballot slot) = ⊥
-  Says (Request group client seq op) = Unit {0}
-  Says (Answer group seq answer) = Unit {0}
-  Says (Prepare group ballot from_slot) = Unit {0}
-  Says (Promise group ballot reports) = Unit {0}
-  Says (Accept group ballot slot command) = Unit {0}
-  Says (Nack group promised) = Unit {0}
-  Says (Ask group from_slot) = Unit {0}
-  Says (TxPrepare tx offer) = Unit {0}
-  Says (TxVote tx coord part vote) = Unit {0}
-  Says (TxOutcome tx part outcome) = Unit {0}
-  Says (TxElsewhere tx coord hint) = Unit {0}
-  Says (TxWatch tx watch) = Unit {0}
-  Says (TxWatched tx coord part vote) = Unit {0}
-  Says (Told order result) = Unit {0}
+  -- what a mail of the group says; votes are counted apart
+  abbrev pub Says : ℕ → MailBody → Type 0
+  Says from (Accepted group ballot slot) = ⊥
+  Says from (Learn group slot command) = IsLearnt (rule ahead base) h slot command
+  Says from (Install group slot state sets) = IsState ahead base made h slot state sets
+  Says from (Promise group ballot reports) = Reports P reports
+  Says from _ = Unit {0}
 
   abbrev pub reported_facts : TableFacts
   reported_facts = record {
     First = λ r. Unit {0};
     Early = λ place. Keeps place;
     Late = λ place. Keeps place;
-    Hears = λ from body. Says body;
+    Hears = λ from body. Says from body;
     Round = λ ballot. Unit {0};
     Entry = λ slot command. IsLearnt (rule ahead base) h slot command;
     Files = λ act. Unit {0};
-    Orders = λ order. Unit {0};
+    Orders = λ order. P order;
+    Given = λ drawer line. ⊥;
     Child = λ child. Unit {0};
   }
+
+  ready_of : (r : ReplicaState) (command : Command) → at_slot r.ready (next r) ≡ Some command → Ready P r.ready → P command
+  ready_of r command e k = subst (λ (o : Option Command). Opt P o) e (opt_slot P r.ready (next r) k)
+
+  first_act : (r : ReplicaState) (act : Command) (acts : List Command) → r.acts ≡ act ∷ acts → Commands P r.acts → P act × Commands P acts
+  first_act r act acts e k = subst (λ (cs : List Command). Commands P cs) e k
+
+  first_call : (r : ReplicaState) (command : Command) (backlog : List Command) → r.backlog ≡ command ∷ backlog → Commands P r.backlog → P command × Commands P backlog
+  first_call r command backlog e k = subst (λ (cs : List Command). Commands P cs) e k
+
+  pub with_backlog : (r : ReplicaState) (mails : List Mail) (backlog : List Command) → Commands P backlog → Keeps (r, mails) → Keeps (record r { backlog = backlog }, mails)
+  with_backlog r mails backlog c k = (k.0, (k.1.0, (c, k.1.1.1, k.1.1.2, k.1.1.3, k.1.1.4), k.1.2, k.1.3), k.2)
+
+  pub with_acts : (r : ReplicaState) (mails : List Mail) (acts : List Command) → Commands P acts → Keeps (r, mails) → Keeps (record r { acts = acts }, mails)
+  with_acts r mails acts c k = (k.0, (k.1.0, (k.1.1.0, c, k.1.1.2, k.1.1.3, k.1.1.4), k.1.2, k.1.3), k.2)
+
+  no_order : (command : Command) → ((number : ℕ) → IsOf number command → ⊥) → P command
+  no_order command none = λ number own t. absurd (none number own)
 
   pub reported_states : TableStates reported_facts
   reported_states = record {
     late = λ place k. k;
-    again = λ command r mails on e k. (k, Each-among (λ e. IsLearnt (rule ahead base) h e.0 e.1) r.ready (next r, command) k.0.1.is_ready (slot_among r.ready (next r) command e));
-    counted_entry = λ command r mails on e low k. entry_holds true command r Keeps Keeps (entry_keeps true command r k.0 low) mails k;
-    learnt_entry = λ from group command r mails t first k. entry_holds false command r Keeps Keeps (entry_keeps false command r k.0 t) mails k;
+    again = λ command r mails on e k. (k, Each-among (λ e. IsLearnt (rule ahead base) h e.0 e.1) r.ready (next r, command) k.1.0.1.is_ready (slot_among r.ready (next r) command e));
+    counted_entry = λ command r mails on e low k. entry_holds true command r Keeps Keeps (entry_keeps true command r k.1.0 low (λ _. ready_of r command e k.1.1.4)) mails k;
+    learnt_entry = λ from group command r mails t first k. entry_holds false command r Keeps Keeps (entry_keeps false command r k.1.0 t (λ e. absurd (true≢false (sym e)))) mails k;
     children = λ counted command r mails child may e k. tt;
-    jumped = λ from group slot state sets r mails t many later off k. ((jumped_name slot state sets r ∙ k.0.0, jumps ahead base h lawful made slot state sets r k.0.0 t k.0.1), k.1);
+    jumped = λ from group slot state sets r mails t many later off k. (k.0, jumped_stands k.0 slot state sets r t k.1, k.2);
     hinted = λ hint r mails off k. k;
     stops = λ hint r mails on k. ends hint _ r mails k;
     goes = λ into r mails on e k. ends None _ r mails k;
-    overtaken = λ ballot r mails good on t k. ends (Some ballot.node) _ _ mails (either_way (λ (x : ReplicaState). Keeps (x, mails)) (below r.top ballot) (record r { top = ballot }) r k k);
-    elected = λ r mails k. ((k.0.0, unready ahead base h lawful r k.0.1),
-        all_sent r.me Q (Prepare (name_of r) (record { round = r.top.round + 1; node = r.me }) (next r)) (λ to ms q. puts r.me Fact to _ ms tt q) (open_nodes r.sets) mails k.1);
-    seen = λ ballot r mails good t on k. k;
-    polled = λ from group ballot reports r mails on t k. k;
-    counts = λ from ballot slot set count r mails on e k. k;
+    overtaken = λ ballot r mails good on t k. ends (Some ballot.node) _ (cond (below r.top ballot) (record r { top = ballot }) r) mails (cond_both (below r.top ballot) (record r { top = ballot }) r (λ (x : ReplicaState). Keeps (x, mails)) (λ later. saw_later ballot r mails later k) (λ _. k));
+    elected = λ r mails k. (let low = k.1.2 in (
+        k.0,
+        ((k.1.0.0, unready ahead base h lawful r k.1.0.1), (k.1.1.0, k.1.1.1, tt, tt, tt), omega (arith, low), λ _. inr (omega (arith, low))),
+        all_sent r.me (λ ms. TellAs (MayTell k.0) ms) (Prepare (name_of r) (record { round = r.top.round + 1; node = r.me }) (next r)) (λ to ms q. puts r.me (MayTell k.0) to _ ms tt q) (open_nodes r.sets) mails k.2,
+      ));
+    seen = λ ballot r mails good t on k. saw_later ballot r mails t k;
+    polled = λ from group ballot reports r mails on t k. (k.0, with_leader k.0 r (promise_counted from ballot reports r.leader).1 (promise_ballot from ballot reports r.leader) (polled_held P from ballot reports r.leader t (k.1.1.2, k.1.1.3)) k.1, k.2);
+    counts = λ from ballot slot set count r mails on e k. (k.0, with_leader k.0 r (counted from ballot slot set r.leader).1 (counted_ballot from ballot slot set r.leader) (counted_held P from ballot slot set r.leader (k.1.1.2, k.1.1.3)) k.1, k.2);
     chosen = λ from group ballot slot set command r mails on e t k. absurd t;
-    promised = λ from group ballot from_slot r mails t top may k. (k.0, puts r.me Fact from _ mails tt k.1);
-    accepted = λ from group report r mails t top may k. (k.0, puts r.me Fact from _ mails tt k.1);
-    filed = λ act r mails on q e brought k. k;
-    ordered = λ order r mails on q may k. k;
-    requested = λ client seq op r mails on e k. k;
-    requested_again = λ client seq other op r mails on e g k. k;
-    turned = λ command answer backlog r mails on e no k. (k.0, one_answered r.me Fact r.group.core.id answer command mails k.1);
-    offers_value = λ slot set command r mails on near free e k. offers slot set command r mails k;
-    offers_noop = λ slot set r mails on near free k. offers slot set Noop r mails k;
-    offers_act = λ slot set act acts r mails on near free e k. offers slot set act (record r { acts = acts }) mails k;
-    offers_call = λ slot set command backlog r mails on near free e k. offers slot set command (record r { backlog = backlog }) mails k;
+    promised = λ from group ballot from_slot r mails t top may k. (k.0, k.1, puts r.me (MayTell k.0) from _ mails tt k.2);
+    accepted = λ from group report r mails t top may k. (k.0, k.1, puts r.me (MayTell k.0) from _ mails tt k.2);
+    filed = λ act r mails on q e brought k. with_acts r mails (r.acts ++ act ∷ []) (last_held P r.acts act (filed_waits W act q) k.1.1.1) k;
+    ordered = λ order r mails on q may k. with_backlog r mails (r.backlog ++ order ∷ []) (last_held P r.backlog order may k.1.1.0) k;
+    requested = λ client seq op r mails on e k. with_backlog r mails (r.backlog ++ Call client seq op ∷ []) (last_held P r.backlog (Call client seq op) (no_order (Call client seq op) (λ number own. own)) k.1.1.0) k;
+    requested_again = λ client seq other op r mails on e g k.
+        with_backlog r mails (without_request r.backlog client ++ Call client seq op ∷ []) (last_held P (without_request r.backlog client) (Call client seq op) (no_order (Call client seq op) (λ number own. own)) (without_held P r.backlog client k.1.1.0)) k;
+    turned = λ command answer backlog r mails on e no k. (let rest = with_backlog r mails backlog (first_call r command backlog e k.1.1.0).1 k in
+        (rest.0, rest.1, one_answered r.me (MayTell rest.0) r.group.core.id answer command mails rest.2));
+    offers_value = λ slot set command r mails on near free e k. offers slot set command r mails (must_held P slot r.leader command e (k.1.1.2, k.1.1.3)) k;
+    offers_noop = λ slot set r mails on near free k. offers slot set Noop r mails (no_order Noop (λ number own. own)) k;
+    offers_act = λ slot set act acts r mails on near free e k. (let one = first_act r act acts e k.1.1.1 in offers slot set act (record r { acts = acts }) mails one.0 (with_acts r mails acts one.1 k));
+    offers_call = λ slot set command backlog r mails on near free e k. (let one = first_call r command backlog e k.1.1.0 in offers slot set command (record r { backlog = backlog }) mails one.0 (with_backlog r mails backlog one.1 k));
   }
 
   pub reported_says : TableSays reported_facts
   reported_says = record {
-    refuses = λ from group client seq op answer r mails t e k. (k.0, answer_tells r.me Fact client (name_of r) seq answer mails k.1);
-    tells = λ drawer line why r mails e k. (k.0, puts r.me Fact 0 _ mails (refused line.number why) k.1);
-    votes = λ from tx offer vote r mails t e k. (k.0, vote_tells r.me Fact r.group from tx offer vote mails k.1);
-    sees = λ from tx watch vote r mails t e k. (k.0, watch_tells r.me Fact from tx watch vote mails k.1);
-    vote_ends = λ from tx coord part vote outcome r mails t e k. (k.0, outcome_tells r.me Fact from tx part outcome mails k.1);
-    watch_ends = λ from tx coord part vote outcome r mails t e k. (k.0, outcome_tells r.me Fact from tx part outcome mails k.1);
-    offer_sent_on = λ from tx offer r mails t k. (k.0, puts r.me Fact from _ mails tt k.1);
-    watch_sent_on = λ from tx watch r mails t k. (k.0, puts r.me Fact from _ mails tt k.1);
-    asks_next = λ from tx coord hint r mails t k. (k.0, next_tells r.me Fact r.group.core.lock r.group.core from tx hint mails k.1);
-    prepare_behind = λ from group ballot from_slot r mails t found low k. (k.0, puts r.me Fact from _ mails tt k.1);
-    accept_behind = λ from group report r mails t found low k. (k.0, puts r.me Fact from _ mails tt k.1);
-    ask_behind = λ from group slot r mails t k. (k.0, puts r.me Fact from _ mails tt k.1);
-    recalls = λ from group asked slot command r mails t e k. (k.0, puts r.me Fact from _ mails tt k.1);
-    wants = λ from group slot command r mails t low k. (k.0, puts r.me Fact from _ mails tt k.1);
-    prepare_nacked = λ from group ballot from_slot r mails t found no k. (k.0, puts r.me Fact from _ mails tt k.1);
-    accept_nacked = λ from group report r mails t found no k. (k.0, puts r.me Fact from _ mails tt k.1);
+    refuses = λ from group client seq op answer r mails t e k. (k.0, k.1, answer_tells r.me (MayTell k.0) client (name_of r) seq answer mails k.2);
+    tells = λ drawer line why r mails given e k. absurd given;
+    votes = λ from tx offer vote r mails t e k. (k.0, k.1, vote_tells r.me (MayTell k.0) r.group from tx offer vote mails k.2);
+    sees = λ from tx watch vote r mails t e k. (k.0, k.1, watch_tells r.me (MayTell k.0) from tx watch vote mails k.2);
+    vote_ends = λ from tx coord part vote outcome r mails t e k. (k.0, k.1, outcome_tells r.me (MayTell k.0) from tx part outcome mails k.2);
+    watch_ends = λ from tx coord part vote outcome r mails t e k. (k.0, k.1, outcome_tells r.me (MayTell k.0) from tx part outcome mails k.2);
+    offer_sent_on = λ from tx offer r mails t k. (k.0, k.1, puts r.me (MayTell k.0) from _ mails tt k.2);
+    watch_sent_on = λ from tx watch r mails t k. (k.0, k.1, puts r.me (MayTell k.0) from _ mails tt k.2);
+    asks_next = λ from tx coord hint r mails t k. (k.0, k.1, next_tells r.me (MayTell k.0) r.group.core.lock r.group.core from tx hint mails k.2);
+    prepare_behind = λ from group ballot from_slot r mails t found low k. (k.0, k.1, puts r.me (MayTell k.0) from _ mails tt k.2);
+    accept_behind = λ from group report r mails t found low k. (k.0, k.1, puts r.me (MayTell k.0) from _ mails tt k.2);
+    ask_behind = λ from group slot r mails t k. (k.0, k.1, puts r.me (MayTell k.0) from _ mails tt k.2);
+    recalls = λ from group asked slot command r mails t e k. (k.0, k.1, puts r.me (MayTell k.0) from _ mails tt k.2);
+    wants = λ from group slot command r mails t low k. (k.0, k.1, puts r.me (MayTell k.0) from _ mails tt k.2);
+    prepare_nacked = λ from group ballot from_slot r mails t found no k. (k.0, k.1, puts r.me (MayTell k.0) from _ mails tt k.2);
+    accept_nacked = λ from group report r mails t found no k. (k.0, k.1, puts r.me (MayTell k.0) from _ mails tt k.2);
   }
 
   abbrev pub reported_walk : TableWalk
   reported_walk = record { facts = reported_facts; hears = all_heard reported_facts (λ ballot. tt) (λ act. tt); states = reported_states; says = reported_says }
 
-  reported_ticks : TableTicks reported_facts
+  pub reported_ticks : TableTicks reported_facts
   reported_ticks = record {
     waited = λ waits r mails k. k;
-    gives_up = λ tx body order heard r mails e on no k. k;
-    reminds = λ r mails on k. (k.0, reminders_tell r.me Fact r.group.core.lock r.group mails k.1);
-    reasks = λ to slot command r mails on e k. (k.0, puts r.me Fact to _ mails tt k.1);
-    relearns = λ to command r mails e k. (k.0, puts r.me Fact to _ mails tt k.1);
+    gives_up = λ tx body order heard r mails e on no k. with_acts r mails (r.acts ++ GiveUp tx ∷ []) (last_held P r.acts (GiveUp tx) (no_order (GiveUp tx) (λ number own. own)) k.1.1.1) k;
+    reminds = λ r mails on k. (k.0, k.1, reminders_tell r.me (MayTell k.0) r.group.core.lock r.group mails k.2);
+    reasks = λ to slot command r mails on e k. (k.0, k.1, puts r.me (MayTell k.0) to _ mails tt k.2);
+    relearns = λ to command r mails e k. (k.0, k.1, puts r.me (MayTell k.0) to _ mails tt k.2);
   }
-
-  -- ---- a vote that is counted
-
-  readied_keeps : (slot : ℕ) (command : Command) (r : ReplicaState) (mails : List Mail) → r.running ≡ true → IsLearnt (rule ahead base) h slot command → Keeps (r, mails) → Keeps (readied slot command (r, mails)).0
-  unfolding readied
-  readied_keeps slot command r mails on t k =
-      let after : ReplicaState = record r { ready = with_slot r.ready slot command } in
-      let more : Keeps (after, mails) = ((k.0.0, readies_more ahead base h lawful slot command r t k.0.1), k.1) in
-      cond_both (eqb slot (next r) && has_room r) (executed true command (after, mails)) (childless (after, mails)) (λ (step : Executed). Keeps step.0)
-      (λ e. (let is_next = eqb-true slot (next r) (and_parts (eqb slot (next r)) (has_room r) e).0 in
-          (execution reported_walk true command (after, mails) (on, subst (λ s. at_slot (with_slot r.ready slot command) s ≡ Some command) is_next (slot_there r.ready slot command), subst (λ s. IsLearnt (rule ahead base) h s command) is_next t) more).0)) (λ _. more)
-
-  tallied_keeps : (slot : ℕ) (p : Counted Command × LeaderState Command) (r : ReplicaState) (mails : List Mail) → r.running ≡ true → ((command : Command) → p.0 ≡ Chosen command → IsLearnt (rule ahead base) h slot command) → Keeps (r, mails) → Keeps (vote_tallied slot p (r, mails)).0
-  tallied_keeps slot (Chosen command, leader) r mails on t k = readied_keeps slot command (record r { leader = leader }) mails on (t command refl) k
-  tallied_keeps slot (NotYet count, leader) r mails on t k = k
-
-  voted_keeps : (me from : ℕ) (ballot : Ballot) (slot : ℕ) (o : Option (List ℕ)) (r : ReplicaState) (mails : List Mail) → set_at slot r ≡ o → r.running ≡ true → ballot ≡ r.leader.ballot → IsReplica ahead base made h me r → (d : Command) → Among (AcceptedStep from ballot slot d) h
-      → Keeps (r, mails) → Keeps (voted from ballot slot o (r, mails)).0
-  voted_keeps me from ballot slot None r mails e on is replica d did k = k
-  voted_keeps me from ballot slot (Some set) r mails e on is replica d did k = tallied_keeps slot (counted from ballot slot set r.leader) r mails on (vote_chooses ahead base h lawful made me from slot ballot set r replica d did is e) k
-
-  counted_keeps : (me from : ℕ) (ballot : Ballot) (slot : ℕ) (r : ReplicaState) (mails : List Mail) → IsReplica ahead base made h me r → (d : Command) → Among (AcceptedStep from ballot slot d) h → Keeps (r, mails) → Keeps (accepted_row from ballot slot (r, mails)).0
-  unfolding accepted_row
-  counted_keeps me from ballot slot r mails replica d did k =
-      cond_both (leads ballot r) (voted from ballot slot (set_at slot r) (r, mails)) (childless (r, mails)) (λ (step : Executed). Keeps step.0)
-      (λ t. (let parts = and_parts r.running (same_ballot ballot r.leader.ballot) t in voted_keeps me from ballot slot (set_at slot r) r mails refl parts.0 (ballot_is ballot r.leader.ballot parts.1) replica d did k)) (λ _. k)
-
-  -- ---- all rows
-
-  begins : (me : ℕ) (r : ReplicaState) (mails : List Mail) → IsReplica ahead base made h me r → name_of r ≡ base.core.id → Q mails → Keeps (r, mails)
-  begins me r mails replica same m = ((same, is_logged ahead base h lawful made me r replica), m)
-
-  pub mailed_reports : (me from : ℕ) (body : MailBody) (r : ReplicaState) (mails : List Mail) → Brings ahead base h made from body → IsReplica ahead base made h me r → name_of r ≡ base.core.id → Q mails → Q (mailed from body (r, mails)).0.1
-  unfolding mailed
-  mailed_reports me from (Accepted group ballot slot) r mails t replica same m = (counted_keeps me from ballot slot r mails replica t.0 t.1 (begins me r mails replica same m)).1
-  mailed_reports me from (Learn group slot command) r mails t replica same m = (rows.takes_mail reported_walk from (Learn group slot command) (r, mails) t tt (begins me r mails replica same m)).0.1
-  mailed_reports me from (Install group slot state sets) r mails t replica same m = (rows.takes_mail reported_walk from (Install group slot state sets) (r, mails) t tt (begins me r mails replica same m)).0.1
-  mailed_reports me from (Request group client seq op) r mails t replica same m = (rows.takes_mail reported_walk from (Request group client seq op) (r, mails) tt tt (begins me r mails replica same m)).0.1
-  mailed_reports me from (Prepare group ballot from_slot) r mails t replica same m = (rows.takes_mail reported_walk from (Prepare group ballot from_slot) (r, mails) tt tt (begins me r mails replica same m)).0.1
-  mailed_reports me from (Promise group ballot reports) r mails t replica same m = (rows.takes_mail reported_walk from (Promise group ballot reports) (r, mails) tt tt (begins me r mails replica same m)).0.1
-  mailed_reports me from (Accept group ballot slot command) r mails t replica same m = (rows.takes_mail reported_walk from (Accept group ballot slot command) (r, mails) tt tt (begins me r mails replica same m)).0.1
-  mailed_reports me from (Nack group ballot) r mails t replica same m = (rows.takes_mail reported_walk from (Nack group ballot) (r, mails) tt tt (begins me r mails replica same m)).0.1
-  mailed_reports me from (Ask group from_slot) r mails t replica same m = (rows.takes_mail reported_walk from (Ask group from_slot) (r, mails) tt tt (begins me r mails replica same m)).0.1
-  mailed_reports me from (Answer group seq answer) r mails t replica same m = (rows.takes_mail reported_walk from (Answer group seq answer) (r, mails) tt tt (begins me r mails replica same m)).0.1
-  mailed_reports me from (TxPrepare tx offer) r mails t replica same m = (rows.takes_mail reported_walk from (TxPrepare tx offer) (r, mails) tt tt (begins me r mails replica same m)).0.1
-  mailed_reports me from (TxVote tx coord part vote) r mails t replica same m = (rows.takes_mail reported_walk from (TxVote tx coord part vote) (r, mails) tt tt (begins me r mails replica same m)).0.1
-  mailed_reports me from (TxOutcome tx part outcome) r mails t replica same m = (rows.takes_mail reported_walk from (TxOutcome tx part outcome) (r, mails) tt tt (begins me r mails replica same m)).0.1
-  mailed_reports me from (TxElsewhere tx coord hint) r mails t replica same m = (rows.takes_mail reported_walk from (TxElsewhere tx coord hint) (r, mails) tt tt (begins me r mails replica same m)).0.1
-  mailed_reports me from (TxWatch tx watch) r mails t replica same m = (rows.takes_mail reported_walk from (TxWatch tx watch) (r, mails) tt tt (begins me r mails replica same m)).0.1
-  mailed_reports me from (TxWatched tx coord part vote) r mails t replica same m = (rows.takes_mail reported_walk from (TxWatched tx coord part vote) (r, mails) tt tt (begins me r mails replica same m)).0.1
-  mailed_reports me from (Told order result) r mails t replica same m = (rows.takes_mail reported_walk from (Told order result) (r, mails) tt tt (begins me r mails replica same m)).0.1
-
-  pub ordered_reports : (me : ℕ) (drawer : Drawer) (line : OrderLine) (r : ReplicaState) (mails : List Mail) → IsReplica ahead base made h me r → name_of r ≡ base.core.id → Q mails → Q (ordered_row drawer line (r, mails)).1
-  ordered_reports me drawer line r mails replica same m = (rows.orders reported_walk drawer line (r, mails) (λ e. tt) (begins me r mails replica same m)).1
-
-  pub ticked_reports : (me : ℕ) (on : Bool) (drawer : Drawer) (r : ReplicaState) (mails : List Mail) → IsReplica ahead base made h me r → name_of r ≡ base.core.id → Q mails → Q (tick_row on drawer (r, mails)).1
-  ticked_reports me on drawer r mails replica same m = (tick.ticks reported_walk reported_ticks on drawer (r, mails) (λ here f line e taken. tt) (begins me r mails replica same m)).1
-
-  made_name : (me : ℕ) (group : Draw) (slot : ℕ) (state : Base) (sets : List (List ℕ)) → name_of (installed_replica me slot (named group state) sets) ≡ group
-  unfolding forgotten
-  made_name me group slot state sets = refl
-
-  pub made_reports : (me from : ℕ) (group : Draw) (slot : ℕ) (state : Base) (sets : List (List ℕ)) → group ≡ base.core.id → IsState ahead base made h slot state sets → Q (made_by me from group slot state sets).1
-  made_reports me from group slot state sets same t = (rows.makes reported_walk me from group slot state sets ((made_name me group slot state sets ∙ same, makes ahead base h lawful made me group slot state sets same t), tt)).1
