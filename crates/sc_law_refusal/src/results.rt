@@ -1,6 +1,6 @@
 //! The law of the results of orders: what the parts of a replica's table report of an order is what
-//! the entry that ends it has decided, or why it was refused. Definitions and laws; no code that
-//! runs.
+//! the entry that ends it has decided, or why it was refused. Of the rows of a journal it is a
+//! clause of `valid_journals_refuse_with_cause`. Definitions and laws; no code that runs.
 ghost use Rattle.sc_law_refusal.specs.results.Results.{ReportsAreDecided};
 
 /// Shows what a replica's table reports of orders, part by part. Of an entry that it executes a
