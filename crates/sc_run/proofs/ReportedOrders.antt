@@ -22,20 +22,20 @@ module _ (Fact : ℕ → OrderResult → Type 0) (number : ℕ) (result : OrderR
 
   in_mails : (sent : List Mail) → reported_of number sent ≡ Some result → TellAs Fact sent → Fact number result
   in_mails [] e facts = cc
-  in_mails (mail ∷ more) e facts = by (reported_in_mail number mail.body) refl e
+  in_mails (mail ∷ more) e facts = by (reported_in_mail number mail.body) refl e (λ g. in_mails more g facts.1)
     where
-      by : (o : Option OrderResult) → reported_in_mail number mail.body ≡ o → either o (reported_of number more) ≡ Some result → Fact number result
-      by None f g = in_mails more g facts.1
-      by (Some told) f g = in_mail mail.body (f ∙ g) facts.0
+      by : (o : Option OrderResult) → reported_in_mail number mail.body ≡ o → either o (reported_of number more) ≡ Some result → (reported_of number more ≡ Some result → Fact number result) → Fact number result
+      by None f g rest = rest g
+      by (Some told) f g rest = in_mail mail.body (f ∙ g) facts.0
 
 -- of two lists of mail, the first that reports of an order says its result
 of_both : (number : ℕ) (sent more : List Mail) → reported_of number (sent ++ more) ≡ either (reported_of number sent) (reported_of number more)
 of_both number [] more = refl
-of_both number (mail ∷ sent) more = by (reported_in_mail number mail.body)
+of_both number (mail ∷ sent) more = by (reported_in_mail number mail.body) (of_both number sent more)
   where
-    by : (o : Option OrderResult) → either o (reported_of number (sent ++ more)) ≡ either (either o (reported_of number sent)) (reported_of number more)
-    by None = of_both number sent more
-    by (Some told) = refl
+    by : (o : Option OrderResult) → reported_of number (sent ++ more) ≡ either (reported_of number sent) (reported_of number more) → either o (reported_of number (sent ++ more)) ≡ either (either o (reported_of number sent)) (reported_of number more)
+    by None rest = rest
+    by (Some told) rest = refl
 
 module _ (scenario : Scenario) (journal : List (Row Mail OrderLine)) (refuses : RefusesWithCause as_nodes scenario journal) (number : ℕ) (result : OrderResult) where
   abbrev Is : Type 0
@@ -43,14 +43,15 @@ module _ (scenario : Scenario) (journal : List (Row Mail OrderLine)) (refuses : 
 
   from_rows : (rows before : List (Row Mail OrderLine)) → journal ≡ before ++ rows → reported_of number (mails before) ≡ None → reported_of number (mails rows) ≡ Some result → Is
   from_rows [] before are none e = cc
-  from_rows (row ∷ rows) before are none e = by (reported_of number row.sent) refl (sym (of_both number row.sent (mails rows)) ∙ e)
+  from_rows (row ∷ rows) before are none e = by (reported_of number row.sent) refl (sym (of_both number row.sent (mails rows)) ∙ e) (from_rows rows (before ++ row ∷ []) (are ∙ sym (append_assoc before (row ∷ []) rows)))
     where
-      by : (o : Option OrderResult) → reported_of number row.sent ≡ o → either (reported_of number row.sent) (reported_of number (mails rows)) ≡ Some result → Is
-      by None f g =
-          from_rows rows (before ++ row ∷ []) (are ∙ sym (append_assoc before (row ∷ []) rows))
+      -- no mail of the row reports of the order, or the first that does says the result
+      by : (o : Option OrderResult) → reported_of number row.sent ≡ o → either (reported_of number row.sent) (reported_of number (mails rows)) ≡ Some result
+          → (reported_of number (mails (before ++ row ∷ [])) ≡ None → reported_of number (mails rows) ≡ Some result → Is) → Is
+      by None f g rest = rest
           (ap (λ (ms : List Mail). reported_of number ms) (mails-snoc before row) ∙ of_both number (mails before) row.sent ∙ ap (λ (o : Option OrderResult). either o (reported_of number row.sent)) none ∙ f)
           (ap (λ (o : Option OrderResult). either o (reported_of number (mails rows))) (sym f) ∙ g)
-      by (Some told) f g =
+      by (Some told) f g rest =
           let same : Some told ≡ Some result = ap (λ (o : Option OrderResult). either o (reported_of number (mails rows))) (sym f) ∙ g in
           let reports : reported_of number row.sent ≡ Some result = f ∙ same in
           record {

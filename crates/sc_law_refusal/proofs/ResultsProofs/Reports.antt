@@ -7,7 +7,7 @@ use Rattle.sc_node_table.specs.Values.{Draw, Body, Offer, Watch, Command, Noop, 
 use Rattle.sc_words.specs.declared.commands.bodies.Body.TheVariants as At
 use Rattle.sc_words.specs.declared.commands.effects.Effect.TheVariants as Was
 use Rattle.sc_words.specs.declared.commands.orders.OrderRefusal.TheVariants.{NotLeader}
-use Rattle.sc_words.specs.declared.commands.orders.OrderResult.TheVariants.{Done, Refused}
+use Rattle.sc_words.specs.declared.commands.orders.OrderResult.TheVariants.{Done, Committed, Aborted, Refused}
 use Rattle.sc_words.specs.declared.commands.votes.Outcome.TheVariants as Is
 use Rattle.sc_words.specs.declared.commands.votes.Past.TheVariants as Cast
 use Rattle.sc_words.specs.declared.commands.votes.Vote.TheVariants as Says
@@ -287,5 +287,25 @@ orders_end : (drawer : Drawer) (line : OrderLine) (r : ReplicaState) (why : Orde
 unfolding ordered_row
 orders_end drawer line r why e = ap (λ (o : Option OrderRefusal). queued_or_refused o line.number (ordered_command (next_name drawer) line.number line.order) (r, [])) e
 
+-- ---- an entry ends an order with one result
+
+ends_once : (group : Group) (command : Command) (order : ℕ) (result other : OrderResult) → EndsOrder group command order result → EndsOrder group command order other → result ≡ other
+ends_once group command order Done Done a b = refl
+ends_once group command order Done Committed a b = (let apart : Was.Changed ≡ Was.Decided b.outcome = sym a.effect ∙ b.effect in cc)
+ends_once group command order Done Aborted a b = (let apart : Was.Changed ≡ Was.Decided b.outcome = sym a.effect ∙ b.effect in cc)
+ends_once group command order Done (Refused why) a b = (let apart : Was.Changed ≡ Was.Refused why = sym a.effect ∙ b.effect in cc)
+ends_once group command order Committed Done a b = (let apart : Was.Decided a.outcome ≡ Was.Changed = sym a.effect ∙ b.effect in cc)
+ends_once group command order Committed Committed a b = refl
+ends_once group command order Committed Aborted a b = (let both : Was.Decided a.outcome ≡ Was.Decided b.outcome = sym a.effect ∙ b.effect in let same : a.outcome ≡ b.outcome = cc in absurd (subst IsCommit (same ∙ b.such) a.such))
+ends_once group command order Committed (Refused why) a b = (let apart : Was.Decided a.outcome ≡ Was.Refused why = sym a.effect ∙ b.effect in cc)
+ends_once group command order Aborted Done a b = (let apart : Was.Decided a.outcome ≡ Was.Changed = sym a.effect ∙ b.effect in cc)
+ends_once group command order Aborted Committed a b = (let both : Was.Decided a.outcome ≡ Was.Decided b.outcome = sym a.effect ∙ b.effect in let same : a.outcome ≡ b.outcome = cc in absurd (subst IsCommit (sym same ∙ a.such) b.such))
+ends_once group command order Aborted Aborted a b = refl
+ends_once group command order Aborted (Refused why) a b = (let apart : Was.Decided a.outcome ≡ Was.Refused why = sym a.effect ∙ b.effect in cc)
+ends_once group command order (Refused why) Done a b = (let apart : Was.Refused why ≡ Was.Changed = sym a.effect ∙ b.effect in cc)
+ends_once group command order (Refused why) Committed a b = (let apart : Was.Refused why ≡ Was.Decided b.outcome = sym a.effect ∙ b.effect in cc)
+ends_once group command order (Refused why) Aborted a b = (let apart : Was.Refused why ≡ Was.Decided b.outcome = sym a.effect ∙ b.effect in cc)
+ends_once group command order (Refused why) (Refused other) a b = (let both : Was.Refused why ≡ Was.Refused other = sym a.effect ∙ b.effect in let same : why ≡ other = cc in ap Refused same)
+
 pub reports_are_decided : ReportsAreDecided
-reports_are_decided = record { entries = entries_end; queues = queues_end; orders = orders_end }
+reports_are_decided = record { once = ends_once; entries = entries_end; queues = queues_end; orders = orders_end }
