@@ -105,4 +105,4 @@ reported node line a =
 -- what the third row reports has happened: after the first two the group's log has the order's entry, whose effect is Changed
 happened : ReportsWhatHappened as_nodes joined (take 2 rows) third
 unfolding rows ordered lines_of
-happened = (record { base = alone; stands = inl refl; prefix = []; entry = Joins 2 1; later = []; log_is = refl; ends = record { own = refl; at_once = tt; effect = refl } }, tt, tt)
+happened = (record { base = alone; stands = inl refl; prefix = []; entry = Joins 2 1; later = []; log_is = refl; ends = record { own = refl; at_once = tt; effect = refl } }, (tt, tt))
