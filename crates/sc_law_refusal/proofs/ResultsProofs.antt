@@ -1,6 +1,5 @@
 pub mod Reports
 pub mod SilentMail
-pub mod HeldCommands
 pub mod LoggedReplicas
 pub mod ReportedRows
 pub mod ReportedSteps

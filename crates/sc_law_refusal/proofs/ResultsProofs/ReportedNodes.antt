@@ -18,7 +18,7 @@ use Rattle.sc_law_refusal.specs.refusal.Definitions.{IsBroughtBy, IsHeldOrBrough
 use Rattle.sc_law_refusal.specs.refusal.Causes.{IsBrought}
 use Rattle.sc_law_refusal.specs.results.Definitions.{IsOf, EndsOrder, TellAs, LeadsNot, FindsWhy, RefusesLine, IsNotTaken, IsDismissed}
 use Rattle.sc_law_refusal.proofs.RefusalProofs.NodeSteps.{put_among, children_among}
-use Rattle.sc_law_refusal.proofs.ResultsProofs.HeldCommands.{Commands, Flights, Reports, Ready, Held}
+use Rattle.sc_law_refusal.proofs.HeldCommands.{Commands, Flights, Reports, Ready, Held}
 use Rattle.sc_law_refusal.proofs.ResultsProofs.ReportedRows.{tell_so, Waits, IsBack, HasStopped, Brings}
 use Rattle.sc_law_refusal.proofs.ResultsProofs.ReportedSteps.{number_is, begins, mailed_ends, ordered_ends, ticked_ends, made_ends}
 

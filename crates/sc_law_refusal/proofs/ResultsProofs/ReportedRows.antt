@@ -21,7 +21,7 @@ use Rattle.sc_law_walks.proofs.Talks.{all_sent}
 use Rattle.sc_law_refusal.specs.results.Definitions.{IsOf, EndsOrder, IfTold, TellAs}
 use Rattle.sc_law_refusal.proofs.ResultsProofs.Reports.{puts, reported, begun_said, went_said, one_answered, all_answered, all_dismissed, order_ends, begun_ends, is_of}
 use Rattle.sc_law_refusal.proofs.ResultsProofs.SilentMail.{reminders_tell, next_tells, vote_tells, watch_tells, outcome_tells, answer_tells}
-use Rattle.sc_law_refusal.proofs.ResultsProofs.HeldCommands.{Commands, Flights, Reports, Ready, Held, without_held, back_held, last_held, flying_held, polled_held, counted_held, must_held}
+use Rattle.sc_law_refusal.proofs.HeldCommands.{Commands, Flights, Reports, Ready, Held, without_held, back_held, last_held, flying_held, polled_held, counted_held, must_held}
 use Rattle.sc_law_refusal.proofs.ResultsProofs.LoggedReplicas.{IsLogged, longer_is, enters, clears, unready, jumps}
 
 -- what tells so tells what follows from it

@@ -22,7 +22,7 @@ use Rattle.sc_law_walks.proofs.TableRows as rows
 use Rattle.sc_law_walks.proofs.TableTicks as tick
 use Rattle.sc_law_refusal.specs.results.Definitions.{IsOf, EndsOrder, TellAs}
 use Rattle.sc_law_refusal.proofs.ResultsProofs.Reports.{puts}
-use Rattle.sc_law_refusal.proofs.ResultsProofs.HeldCommands.{Flights, Reports, Held, last_held, counted_held, chosen_held}
+use Rattle.sc_law_refusal.proofs.HeldCommands.{Flights, Reports, Held, last_held, counted_held, chosen_held}
 use Rattle.sc_law_refusal.proofs.ResultsProofs.LoggedReplicas.{is_logged, readies_more, makes, vote_chooses}
 use Rattle.sc_law_refusal.proofs.ResultsProofs.ReportedRows.{tell_so, Waits, IsBack, HasStopped, Brings, MayTell, Keeps, with_leader, with_backlog, reported_walk, reported_ticks}
 
