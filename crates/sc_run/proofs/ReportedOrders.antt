@@ -1,5 +1,5 @@
 -- The result that a report gives of an order has happened in the row that reports it first.
-use Rattle.std.proofs.Common.{◌≡◌, ℕ, refl, sym, ◌∙◌, ap, subst, List, [], ◌∷◌, ◌++◌, append_assoc, eqb, cond, Option, Some, None}
+use Rattle.std.proofs.Common.{◌≡◌, ℕ, refl, sym, ◌∙◌, ap, subst, List, [], ◌∷◌, ◌++◌, append_assoc, eqb, Option, Some, None}
 use Rattle.std.proofs.lemmas.Bool.{cond_both, eqb-true}
 use Rattle.sc_node_table.specs.Values.{OrderLine, OrderResult, Mail, MailBody, Row, Request, Told}
 use Rattle.sc_node_table.specs.Replica.{either}

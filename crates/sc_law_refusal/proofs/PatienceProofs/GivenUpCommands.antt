@@ -1,13 +1,12 @@
 -- What holds of each GiveUp that stands at a replica is kept by the parts of its state.
-use Rattle.std.proofs.Common.{◌≡◌, ℕ, ◌-◌, ◌&&◌, not, nat_lt, eqb, Bool, List, [], ◌∷◌, Option, Some, None, subst}
-use Rattle.sc_base.specs.Definitions.{Each, same_ballot, is_member, is_majority}
-use Rattle.sc_node_table.specs.Values.{Ballot, Draw, Command, Noop, Call, Join, Leave, Split, Begin, Prepared, RecordVote, GiveUp, Finish, Watched, RecordWatch, Counted, Chosen, NotYet, Flight, Report, Must, Gap, MailBody, Request, Answer, Prepare, Promise, Accept, Accepted, Nack, Learn, Ask, Install, TxPrepare, TxVote, TxOutcome, TxElsewhere, TxWatch, TxWatched, Told}
-use Rattle.sc_words.specs.declared.paxos.answers.Must.TheVariants.{Value, Free as Open}
-use Rattle.sc_words.proofs.PaxosProofs.Lemmas.{Each-append, Each-filter}
-use Rattle.sc_words.specs.paxos.Definitions.{AcceptorState, LeaderState, flight_at, promise_counted, entry_at, kept_voters, voters_after, tallied, vote_at, counted, choice, chosen_value, names_above, must, must_without, without_flight_at}
-use Rattle.sc_node_table.specs.Definitions.{ReplicaState, floor_of, forgotten, flying, with_slot, without_slot, queued_number, is_request_of, without_request, request_before, put_back}
+use Rattle.std.proofs.Common.{ℕ, ◌-◌, nat_lt, List, Option}
+use Rattle.sc_base.specs.Definitions.{Each}
+use Rattle.sc_node_table.specs.Values.{Ballot, Draw, Command, Noop, Call, Join, Leave, Split, Begin, Prepared, RecordVote, GiveUp, Finish, Watched, RecordWatch, Flight, Report, MailBody, Request, Answer, Prepare, Promise, Accept, Accepted, Nack, Learn, Ask, Install, TxPrepare, TxVote, TxOutcome, TxElsewhere, TxWatch, TxWatched, Told}
+use Rattle.sc_words.proofs.PaxosProofs.Lemmas.{Each-filter}
+use Rattle.sc_words.specs.paxos.Definitions.{AcceptorState, LeaderState, promise_counted, entry_at, counted, without_flight_at}
+use Rattle.sc_node_table.specs.Definitions.{ReplicaState, floor_of, forgotten, with_slot, without_slot, put_back}
 use Rattle.sc_law_entries.specs.names.Definitions.{Opt}
-use Rattle.sc_law_entries.proofs.NamesProofs.Lists.{opt_find, opt_map, opt_get, opt_choice, Each-drop, slot_with, slot_without, flight_without, voters_with}
+use Rattle.sc_law_entries.proofs.NamesProofs.Lists.{opt_get, Each-drop, slot_with, slot_without, flight_without}
 use Rattle.sc_law_walks.proofs.Lemmas.{either_way, back_any}
 use Rattle.sc_law_walks.specs.Definitions.{IsFiledOnMail, IsOrder}
 use Rattle.sc_law_refusal.proofs.HeldCommands as held

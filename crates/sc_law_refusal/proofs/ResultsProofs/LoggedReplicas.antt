@@ -1,21 +1,20 @@
 -- A replica executes the log of its group while a row lasts: what it executes is the next entry of a log of the steps before the row, and what is ready was chosen.
-use Rattle.std.proofs.Common.{◌≡◌, ℕ, ◌+◌, ◌-◌, ◌≤◌, true, refl, sym, ◌∙◌, ap, subst, List, [], ◌∷◌, ◌++◌, length, Option, Some, None, arith, eqb, cond}
+use Rattle.std.proofs.Common.{◌≡◌, ℕ, ◌+◌, ◌-◌, ◌≤◌, true, refl, sym, ◌∙◌, ap, subst, List, [], ◌∷◌, ◌++◌, length, Option, Some, None, arith, eqb}
 use Rattle.std.specs.Prelude.{slice_get, nat_lt}
 use Rattle.std.proofs.lemmas.Bool.{cond_both, eqb-true, ltb-true, ltb-false}
 use Rattle.std.proofs.lemmas.List.{length_push, drop_all}
 use Rattle.sc_base.specs.Definitions.{Among, Each, is_majority, same_ballot}
-use Rattle.sc_node_table.specs.Values.{Ballot, Draw, Command, Base, Counted, Chosen, NotYet, Flight}
-use Rattle.sc_group_table.specs.machine.Definitions.{Group, group_of, applied, state_after}
-use Rattle.sc_words.specs.paxos.Definitions.{LeaderState, LogState, flight_at, without_flight_at, installed, kept_voters, voters_after, counted, vote_at}
+use Rattle.sc_node_table.specs.Values.{Ballot, Draw, Command, Base, Counted, Chosen, Flight}
+use Rattle.sc_group_table.specs.machine.Definitions.{Group, group_of, applied}
+use Rattle.sc_words.specs.paxos.Definitions.{LeaderState, LogState, flight_at, installed, kept_voters, voters_after, counted, vote_at}
 use Rattle.sc_words.proofs.PaxosProofs.Lemmas.{Each-among, Each-weaker, find_found}
-use Rattle.sc_base.proofs.Lemmas.{ballot_is}
-use Rattle.sc_paxos_law.specs.Definitions.{Step, Accepted, Offered, needed, members_of, IsLog, IsChosenAfter, IsLawfulHistory}
+use Rattle.sc_paxos_law.specs.Definitions.{Accepted, Offered, needed, members_of, IsLog, IsLawfulHistory}
 use Rattle.sc_paxos_law.proofs.Lemmas.{earlier, longer_log, was_offered, one_offer}
-use Rattle.sc_node_table.specs.Definitions.{ReplicaState, name_of, next, set_at, entered, with_slot, forgotten, jumped, named, without_slot, floor_of, waits_in, rest_of, born_replica, installed_replica}
+use Rattle.sc_node_table.specs.Definitions.{ReplicaState, name_of, next, set_at, entered, with_slot, forgotten, jumped, named, without_slot, floor_of, installed_replica}
 use Rattle.sc_law_entries.proofs.HistoryProofs.Lemmas.{state_same}
 use Rattle.sc_law_walks.proofs.Lemmas.{entry_is}
 use Rattle.sc_meaning.specs.sound.Definitions.{Ahead}
-use Rattle.sc_law_groups.proofs.GroupProofs.Lemmas.{IsLearnt, by_own_log, Each-without_slot, each_after, Steps, rule, first, birth, IsReplica, IsState, IsFlying, next_after}
+use Rattle.sc_law_groups.proofs.GroupProofs.Lemmas.{IsLearnt, by_own_log, Each-without_slot, each_after, Steps, rule, first, birth, IsReplica, IsState, next_after}
 use Rattle.sc_law_groups.proofs.GroupProofs.Invariant.{HasLog, next_is, pushed_has, cut_has}
 use Rattle.sc_law_groups.proofs.GroupProofs.Held.{floor_low}
 use Rattle.sc_law_groups.proofs.GroupProofs.Counting.{each_with_slot}

@@ -1,9 +1,9 @@
 -- Every lawful journal of a valid scenario reports what happened: each result of an order that a row reports was decided by the rows before it, or is a refusal of the row with its cause.
-use Rattle.std.proofs.Common.{◌≡◌, ℕ, ◌+◌, ◌≤◌, ◌⊎◌, eqb, refl, sym, ◌∙◌, ap, subst, List, [], ◌∷◌, ◌++◌, append_assoc, length, drop, Option, Some, None, inl, inr}
+use Rattle.std.proofs.Common.{◌≡◌, ℕ, ◌≤◌, ◌⊎◌, eqb, refl, sym, ◌∙◌, ap, subst, List, [], ◌∷◌, ◌++◌, append_assoc, length, drop, Option, Some, None, inl, inr}
 use Rattle.std.specs.Option.{option_map}
 use Rattle.std.specs.List.{find}
 use Rattle.std.proofs.lemmas.Bool.{cond-true, eq-eqb}
-use Rattle.sc_base.specs.Definitions.{Among, Each}
+use Rattle.sc_base.specs.Definitions.{Among}
 use Rattle.sc_node_table.specs.Values.{Seat, Row, Event, Deliver, Drop, Again, Crash, Input, Got, Base, Route, Command, OrderLine, OrderResult, Refused, OrderRefusal, Mail, Node, Client}
 use Rattle.sc_words.specs.declared.commands.orders.OrderResult.TheVariants.{Done, Committed, Aborted}
 use Rattle.sc_actor.specs.declared.rows.Event.TheVariants.{Tick as TickEvent, Go as GoEvent, Told as ToldEvent}
@@ -12,8 +12,8 @@ use Rattle.sc_actor.specs.Definitions.{mails, numbered, acted, input_of, value, 
 use Rattle.sc_actor.proofs.Lemmas.{value-snoc}
 use Rattle.sc_client_table.specs.table.Definitions.{Client as ClientState}
 use Rattle.sc_client_table.proofs.TableProofs.TurnLemmas.{sends_in_turn}
-use Rattle.sc_group_table.specs.machine.Definitions.{group_of, state_after}
-use Rattle.sc_node_table.specs.Definitions.{NodeState, node_table, slots_ahead}
+use Rattle.sc_group_table.specs.machine.Definitions.{state_after}
+use Rattle.sc_node_table.specs.Definitions.{node_table, slots_ahead}
 use Rattle.sc_words.proofs.PaxosProofs.Lemmas.{Each-among, find_found}
 use Rattle.sc_paxos_law.specs.Definitions.{IsLog}
 use Rattle.sc_scenario.specs.scenario.Definitions.{IsValid}
@@ -25,11 +25,11 @@ use Rattle.sc_law_entries.specs.ring.Definitions.{Sources}
 use Rattle.sc_law_entries.proofs.NamesProofs.Fresh.{IsClient, IsSeat, seats_are, replay_client}
 use Rattle.sc_law_entries.proofs.NamesProofs.Lemmas.{orders_are_allowed_allowed, orders_are_allowed_wishes, orders_are_allowed_positions, names_have_one_owner_others}
 use Rattle.sc_law_groups.specs.whole.Definitions.{section_op, MayQueue, IsHeardAt}
-use Rattle.sc_law_groups.proofs.GroupProofs.Lemmas.{Kept, IsNodeAt, h_of, rule, first, birth}
+use Rattle.sc_law_groups.proofs.GroupProofs.Lemmas.{Kept, IsNodeAt, h_of, rule, birth}
 use Rattle.sc_law_groups.proofs.GroupProofs.RowSteps.{number_among}
 use Rattle.sc_law_groups.proofs.WholeProofs.Lemmas.{goes_on_from, holds, orders_allowed, valid_scenarios_begin_well}
 use Rattle.sc_law_refusal.specs.refusal.RowCauses.{Rows, Acts}
-use Rattle.sc_law_refusal.specs.results.Definitions.{EndsOrder, TellAs, IsDecided, IsNotTaken, IsDismissed, IsRefusedIn, HasHappened, ReportsWhatHappened}
+use Rattle.sc_law_refusal.specs.results.Definitions.{EndsOrder, TellAs, IsDecided, IsNotTaken, IsDismissed, HasHappened, ReportsWhatHappened}
 use Rattle.sc_law_refusal.proofs.ResultsProofs.ReportedNodes.{Takes, node_reports}
 
 module _ (sources : Sources) (ahead : Ahead) (words : ℕ → ℕ → ℕ × ℕ) (scenario : Scenario) (route : Route) (rows : Rows) (row : Row Mail OrderLine)

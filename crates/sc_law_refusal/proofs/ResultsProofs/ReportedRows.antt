@@ -1,8 +1,8 @@
 -- What a replica reports of an order in a row: what the log of its group decided by an entry that it executes; or that it does not lead, of an order that waited, where its leadership ended. An instance of the walk over any replica's table.
 use Rattle.std.proofs.Common.{◌≡◌, ℕ, ◌+◌, ◌<◌, ◌≤◌, cond, Bool, true, false, true≢false, refl, sym, ◌∙◌, subst, List, [], ◌∷◌, ◌++◌, Option, Some, None, ◌⊎◌, inl, inr, arith}
 use Rattle.std.proofs.lemmas.Bool.{cond_both}
-use Rattle.sc_base.specs.Definitions.{Among, Drawer, Each}
-use Rattle.sc_node_table.specs.Values.{Ballot, Draw, Command, Noop, Call, Join, Leave, Split, Begin, GiveUp, Base, AnswerBody, OrderLine, OrderResult, Refused, Flight, Report, Mail, MailBody, Request, Prepare, Promise, Accept, Accepted, Learn, Install, Told}
+use Rattle.sc_base.specs.Definitions.{Among, Each}
+use Rattle.sc_node_table.specs.Values.{Ballot, Command, Noop, Call, Join, Leave, Split, Begin, GiveUp, Base, AnswerBody, OrderResult, Refused, Flight, Report, Mail, MailBody, Request, Prepare, Promise, Accept, Accepted, Learn, Install, Told}
 use Rattle.sc_words.specs.declared.commands.orders.OrderRefusal.TheVariants.{NotLeader}
 use Rattle.sc_group_table.specs.machine.Definitions.{applied, state_after}
 use Rattle.sc_group_table.specs.policy.Definitions.{is_reported}
@@ -12,7 +12,7 @@ use Rattle.sc_paxos_law.specs.Definitions.{IsLog, IsLawfulHistory, Accepted as A
 use Rattle.sc_law_entries.specs.names.Definitions.{Opt}
 use Rattle.sc_law_entries.proofs.HistoryProofs.Lemmas.{applied_same}
 use Rattle.sc_law_entries.proofs.NamesProofs.Lists.{opt_slot, slot_without, flight_without}
-use Rattle.sc_node_table.specs.Definitions.{ReplicaState, Place, name_of, next, at_slot, without_slot, without_request, open_nodes, ended, entered, jumped, forgotten, offered, put_back, sent_all, answered_all, under_way, before_of, order_number, order_result, begun_result, spoken_number, spoken_mails, begun_reported, result_reported, went_on}
+use Rattle.sc_node_table.specs.Definitions.{ReplicaState, Place, name_of, next, at_slot, without_slot, without_request, open_nodes, ended, entered, jumped, forgotten, offered, put_back, answered_all, under_way, before_of, order_number, begun_result, spoken_number, spoken_mails, begun_reported, result_reported, went_on}
 use Rattle.sc_meaning.specs.sound.Definitions.{Ahead}
 use Rattle.sc_law_groups.proofs.GroupProofs.Lemmas.{IsLearnt, Steps, rule, first, birth, IsState, slot_among}
 use Rattle.sc_law_walks.specs.Definitions.{IsFiledOnMail}
@@ -133,7 +133,8 @@ module _ (ahead : Ahead) (base : Base) (h : Steps) (lawful : IsLawfulHistory (ru
       cleared_stands ended r k = (
         (k.0.0, clears ahead base h lawful (next start) r (without_flight_at (next start) r.leader) k.0.1),
         (k.1.0, k.1.1, flight_without P (next start) r.leader.flights k.1.2, k.1.3, slot_without P r.ready (next start) k.1.4),
-        k.2, k.3,
+        k.2,
+        k.3,
       )
 
   -- ---- leaders
@@ -234,10 +235,10 @@ module _ (ahead : Ahead) (base : Base) (h : Steps) (lawful : IsLawfulHistory (ru
     goes = λ into r mails on e k. ends None _ r mails k;
     overtaken = λ ballot r mails good on t k. ends (Some ballot.node) _ (cond (below r.top ballot) (record r { top = ballot }) r) mails (cond_both (below r.top ballot) (record r { top = ballot }) r (λ (x : ReplicaState). Keeps (x, mails)) (λ later. saw_later ballot r mails later k) (λ _. k));
     elected = λ r mails k. (let low = k.1.2 in (
-        k.0,
-        ((k.1.0.0, unready ahead base h lawful r k.1.0.1), (k.1.1.0, k.1.1.1, tt, tt, tt), omega (arith, low), λ _. inr (omega (arith, low))),
-        all_sent r.me (λ ms. TellAs (MayTell k.0) ms) (Prepare (name_of r) (record { round = r.top.round + 1; node = r.me }) (next r)) (λ to ms q. puts r.me (MayTell k.0) to _ ms tt q) (open_nodes r.sets) mails k.2,
-      ));
+      k.0,
+      ((k.1.0.0, unready ahead base h lawful r k.1.0.1), (k.1.1.0, k.1.1.1, tt, tt, tt), omega (arith, low), λ _. inr (omega (arith, low))),
+      all_sent r.me (λ ms. TellAs (MayTell k.0) ms) (Prepare (name_of r) (record { round = r.top.round + 1; node = r.me }) (next r)) (λ to ms q. puts r.me (MayTell k.0) to _ ms tt q) (open_nodes r.sets) mails k.2,
+    ));
     seen = λ ballot r mails good t on k. saw_later ballot r mails t k;
     polled = λ from group ballot reports r mails on t k. (k.0, with_leader k.0 r (promise_counted from ballot reports r.leader).1 (promise_ballot from ballot reports r.leader) (polled_held P from ballot reports r.leader t (k.1.1.2, k.1.1.3)) k.1, k.2);
     counts = λ from ballot slot set count r mails on e k. (k.0, with_leader k.0 r (counted from ballot slot set r.leader).1 (counted_ballot from ballot slot set r.leader) (counted_held P from ballot slot set r.leader (k.1.1.2, k.1.1.3)) k.1, k.2);

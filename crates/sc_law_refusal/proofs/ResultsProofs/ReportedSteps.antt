@@ -3,7 +3,7 @@ use Rattle.std.proofs.Common.{◌≡◌, ℕ, ◌≤◌, eqb, nat_lt, ◌&&◌, 
 use Rattle.std.specs.Option.{option_map}
 use Rattle.std.specs.FinMap.{entries}
 use Rattle.std.proofs.lemmas.Bool.{cond_both, and_parts, eqb-true, eq-eqb}
-use Rattle.sc_base.specs.Definitions.{Among, Drawer, Each, next_name, same_ballot}
+use Rattle.sc_base.specs.Definitions.{Among, Drawer, next_name, same_ballot}
 use Rattle.sc_base.proofs.Lemmas.{ballot_is}
 use Rattle.sc_node_table.specs.Values.{Ballot, Draw, Command, Base, Order, OrderLine, OrderRefusal, OrderResult, Refused, Counted, Chosen, NotYet, Mail, MailBody, Request, Answer, Prepare, Promise, Accept, Accepted, Nack, Learn, Ask, Install, TxPrepare, TxVote, TxOutcome, TxElsewhere, TxWatch, TxWatched, Told}
 use Rattle.sc_words.specs.declared.commands.orders.Order.TheVariants as An
@@ -74,8 +74,8 @@ module _ (ahead : Ahead) (base : Base) (h : Steps) (lawful : IsLawfulHistory (ru
       let more : Goes (after, mails) = (k.0, ((k.1.0.0, readies_more ahead base h lawful slot command r t k.1.0.1), (k.1.1.0, k.1.1.1, k.1.1.2, k.1.1.3, slot_with P r.ready slot command p k.1.1.4), k.1.2, k.1.3), k.2) in
       cond_both (eqb slot (next r) && has_room r) (executed true command (after, mails)) (childless (after, mails)) (λ (step : Executed). Goes step.0)
       (λ e. (let is_next = eqb-true slot (next r) (and_parts (eqb slot (next r)) (has_room r) e).0 in
-          (execution (reported_walk ahead base h lawful made Fact decided W round) true command (after, mails)
-          (on, subst (λ s. at_slot (with_slot r.ready slot command) s ≡ Some command) is_next (slot_there r.ready slot command), subst (λ s. IsLearnt (rule ahead base) h s command) is_next t) more).0)) (λ _. more)
+      (execution (reported_walk ahead base h lawful made Fact decided W round) true command (after, mails)
+      (on, subst (λ s. at_slot (with_slot r.ready slot command) s ≡ Some command) is_next (slot_there r.ready slot command), subst (λ s. IsLearnt (rule ahead base) h s command) is_next t) more).0)) (λ _. more)
 
   tallied_keeps : (slot : ℕ) (p : Counted Command × LeaderState Command) (r : ReplicaState) (mails : List Mail) → r.running ≡ true → ((command : Command) → p.0 ≡ Chosen command → IsLearnt (rule ahead base) h slot command × P command)
       → p.1.ballot ≡ r.leader.ballot → Flights P p.1.flights × Reports P p.1.reports → Goes (r, mails) → Goes (vote_tallied slot p (r, mails)).0

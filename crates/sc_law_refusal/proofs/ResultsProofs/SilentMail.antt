@@ -1,7 +1,7 @@
 -- Mail that reports no result of an order leaves what the reported results are: reminders, questions, votes and outcomes of a transaction.
-use Rattle.std.proofs.Common.{◌≡◌, ℕ, List, [], ◌∷◌, Option, Some, None}
+use Rattle.std.proofs.Common.{ℕ, List, Option}
 use Rattle.sc_base.specs.Definitions.{client_actor, same_draw}
-use Rattle.sc_node_table.specs.Values.{Draw, Offer, Watch, Command, Core, Lock, Free, Coordinating, Promised, Watching, OrderResult, Outcome, Past, AnswerBody, Mail, TxVote, TxWatched}
+use Rattle.sc_node_table.specs.Values.{Draw, Offer, Watch, Core, Lock, Free, Coordinating, Promised, Watching, OrderResult, Outcome, Past, AnswerBody, Mail, TxVote, TxWatched}
 use Rattle.sc_words.specs.declared.commands.votes.Past.TheVariants as Cast
 use Rattle.sc_words.specs.declared.commands.votes.Vote.TheVariants as Says
 use Rattle.sc_group_table.specs.machine.Definitions.{Group, frozen_of}

@@ -1,5 +1,5 @@
 -- Every result that a row reports of an order has happened: the log of a group decided it before the row, or the row refuses the order, for a cause.
-use Rattle.std.specs.Prelude.{◌≡◌, ℕ, ◌<◌, ◌==◌, ◌-◌, ◌^◌, true, false, List, ◌∷◌, ◌++◌, Option, None, Some, ◌⊎◌}
+use Rattle.std.specs.Prelude.{◌≡◌, ℕ, ◌<◌, ◌-◌, ◌^◌, true, false, List, ◌∷◌, ◌++◌, Option, None, Some, ◌⊎◌}
 use Rattle.sc_base.specs.Definitions.{Among, Drawer, next_name}
 use Rattle.sc_node_table.specs.Values.{Base, Command, Input, Mail, Node, OrderLine, OrderRefusal, OrderResult, Route, Row, Seat}
 use Rattle.sc_actor.specs.declared.rows.Input.TheVariants.{Told}
