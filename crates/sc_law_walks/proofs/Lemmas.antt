@@ -13,3 +13,6 @@ pub use Rattle.sc_law_walks.proofs.StateWalks.{StateParts, state_walk, state_bir
 pub use Rattle.sc_law_walks.proofs.PlaceWalks.{Talk, grows, beside_talk, elected_place, entered_place}
 pub use Rattle.sc_law_walks.proofs.TableWalks.{TableFacts, TableStates, TableSays, TableWalk, TableTicks, MayEnter, all_heard, talk_said}
 pub use Rattle.sc_law_walks.proofs.TableEntries.{TableEntry, entry_holds}
+pub use Rattle.sc_law_walks.proofs.MachineWalks.{Names, EndsIt, ChangesNothing, voting_group, IsAccepted, MachineWalk}
+pub use Rattle.sc_law_walks.proofs.MachineSteps.{machine_step}
+pub use Rattle.sc_law_walks.proofs.CoreWalks.{none_locked, unrefused_free, yes_free, CoreParts, core_walk, core_step}

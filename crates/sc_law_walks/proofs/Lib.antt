@@ -27,3 +27,6 @@ pub mod StateWalks
 pub mod MailsGrow
 pub mod PlaceNodes
 pub mod WalkNodes
+pub mod MachineWalks
+pub mod MachineSteps
+pub mod CoreWalks
