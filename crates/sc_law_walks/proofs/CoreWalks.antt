@@ -119,3 +119,47 @@ module _ (group : Group) (P : Core → Type 0) (k : CoreParts group.core P) wher
   -- so a command keeps it
   pub core_step : (c : Command) → P (applied group c).0.core
   core_step = machine_step group (λ c x. P x.0.core) core_walk
+
+-- ---- an invariant that reads few parts
+
+-- What an invariant needs that reads the name, the first leader and the lock alone.
+pub record LockParts (start : Core) (Q : Draw → ℕ → Lock → Type 0) : Type 0 where
+  pub begun : Q start.id start.first start.lock
+  pub begins : (tx : Draw) (body : Body) (order : ℕ) → start.lock ≡ Free → Q start.id start.first (Coordinating tx body order None)
+  pub hears : (tx : Draw) (order : ℕ) (heard : Heard) → start.lock ≡ Coordinating tx By.Merge order None → Q start.id start.first (Coordinating tx By.Merge order (Some heard))
+  pub promises : (tx : Draw) (offer : Offer) → start.lock ≡ Free → Q start.id start.first (Promised tx offer)
+  pub watches : (tx : Draw) (watch : Watch) → start.lock ≡ Free → Q start.id start.first (Watching tx watch)
+  pub frees : Q start.id start.first Free
+
+-- the other parts keep it
+pub lock_parts : (start : Core) (Q : Draw → ℕ → Lock → Type 0) → LockParts start Q → CoreParts start (λ core. Q core.id core.first core.lock × Q core.id core.first Free)
+lock_parts start Q k = record {
+  begun = (k.begun, k.frees);
+  arcs = λ core arc p. p;
+  succs = λ core link p. p;
+  preds = λ core link p. p;
+  children = λ core child p. p;
+  joins = λ node free. (k.begun, k.frees);
+  leaves = λ node free. (k.begun, k.frees);
+  stay = λ core p. p;
+  unite = λ core others p. p;
+  hands = λ core node p. p;
+  begins = λ tx body order free. (k.begins tx body order free, k.frees);
+  hears = λ tx order heard lock. (k.hears tx order heard lock, k.frees);
+  promises = λ tx offer free. (k.promises tx offer free, k.frees);
+  watches = λ tx watch free. (k.watches tx watch free, k.frees);
+  frees = λ core p. (p.1, p.1);
+  decides = λ core tx outcome p. p;
+  votes = λ core tx vote p. p;
+  ends_votes = λ core tx p. p;
+  goes = λ core into p. p;
+}
+
+-- so a command keeps it
+pub lock_step : (group : Group) (Q : Draw → ℕ → Lock → Type 0) → LockParts group.core Q → (c : Command) → Q (applied group c).0.core.id (applied group c).0.core.first (applied group c).0.core.lock
+lock_step group Q k c = (core_step group (λ core. Q core.id core.first core.lock × Q core.id core.first Free) (lock_parts group.core Q k) c).0
+
+-- what is said of the name and the first leader alone stays
+pub name_step : (group : Group) (Q : Draw → ℕ → Type 0) → Q group.core.id group.core.first → (c : Command) → Q (applied group c).0.core.id (applied group c).0.core.first
+name_step group Q q =
+    lock_step group (λ id first lock. Q id first) (record { begun = q; begins = λ tx body order free. q; hears = λ tx order heard lock. q; promises = λ tx offer free. q; watches = λ tx watch free. q; frees = q })

@@ -15,4 +15,4 @@ pub use Rattle.sc_law_walks.proofs.TableWalks.{TableFacts, TableStates, TableSay
 pub use Rattle.sc_law_walks.proofs.TableEntries.{TableEntry, entry_holds}
 pub use Rattle.sc_law_walks.proofs.MachineWalks.{Names, EndsIt, ChangesNothing, voting_group, IsAccepted, MachineWalk}
 pub use Rattle.sc_law_walks.proofs.MachineSteps.{machine_step}
-pub use Rattle.sc_law_walks.proofs.CoreWalks.{none_locked, unrefused_free, yes_free, CoreParts, core_walk, core_step}
+pub use Rattle.sc_law_walks.proofs.CoreWalks.{none_locked, unrefused_free, yes_free, CoreParts, core_walk, core_step, LockParts, lock_step, name_step}

@@ -6,7 +6,7 @@ use Rattle.sc_group_table.specs.machine.Definitions.{Group, applied}
 use Rattle.sc_words.proofs.PaxosProofs.Lemmas.{Each-weaker}
 use Rattle.sc_paxos_law.specs.Definitions.{needed, members_of, IsChosenAfter}
 use Rattle.sc_paxos_law.proofs.Lemmas.{longer_log, get_pushed}
-use Rattle.sc_node_table.specs.Definitions.{rest_of, ReplicaState, next, floor_of, forgotten, waits_in, with_entry, entered}
+use Rattle.sc_node_table.specs.Definitions.{rest_of, ReplicaState, next, floor_of, forgotten, waits_in, entered}
 use Rattle.sc_meaning.specs.sound.Definitions.{Ahead}
 use Rattle.sc_law_groups.proofs.GroupProofs.Held.{floor_low}
 use Rattle.sc_law_groups.proofs.GroupProofs.Invariant.{Steps, rule, AreSets, HasLog, next_is, pushed_has, cut_has, IsReplica, next_after, forgotten_replica}

@@ -1,5 +1,5 @@
 -- At most one request of each client waits at any replica, through all rows of its table.
-use Rattle.std.proofs.Common.{◌≡◌, ℕ, nat_lt, Bool, true, false, List, [], ◌∷◌, Option, Some, None, refl, subst}
+use Rattle.std.proofs.Common.{◌≡◌, ℕ, nat_lt, Bool, true, false, List, ◌∷◌, Option, Some, None, refl, subst}
 use Rattle.sc_base.specs.Definitions.{Drawer}
 use Rattle.sc_node_table.specs.Values.{Draw, Op, Command, Call, Base, OrderLine, AnswerBody, Mail, MailBody}
 use Rattle.sc_node_table.specs.Definitions.{queued_number, without_request, request_before, put_back, entered, ended, jumped, forgotten, offered, ordered_row, tick_row, made_by, mailed, ReplicaState, Place}
