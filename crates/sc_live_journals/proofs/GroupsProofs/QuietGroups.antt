@@ -1,5 +1,5 @@
 -- What a group that is well led is in a quiet journal.
-use Rattle.std.proofs.Common.{◌≡◌, ℕ, ◌≤◌, ◌*◌, ◌&&◌, ◌||◌, not, true, false, true≢false, List, [], ◌∷◌, length, Some, inl, inr, sym, ◌∙◌, ap, subst, arith}
+use Rattle.std.proofs.Common.{◌≡◌, ℕ, ◌≤◌, ◌||◌, not, true, false, true≢false, List, [], ◌∷◌, length, Some, inl, inr, sym, ◌∙◌, ap, subst, arith}
 use Rattle.std.proofs.lemmas.Bool.{cases_Bool, or_left, or_right}
 use Rattle.sc_node_table.specs.Values.{Base, Seat}
 use Rattle.sc_base.specs.Definitions.{is_majority, IsRoster, is_member}
