@@ -1,14 +1,17 @@
 -- What an invariant of a group's record needs: that each part of it that a command changes keeps the invariant. The lock is what the group begins, hears, is bound by or is freed of.
-use Rattle.std.proofs.Common.{◌≡◌, ℕ, ◌+◌, List, [], ◌∷◌, ◌++◌, map, Option, Some, None, refl}
+use Rattle.std.specs.FinMap.{get}
+use Rattle.std.proofs.Common.{◌≡◌, ℕ, nat_lt, eqb, ◌+◌, List, [], ◌∷◌, ◌++◌, map, Option, Some, None, refl}
 use Rattle.std.proofs.lemmas.Bool.{cond_both}
 use Rattle.sc_base.specs.Definitions.{Arc, before, from, joined, united, with_member, without_member}
-use Rattle.sc_node_table.specs.Values.{Draw, Body, Offer, Watch, Command, Core, Join, Leave, Split, Begin, Lock, Free, Coordinating, Promised, Watching, Link, Route, Frozen, Heard, No, Outcome, Past}
+use Rattle.sc_node_table.specs.Values.{Draw, Noted, Op, Body, Effect, Offer, Watch, Command, Core, Join, Leave, Split, Begin, Lock, Free, Coordinating, Promised, Watching, Link, Route, Frozen, Heard, No, Outcome, Past}
 use Rattle.sc_words.specs.declared.commands.bodies.Body.TheVariants as By
 use Rattle.sc_words.specs.declared.commands.votes.Outcome.TheVariants as Is
 use Rattle.sc_words.specs.declared.commands.votes.Past.TheVariants as Cast
-use Rattle.sc_group_table.specs.machine.Definitions.{Group, applied, locked_in, refused_in, refusal_of, left_members, no_of, vote_of, watch_vote_of, offer_no, watch_no, past_of, bound_by, has_voted, closed, voted_after, left_core, right_link, merged_core, merged_succ, merged_link, kept_arc, succ_with, pred_after}
+use Rattle.sc_group_table.specs.machine.Definitions.{called, served, served_by_note, Group, applied, locked_in, refused_in, refusal_of, left_members, no_of, vote_of, watch_vote_of, offer_no, watch_no, past_of, bound_by, has_voted, closed, voted_after, left_core, right_link, merged_core, merged_succ, merged_link, kept_arc, succ_with, pred_after}
 use Rattle.sc_group_table.specs.machine.Plans.{repart_core}
 use Rattle.sc_group_table.specs.machine.Splits.{left_pred}
+use Rattle.sc_words.specs.ideal.Definitions.{key_of, holds_key}
+use Rattle.sc_law_walks.proofs.Ways.{either_way}
 use Rattle.sc_law_walks.proofs.MachineWalks.{MachineWalk}
 use Rattle.sc_law_walks.proofs.MachineSteps.{machine_step}
 
@@ -25,9 +28,13 @@ unrefused : (o : Option Draw) (core : Core) (c : Command) → refused_in o core 
 unrefused None core c e = refl
 unrefused (Some tx) core c e = cc
 
+-- an order that is not refused in this lock meets none
+pub free_by : (lock : Lock) (core : Core) (c : Command) → refused_in (locked_in lock) core c ≡ None → lock ≡ Free
+free_by lock core c e = none_locked lock (unrefused (locked_in lock) core c e)
+
 -- an order that is not refused meets no lock
 pub unrefused_free : (core : Core) (c : Command) → refusal_of core c ≡ None → core.lock ≡ Free
-unrefused_free core c e = none_locked core.lock (unrefused (locked_in core.lock) core c e)
+unrefused_free core c e = free_by core.lock core c e
 
 unlocked : (gone : Option Route) (o : Option Draw) (why : Option No) → no_of gone o why ≡ None → o ≡ None
 unlocked (Some into) o why e = cc
@@ -37,6 +44,23 @@ unlocked None None why e = refl
 -- nor does a Yes
 pub yes_free : (gone : Option Route) (lock : Lock) (why : Option No) → no_of gone (locked_in lock) why ≡ None → lock ≡ Free
 yes_free gone lock why e = none_locked lock (unlocked gone (locked_in lock) why e)
+
+-- ---- a request leaves the record
+
+pub noted_core : (o : Option Noted) (group : Group) (client seq : ℕ) (op : Op) → (served_by_note o group client seq op).0.core ≡ group.core
+noted_core None group client seq op = refl
+noted_core (Some noted) group client seq op = either_way (λ (x : Group × Effect). x.0.core ≡ group.core) (nat_lt noted.seq seq) _ _ refl (either_way (λ (x : Group × Effect). x.0.core ≡ group.core) (eqb noted.seq seq) _ _ refl refl)
+
+pub served_core : (group : Group) (client seq : ℕ) (op : Op) → (served group client seq op).0.core ≡ group.core
+served_core group client seq op = either_way (λ (x : Group × Effect). x.0.core ≡ group.core) (holds_key group.core.arc (key_of op)) _ _ (noted_core (get group.clients client) group client seq op) refl
+
+-- whatever the group is, a request leaves its record
+pub called_core : (gone : Option Route) (lock : Lock) (group : Group) (client seq : ℕ) (op : Op) → (called gone lock group client seq op).0.core ≡ group.core
+called_core (Some into) lock group client seq op = refl
+called_core None Free group client seq op = served_core group client seq op
+called_core None (Watching tx watch) group client seq op = served_core group client seq op
+called_core None (Coordinating tx body order heard) group client seq op = refl
+called_core None (Promised tx offer) group client seq op = refl
 
 -- ---- the parts of a record
 

@@ -15,4 +15,8 @@ pub use Rattle.sc_law_walks.proofs.TableWalks.{TableFacts, TableStates, TableSay
 pub use Rattle.sc_law_walks.proofs.TableEntries.{TableEntry, entry_holds}
 pub use Rattle.sc_law_walks.proofs.MachineWalks.{Names, EndsIt, ChangesNothing, voting_group, IsAccepted, MachineWalk}
 pub use Rattle.sc_law_walks.proofs.MachineSteps.{machine_step}
-pub use Rattle.sc_law_walks.proofs.CoreWalks.{none_locked, unrefused_free, yes_free, CoreParts, core_walk, core_step, LockParts, lock_step, name_step}
+pub use Rattle.sc_law_walks.proofs.CoreWalks.{none_locked, free_by, unrefused_free, yes_free, called_core, CoreParts, core_walk, core_step, LockParts, lock_step, name_step}
+pub use Rattle.sc_law_walks.proofs.EnteredReplicas.{entered_me, entered_group, entered_name, entered_running, entered_ready}
+pub use Rattle.sc_law_walks.proofs.TableParts.{none_there}
+pub use Rattle.sc_law_walks.proofs.TableRows.{leads_on, ended_off}
+pub use Rattle.sc_law_walks.proofs.CommandWalks.{VoteWalk, vote_step, decided_walk, WatchWalk, watch_step, FinishWalk, finish_step}

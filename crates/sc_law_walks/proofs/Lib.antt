@@ -28,5 +28,7 @@ pub mod MailsGrow
 pub mod PlaceNodes
 pub mod WalkNodes
 pub mod MachineWalks
+pub mod CommandWalks
 pub mod MachineSteps
 pub mod CoreWalks
+pub mod EnteredReplicas

@@ -1,44 +1,16 @@
 -- What a log leaves of the group's record.
-use Rattle.std.proofs.Common.{◌≡◌, ℕ, Bool, true, false, cond, eqb, nat_lt, List, [], ◌∷◌, Option, Some, None, refl, ◌∙◌, ap}
-use Rattle.std.specs.FinMap.{get}
-use Rattle.sc_base.specs.declared.ops.Noted.{Noted}
+use Rattle.std.proofs.Common.{◌≡◌, ℕ, List, [], ◌∷◌, Option, Some, None, refl, ◌∙◌, ap}
 use Rattle.sc_base.specs.declared.ops.Op.{Op}
-use Rattle.sc_words.specs.ideal.Definitions.{key_of, holds_key}
-use Rattle.sc_words.specs.declared.commands.cores.Lock.{Lock}
-use Rattle.sc_words.specs.declared.commands.cores.Lock.TheVariants.{Free, Coordinating, Promised, Watching}
 use Rattle.sc_words.specs.declared.commands.links.Route.{Route}
 use Rattle.sc_words.specs.declared.commands.commands.Command.{Command}
 use Rattle.sc_words.specs.declared.commands.commands.Command.TheVariants.{Call}
 use Rattle.sc_words.specs.declared.commands.cores.Core.{Core}
 use Rattle.sc_words.specs.declared.commands.orders.OrderRefusal.{OrderRefusal}
-use Rattle.sc_words.specs.declared.commands.effects.Effect.{Effect}
-use Rattle.sc_words.specs.declared.commands.effects.Effect.TheVariants.{Again, Stale, NotMine}
 use Rattle.sc_law_walks.proofs.Lemmas.{name_step}
-use Rattle.sc_group_table.specs.machine.Definitions.{Group, applied, served_by_note, served, called, done, ordered, state_after}
+use Rattle.sc_group_table.specs.machine.Definitions.{Group, applied, ordered, state_after}
+use Rattle.sc_law_walks.proofs.CoreWalks.{called_core}
 
 -- ---- the core of the group stays
-
-cond_core : (group : Group) (b : Bool) (x y : Group × Effect) → x.0.core ≡ group.core → y.0.core ≡ group.core → (cond b x y).0.core ≡ group.core
-cond_core group true x y e f = e
-cond_core group false x y e f = f
-
-numbered_core : (o : Option Noted) (group : Group) (client seq : ℕ) (op : Op) → (served_by_note o group client seq op).0.core ≡ group.core
-numbered_core None group client seq op = refl
-numbered_core (Some n) group client seq op =
-    cond_core group (nat_lt n.seq seq) (done group client seq op) (cond (eqb n.seq seq) (group, Again n.reply) (group, Stale n.seq)) refl
-    (cond_core group (eqb n.seq seq) (group, Again n.reply) (group, Stale n.seq) refl refl)
-
-served_core : (group : Group) (client seq : ℕ) (op : Op) → (served group client seq op).0.core ≡ group.core
-served_core group client seq op =
-    cond_core group (holds_key group.core.arc (key_of op)) (served_by_note (get group.clients client) group client seq op) (group, NotMine group.core.arc group.core.succ)
-    (numbered_core (get group.clients client) group client seq op) refl
-
-called_core : (gone : Option Route) (lock : Lock) (group : Group) (client seq : ℕ) (op : Op) → (called gone lock group client seq op).0.core ≡ group.core
-called_core (Some into) lock group client seq op = refl
-called_core None Free group client seq op = served_core group client seq op
-called_core None (Watching tx watch) group client seq op = served_core group client seq op
-called_core None (Coordinating tx body order heard) group client seq op = refl
-called_core None (Promised tx offer) group client seq op = refl
 
 -- a call changes no members
 pub called_members : (group : Group) (client seq : ℕ) (op : Op) → (applied group (Call client seq op)).0.core.members ≡ group.core.members

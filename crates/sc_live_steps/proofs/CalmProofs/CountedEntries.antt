@@ -11,10 +11,7 @@ use Rattle.sc_node_table.specs.Definitions.{ended, stopped, entered, learnt_to, 
 use Rattle.sc_live_steps.specs.calm.Definitions.{IsCounting, newcomers, said_place, Ways, offered_owes, body_owes, mail_owes, replica_owes, idle_owes, election, place_owes}
 use Rattle.sc_live_steps.proofs.CalmProofs.PotentialSums.{sent_owes, without_flight_owes, taken_slot_owes}
 use Rattle.sc_live_steps.proofs.CalmProofs.LearntEntries.{entered_owes, entered_running, entered_flights, entered_ready, looked_owes}
-
-pub entered_me : (command : Command) (r : ReplicaState) → (entered command r).me ≡ r.me
-unfolding entered forgotten
-entered_me command r = refl
+pub use Rattle.sc_law_walks.proofs.Lemmas.{entered_me}
 
 entered_calls : (command : Command) (r : ReplicaState) → (entered command r).backlog ≡ r.backlog
 unfolding entered forgotten
@@ -176,20 +173,20 @@ module _ (ways : Ways) where
       let b = welcomed_counted (members r) place3.0 place3.1 in
       let place4 = welcomed true (members r) place3 in
       let is : place4.0 ≡ entered command r = b.0 ∙ (a.0 ∙ state) in
-      let at : at_slot place4.0.ready (next r) ≡ Some command = ap (λ (q : ReplicaState). at_slot q.ready (next r)) is ∙ (ap (λ (es : List (ℕ × Command)). at_slot es (next r)) (entered_ready ways command r) ∙ is_counting.ready) in
+      let at : at_slot place4.0.ready (next r) ≡ Some command = ap (λ (q : ReplicaState). at_slot q.ready (next r)) is ∙ (ap (λ (es : List (ℕ × Command)). at_slot es (next r)) (entered_ready command r) ∙ is_counting.ready) in
       let c = landed_counted (next r) command place4.0 place4.1 at in
       let place5 = landed true (next r) command place4 in
       let owes : replica_owes ways.most place4.0 ≡ replica_owes ways.most r = ap (replica_owes ways.most) is ∙ entered_owes ways command r in
       let welcome : length (filter (λ node. not (is_member (members r) node)) (members place3.0)) ≡ length (newcomers command r) =
       ap (λ (q : ReplicaState). length (filter (λ node. not (is_member (members r) node)) (members q))) (a.0 ∙ state) in
       let counts : Counts command said (r, mails) (place5.0, place5.1) = record {
-        running = c.0 ∙ (ap (λ (q : ReplicaState). q.running) is ∙ (entered_running ways command r ∙ is_counting.running));
+        running = c.0 ∙ (ap (λ (q : ReplicaState). q.running) is ∙ (entered_running command r ∙ is_counting.running));
         me_is = c.2 ∙ (ap (λ (q : ReplicaState). q.me) is ∙ entered_me command r);
         group_is = c.1 ∙ ap (λ (q : ReplicaState). q.group) is;
         owes = (let low = c.3 in omega (arith, low, owes));
         sent = (let mails5 = ap sum c.4 in let b1 = b.1 in let a1 = a.1 in omega (arith, mails5, b1, a1, welcome, told));
         flights = c.5 ∙ (ap (λ (q : ReplicaState). without_flight (next r) q.leader.flights) is ∙ ap (λ (l : LeaderState Command). without_flight (next r) l.flights) (entered_flights ways command r));
-        ready = c.6 ∙ (ap (λ (q : ReplicaState). without_slot q.ready (next r)) is ∙ ap (λ (es : List (ℕ × Command)). without_slot es (next r)) (entered_ready ways command r));
+        ready = c.6 ∙ (ap (λ (q : ReplicaState). without_slot q.ready (next r)) is ∙ ap (λ (es : List (ℕ × Command)). without_slot es (next r)) (entered_ready command r));
         backlog = c.7 ∙ (ap (λ (q : ReplicaState). q.backlog) is ∙ entered_calls command r);
         sets = c.8 ∙ ap (λ (q : ReplicaState). q.sets) is;
         log = c.9 ∙ ap (λ (q : ReplicaState). q.log) is;

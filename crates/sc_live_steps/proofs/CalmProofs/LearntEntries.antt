@@ -12,6 +12,7 @@ use Rattle.sc_node_table.specs.Definitions.{is_in_some, nodes_to, open_nodes, el
 use Rattle.sc_live_steps.specs.calm.Definitions.{Ways, mail_owes, replica_owes, idle_owes, election, place_owes}
 use Rattle.sc_live_steps.proofs.CalmProofs.PotentialSums.{sent_owes, all_owe, without_flight_owes, without_slot_owes}
 use Rattle.sc_live_steps.proofs.FollowingProofs.FollowerTables.{left_same as left_learnt, learnt_same as learnt_learnt, welcomed_same as welcomed_learnt}
+pub use Rattle.sc_law_walks.proofs.Lemmas.{entered_running, entered_ready}
 
 -- ---- the nodes of an election
 
@@ -65,17 +66,9 @@ module _ (ways : Ways) where
   unfolding entered forgotten
   entered_owes command r = refl
 
-  pub entered_running : (command : Command) (r : ReplicaState) → (entered command r).running ≡ r.running
-  unfolding entered forgotten
-  entered_running command r = refl
-
   pub entered_flights : (command : Command) (r : ReplicaState) → (entered command r).leader ≡ r.leader
   unfolding entered forgotten
   entered_flights command r = refl
-
-  pub entered_ready : (command : Command) (r : ReplicaState) → (entered command r).ready ≡ r.ready
-  unfolding entered forgotten
-  entered_ready command r = refl
 
   -- ---- an election
 

@@ -1,5 +1,5 @@
 -- What the entries of splits and transactions say, and whom they add.
-use Rattle.std.proofs.Common.{◌≡◌, ℕ, ◌+◌, ◌*◌, ◌≤◌, not, Bool, true, false, true≢false, cond, List, [], ◌∷◌, ◌++◌, length, take, drop, sum_by, Option, Some, None, inl, inr, refl, sym, ◌∙◌, ap, subst, arith, take-append-drop}
+use Rattle.std.proofs.Common.{◌≡◌, ℕ, ◌+◌, ◌*◌, ◌≤◌, not, Bool, true, false, true≢false, cond, List, [], ◌∷◌, length, take, drop, sum_by, Option, Some, None, refl, sym, ◌∙◌, ap, subst, arith, take-append-drop}
 use Rattle.std.specs.List.{filter}
 use Rattle.sc_base.specs.Definitions.{Among, same_draw, is_member, with_member, least_of, united}
 use Rattle.sc_node_table.specs.Values.{Draw, Body, Offer, Watch, Command, Noop, Call, Join, Leave, Split, Begin, Prepared, RecordVote, GiveUp, Finish, Watched, RecordWatch, Core, Lock, Free, Coordinating, Promised, Watching, Effect, Link, Route, OrderRefusal, OrderResult, Frozen, Heard, No, Outcome, Past, Vote, AnswerBody, Mail, TxPrepare, TxVote, TxOutcome, TxWatched}
@@ -16,6 +16,7 @@ use Rattle.sc_live_steps.specs.calm.Definitions.{AreBounded, said_place, newcome
 use Rattle.sc_live_steps.proofs.CalmProofs.PotentialSums.{sent_owes}
 use Rattle.sc_live_steps.proofs.CalmProofs.LearntEntries.{filter_short, begun_owes}
 use Rattle.sc_live_steps.proofs.CalmProofs.MemberChanges.{among_member, same_new, one_new, entered_members, ordered_members}
+use Rattle.sc_paxos_law.proofs.Lemmas.{Among-left as among_more}
 
 -- ---- whom an entry adds
 
@@ -41,12 +42,6 @@ by_members P draw why after group a g = by (has_named group.core draw) (ordered_
 pub begin_new : (tx : Draw) (body : Body) (order : ℕ) (r : ReplicaState) → length (newcomers (Begin tx body order) r) ≡ 0
 begin_new tx body order r =
     same_added (Begin tx body order) r (by_members (λ xs. xs ≡ members r) tx (refusal_of r.group.core (Begin tx body order)) (begun_group r.group tx body order) r.group refl refl)
-
--- a part of the members
-among_more : {X : Type 0} (x : X) (xs ys : List X) → Among x xs → Among x (xs ++ ys)
-among_more x [] ys a = absurd a
-among_more x (y ∷ xs) ys (inl same) = inl same
-among_more x (y ∷ xs) ys (inr a) = inr (among_more x xs ys a)
 
 among_taken : (x n : ℕ) (xs : List ℕ) → Among x (take n xs) → Among x xs
 among_taken x n xs a = subst (Among x) (take-append-drop n xs) (among_more x (take n xs) (drop n xs) a)
