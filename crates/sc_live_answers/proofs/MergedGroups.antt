@@ -48,7 +48,7 @@ module _ (group : Group) where
       cond_both (same_draw locked tx) _ _ (StandsAs group) (λ _. cond_both (asks_watcher body heard) _ _ (StandsAs group) (λ _. refl) (λ _. refl)) (λ _. refl)
 
   watch_stands : (past : Past) (tx : Draw) → StandsAs group (watch_recorded group.core.lock group tx past)
-  watch_stands Cast.Yes tx = watch-stands group group.core.lock tx
+  watch_stands Cast.Yes tx = watch-stands group tx 0
   watch_stands (Cast.No why) tx = denied_stands group.core.lock tx why
   watch_stands Cast.Ended tx = over_stands group.core.lock tx
 
@@ -111,7 +111,7 @@ module _ (group : Group) where
     goes_by (Split at child order) = stays (Split at child order) (applied group (Split at child order)) (split-stands group at child order)
     goes_by (Begin tx body order) = stays (Begin tx body order) (applied group (Begin tx body order)) (begin_stands tx body order)
     goes_by (Prepared tx offer) = stays (Prepared tx offer) (applied group (Prepared tx offer)) (voted_stands (vote_of group.core offer) (Promised tx offer) tx)
-    goes_by (RecordVote tx vote by) = stays (RecordVote tx vote by) (applied group (RecordVote tx vote by)) (vote-waits group group.core.lock tx vote by).0
+    goes_by (RecordVote tx vote by) = stays (RecordVote tx vote by) (applied group (RecordVote tx vote by)) (vote-waits group tx vote by).0
     goes_by (GiveUp tx) = stays (GiveUp tx) (applied group (GiveUp tx)) (give_stands tx)
     goes_by (Finish tx outcome) = finish_goes group.core.lock refl tx outcome
     goes_by (Watched tx watch) = stays (Watched tx watch) (applied group (Watched tx watch)) (voted_stands (watch_vote_of group.core watch) (Watching tx watch) tx)
