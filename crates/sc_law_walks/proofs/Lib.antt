@@ -32,3 +32,5 @@ pub mod CommandWalks
 pub mod MachineSteps
 pub mod CoreWalks
 pub mod EnteredReplicas
+pub mod Routes
+pub mod AscendingMembers

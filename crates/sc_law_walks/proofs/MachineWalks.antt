@@ -1,7 +1,7 @@
 -- What an invariant of the group machine's table needs: a case for each way in which a command may change a group, with what is known there, and one for all commands that change nothing.
 use Rattle.std.proofs.Common.{◌≡◌, ℕ, ◌&&◌, not, nat_le, true, false, [], ◌∷◌, ◌++◌, length, Option, Some, None, ◌⊎◌}
 use Rattle.sc_base.specs.Definitions.{same_draw, holds, united}
-use Rattle.sc_node_table.specs.Values.{Draw, Op, Body, Offer, Watch, Command, Call, Join, Leave, Split, Begin, Prepared, RecordVote, GiveUp, Finish, Watched, RecordWatch, Lock, Coordinating, Promised, Watching, Effect, Route, Frozen, Gift, Heard, No, Outcome}
+use Rattle.sc_node_table.specs.Values.{Core, Draw, Op, Body, Offer, Watch, Command, Call, Join, Leave, Split, Begin, Prepared, RecordVote, GiveUp, Finish, Watched, RecordWatch, Lock, Coordinating, Promised, Watching, Effect, Route, Frozen, Gift, Heard, No, Outcome}
 use Rattle.sc_words.specs.commands.Definitions.{is_alone}
 use Rattle.sc_words.specs.declared.commands.bodies.Body.TheVariants as By
 use Rattle.sc_words.specs.declared.commands.effects.Effect.TheVariants as Was
@@ -53,6 +53,10 @@ pub record IsAccepted (group : Group) (c : Command) : Type 0 where
   pub stands : group.core.gone ≡ None
   pub taken : refusal_of group.core c ≡ None
 
+-- what holds where a group votes, for the first time, on what it is offered or on being a watcher
+abbrev pub VotesOn : {X : Type 0} → (group : Group) → (Draw → X → Command) → (Core → X → Option No) → (Draw → X → Lock) → (Command → Group × Effect → Type 0) → Type 0
+VotesOn {X} group command why bond P = (tx : Draw) (asked : X) → has_voted group.core tx ≡ false → P (command tx asked) (voting_group group tx (why group.core asked) (bond tx asked), Was.Voted (past_of (why group.core asked)))
+
 -- what holds of all that may come of a command
 pub record MachineWalk (group : Group) (P : Command → Group × Effect → Type 0) : Type 0 where
   pub same : (c : Command) (effect : Effect) → ChangesNothing group c effect → P c (group, effect)
@@ -64,10 +68,8 @@ pub record MachineWalk (group : Group) (P : Command → Group × Effect → Type
   pub begins_split : (at : ℕ) (child : Draw) (order : ℕ) → IsAccepted group (Split at child order) → has_named group.core child ≡ false → is_alone group.core ≡ false → P (Split at child order) (begun_group group child (By.Split at child) order, Was.Changed)
   pub begins : (tx : Draw) (body : Body) (order : ℕ) → IsAccepted group (Begin tx body order) → has_named group.core tx ≡ false → P (Begin tx body order) (begun_group group tx body order, Was.Changed)
   -- votes of the group
-  pub offers : (tx : Draw) (offer : Offer) → has_voted group.core tx ≡ false
-      → P (Prepared tx offer) (voting_group group tx (vote_of group.core offer) (Promised tx offer), Was.Voted (past_of (vote_of group.core offer)))
-  pub watches : (tx : Draw) (watch : Watch) → has_voted group.core tx ≡ false
-      → P (Watched tx watch) (voting_group group tx (watch_vote_of group.core watch) (Watching tx watch), Was.Voted (past_of (watch_vote_of group.core watch)))
+  pub offers : VotesOn group Prepared vote_of Promised P
+  pub watches : VotesOn group Watched watch_vote_of Watching P
   -- a coordinator: it hears the participant of a merge, aborts, or carries out a plan
   pub hears : (tx : Draw) (order : ℕ) → group.core.lock ≡ Coordinating tx By.Merge order None → (frozen : Frozen) (by : ℕ) → same_draw frozen.succ.group group.core.id ≡ false
       → P (RecordVote tx (Vows.Yes frozen) by) (heard_group group tx By.Merge order (record { frozen = frozen; by = by }), Was.Changed)

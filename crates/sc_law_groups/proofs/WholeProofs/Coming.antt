@@ -4,14 +4,14 @@ use Rattle.std.proofs.Common.{◌≡◌, ℕ, ◌+◌, ◌-◌, ◌/◌, ◌<◌
 use Rattle.std.proofs.lemmas.Bool.{and_parts, leb-true, cond-true, cond-false}
 use Rattle.std.proofs.lemmas.List.{length-take-le, get_or-take}
 use Rattle.sc_base.specs.Definitions.{IsRoster, is_member, with_any, without_member, united}
-use Rattle.sc_node_table.specs.Values.{Draw, Op, Body, Offer, Watch, Command, Core, Call, Join, Leave, Split, Begin, Prepared, RecordVote, Finish, Watched, Lock, Coordinating, Promised, Watching, Effect, Route, OrderRefusal, Frozen, Heard, Outcome}
+use Rattle.sc_node_table.specs.Values.{Prepared, Watched, Promised, Watching, Draw, Op, Body, Command, Core, Call, Join, Leave, Split, Begin, RecordVote, Finish, Lock, Coordinating, Effect, Route, OrderRefusal, Frozen, Heard, Outcome}
 use Rattle.sc_base.proofs.Lemmas.{roster_with, roster_without, grows, count_united}
 use Rattle.sc_words.specs.declared.commands.bodies.Body.TheVariants as By
 use Rattle.sc_words.specs.declared.commands.effects.Effect.TheVariants as Was
 use Rattle.sc_words.specs.declared.commands.votes.Outcome.TheVariants as Is
 use Rattle.sc_words.specs.declared.commands.votes.Vote.TheVariants as Vows
-use Rattle.sc_law_walks.proofs.Lemmas.{EndsIt, ChangesNothing, voting_group, IsAccepted, MachineWalk, machine_step}
-use Rattle.sc_group_table.specs.machine.Definitions.{with_node, without_node, gone_group, gained_group, lost_group, welcomed_group, watcher_after, party_freed, Group, applied, refusal_of, ordered, can_cut, has_key_of, can_split, can_merge, merged_group, may_merge, closing_group, giving_group, taking_group, can_migrate, migrated_group, staying, left_members, left_group, begun_group, decided_group, heard_group, has_voted, vote_of, watch_vote_of, past_of}
+use Rattle.sc_law_walks.proofs.Lemmas.{EndsIt, ChangesNothing, IsAccepted, VotesOn, MachineWalk, machine_step}
+use Rattle.sc_group_table.specs.machine.Definitions.{vote_of, watch_vote_of, with_node, without_node, gone_group, gained_group, lost_group, welcomed_group, watcher_after, party_freed, Group, applied, refusal_of, ordered, can_cut, has_key_of, can_split, can_merge, merged_group, may_merge, closing_group, giving_group, taking_group, can_migrate, migrated_group, staying, left_members, left_group, begun_group, decided_group, heard_group}
 
 -- ---- members
 
@@ -98,10 +98,8 @@ pub record Cases (group : Group) (P : Command → Group × Effect → Type 0) : 
   pub parted : (at : ℕ) (child : Draw) (order : ℕ) → refusal_of group.core (Split at child order) ≡ None → P (Split at child order) (left_group group at child, Was.Changed)
   pub split : (at : ℕ) (child : Draw) (order : ℕ) → refusal_of group.core (Split at child order) ≡ None → P (Split at child order) (begun_group group child (By.Split at child) order, Was.Changed)
   pub begun : (tx : Draw) (body : Body) (order : ℕ) → refusal_of group.core (Begin tx body order) ≡ None → P (Begin tx body order) (begun_group group tx body order, Was.Changed)
-  pub offered : (tx : Draw) (offer : Offer) → has_voted group.core tx ≡ false
-      → P (Prepared tx offer) (voting_group group tx (vote_of group.core offer) (Promised tx offer), Was.Voted (past_of (vote_of group.core offer)))
-  pub asked : (tx : Draw) (watch : Watch) → has_voted group.core tx ≡ false
-      → P (Watched tx watch) (voting_group group tx (watch_vote_of group.core watch) (Watching tx watch), Was.Voted (past_of (watch_vote_of group.core watch)))
+  pub offered : VotesOn group Prepared vote_of Promised P
+  pub asked : VotesOn group Watched watch_vote_of Watching P
   pub heard : (tx : Draw) (order : ℕ) (got : Option Heard) → group.core.lock ≡ Coordinating tx By.Merge order got → (frozen : Frozen) (by : ℕ)
       → P (RecordVote tx (Vows.Yes frozen) by) (heard_group group tx By.Merge order (record { frozen = frozen; by = by }), Was.Changed)
   pub ended : (c : Command) (tx : Draw) → EndsIt tx c → BindsNone group.core.lock → (after : Group) (outcome : Outcome) → Reshaped group after → P c (decided_group after tx outcome, Was.Decided outcome)

@@ -3,15 +3,16 @@ use Rattle.std.proofs.Common.{◌≡◌, ℕ, ◌+◌, ◌≤◌, ◌&&◌, Bool
 use Rattle.std.specs.Prelude.{is_some, nat_le}
 use Rattle.std.specs.List.{list_any}
 use Rattle.std.proofs.lemmas.List.Sums.{sum_by_push, sum_by-cons}
-use Rattle.sc_node_table.specs.Values.{Draw, Op, Command, Noop, Call, Core, Route, AnswerBody, Mail, Accept, Answer, Must, Flight}
+use Rattle.sc_node_table.specs.Values.{Draw, Op, Command, Noop, Call, Core, Route, AnswerBody, Mail, Accept, Answer, Flight}
 use Rattle.sc_words.specs.ideal.Definitions.{key_of, holds_key}
 use Rattle.sc_mail.specs.declared.bodies.AnswerBody.TheVariants as Says
 use Rattle.sc_words.specs.declared.paxos.answers.Must.TheVariants.{Free as Open}
 use Rattle.sc_words.specs.paxos.Definitions.{must}
 use Rattle.sc_base.specs.Definitions.{client_actor}
-use Rattle.sc_node_table.specs.Definitions.{answered, Found, is_act, waits, refused_by, turned_down, next_queued, from_backlog, from_acts, from_queues, found_by, found_for, offered, pumped_from, pumped, ReplicaState, Place, name_of, next, settled, may_offer, taken_at, under_way, is_idle, last_slot}
+use Rattle.sc_node_table.specs.Definitions.{answered, Found, is_act, waits, refused_by, turned_down, next_queued, from_backlog, from_acts, from_queues, found_for, offered, pumped_from, pumped, ReplicaState, Place, name_of, next, settled, may_offer, taken_at, under_way, is_idle, last_slot}
 use Rattle.sc_live_steps.specs.calm.Definitions.{IsUnbound, AreNines, Ways, command_owes, offered_owes, answer_owes, mail_owes, place_owes}
 use Rattle.sc_live_steps.proofs.CalmProofs.PotentialSums.{command_most, sent_owes, all_owe}
+use Rattle.sc_live_steps.proofs.PumpProofs.Pumping.{open_found as found_is}
 
 -- what is owed for a command, if there is one
 abbrev option_owes : ℕ → Option Command → ℕ
@@ -120,10 +121,6 @@ module _ (ways : Ways) where
       by false e = e
 
   -- ---- what is found for a slot at which no report binds the leader
-
-  found_is : (slot : ℕ) (r : ReplicaState) (mails : List Mail) → must slot r.leader ≡ Open → found_for slot (r, mails) ≡ from_queues (r, mails)
-  unfolding found_for
-  found_is slot r mails e = ap (λ (m : Must Command). found_by m (r, mails)) e
 
   -- ---- what is offered
 
