@@ -4,7 +4,7 @@ use Rattle.std.specs.Prelude.{is_some}
 use Rattle.std.specs.Option.{option_map}
 use Rattle.std.specs.List.{filter, list_any}
 use Rattle.std.proofs.lemmas.Bool.{cond_both, and_parts}
-use Rattle.sc_base.specs.Definitions.{Among, Each, is_member, least_of}
+use Rattle.sc_base.specs.Definitions.{Each, is_member, least_of}
 use Rattle.sc_node_table.specs.Values.{Ballot, Draw, Command, Call, Base, Effect, Route, OrderResult, AnswerBody, Mail, Prepare, Accept, Learn, Install, Must, Flight, Report}
 use Rattle.sc_mail.specs.declared.bodies.AnswerBody.TheVariants as Answers
 use Rattle.sc_law_entries.proofs.HistoryProofs.Lemmas.{applied_same}
@@ -15,6 +15,7 @@ use Rattle.sc_paxos_law.proofs.Lemmas.{among-member}
 use Rattle.sc_words.specs.declared.paxos.answers.Must.TheVariants.{Free as Open}
 use Rattle.sc_words.specs.paxos.Definitions.{below, LeaderState, must, must_without, flight_at, without_flight_at, names_above, chosen_value}
 use Rattle.sc_words.proofs.PaxosProofs.Lemmas.{Each-append}
+use Rattle.sc_words.proofs.PaxosProofs.ListLemmas.{Each-from as each_among}
 use Rattle.sc_node_table.specs.Definitions.{open_nodes, elected, ended, stopped, saw, entered, answer_of, answered_or_put_back, order_result, effect_reported, announced, learnt_to, welcomed, slot_lost, landed, left_gone, left, is_among, looked_for, looked, executed_one, child_at, next_child, has_room, next_ready, ending, executed_ready, executed, install_to, asked_to_promise, welcomed_all, sent, answered_all, sent_others, order_number, Found, is_act, next_queued, from_backlog, from_acts, from_queues, found_by, found_for, offered, pumped_from, pumped, ReplicaState, Place, Executed, childless, name_of, next, members, flying, settled, may_offer, first_set, listed, taken_at, taken_from, under_way, is_idle, open_slots, last_slot, forgotten, at_slot, without_slot, before_of, spoken}
 use Rattle.sc_node_table.specs.declared.Before.{Before}
 use Rattle.sc_law_walks.proofs.Lemmas.{executed_place, either_way}
@@ -182,10 +183,6 @@ module _ (a : Affair) (g : Draw) where
     none_new before [] k = refl
     none_new before (node ∷ nodes) k =
         subst (λ b. cond (not b) (node ∷ filter (λ n. not (is_member before n)) nodes) (filter (λ n. not (is_member before n)) nodes) ≡ []) (sym k.0) (none_new before nodes k.1)
-
-    each_among : {X : Type 0} (P : X → Type 0) (xs : List X) → ((x : X) → Among x xs → P x) → Each P xs
-    each_among P [] all = tt
-    each_among P (x ∷ xs) all = (all x (inl refl), each_among P xs (λ y is. all y (inr is)))
 
     welcomed_goes : (before : List ℕ) (place : Place) → a.Parts ⊎ ((node : ℕ) → is_member after.core.members node ≡ true → is_member before node ≡ true) → Goes counted after place → Goes counted after (welcomed counted before place)
     unfolding welcomed

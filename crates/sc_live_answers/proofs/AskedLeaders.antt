@@ -15,7 +15,7 @@ use Rattle.sc_words.proofs.PaxosProofs.Lemmas.{Each-among}
 use Rattle.sc_client_table.specs.table.Definitions.{Client as ClientState, waiting_request, ClientStep, asked_of, sent_to, sent_where, chosen_for, request_sent, started, waits_for, was_asked, redirected, answer_taken, got}
 use Rattle.sc_scenario.specs.declared.scenario.scenarios.Asks.{Asks}
 use Rattle.sc_live_plain.specs.Definitions.{IsLinkedSetting, IsCalmClient, start_of, start_known, Setting, IsSetting, IsCalmMail, Frame, IsWaiting, IsBegun, Requests}
-use Rattle.sc_live_plain.proofs.Lemmas.{name_in, id_of, gap, learn_in_turn, chosen_is, some_is, map_among, near_behind}
+use Rattle.sc_live_plain.proofs.Lemmas.{name_in, id_of, gap, learn_in_turn, chosen_is, some_is, map_among, near_behind, started_names as starting_names}
 use Rattle.sc_live_answers.specs.Definitions.{IsLedAt, AsksLeaders, ClientsAskLeaders}
 use Rattle.sc_live_answers.proofs.ClientAnswers.{chosen_known, RingKnown, ring_known, alone, Says, says_of, all_led, lacks}
 
@@ -89,17 +89,6 @@ push_target other (k ∷ ks) entry node e =
         | inr same ↦ inr same
       ]
     ]
-
-set_names : (test : Draw → Bool) (known : KnownGroups) (way : Way) → map name_in (set_value test known way) ≡ map name_in known
-set_names test [] way = refl
-set_names test (k ∷ ks) way = cond_both (test k.0) ((k.0, way) ∷ ks) (k ∷ set_value test ks way) (λ l. map name_in l ≡ k.0 ∷ map name_in ks) (λ _. refl) (λ _. ap (λ l. k.0 ∷ l) (set_names test ks way))
-
-starting_names : (group : Draw) (lo : ℕ) (known : KnownGroups) → map name_in (starting group lo known) ≡ map name_in known
-starting_names group lo known = by (way_to group known)
-  where
-    by : (o : Option Way) → map name_in (changed (λ way. record way { lo = lo }) group known o) ≡ map name_in known
-    by None = refl
-    by (Some way) = set_names (same_draw group) known (record way { lo = lo })
 
 -- a group that an answer names is known as before, or goes last
 abbrev GoesLast : KnownGroups → Draw → Arc → Link → Draw → ℕ → KnownGroups → Type 0

@@ -3,16 +3,17 @@ use Rattle.std.proofs.Common.{◌≡◌, ℕ, Bool, true, false, List, [], ◌�
 use Rattle.sc_base.specs.Definitions.{Among, Each}
 use Rattle.sc_node_table.specs.Values.{Ballot, Draw, Command, Mail, MailBody, Request, Answer, Prepare, Promise, Accept, Accepted, Nack, Learn, Ask, Install, TxPrepare, TxVote, TxOutcome, TxElsewhere, TxWatch, TxWatched, Told as ToldMail, Seat, Flight}
 use Rattle.sc_group_table.specs.machine.Definitions.{applied, Group}
-use Rattle.sc_node_table.specs.Definitions.{group_of_mail, ReplicaState, Place, mailed, name_of, before_of, went_on}
+use Rattle.sc_node_table.specs.Definitions.{ReplicaState, Place, mailed, name_of, before_of, went_on}
 use Rattle.sc_meaning.specs.sound.Definitions.{Player}
 use Rattle.sc_live_steps.specs.calm.Definitions.{Rows}
 use Rattle.sc_live_steps.specs.orders.Definitions.{bond_of, errand_by, is_yes, is_cast_yes, work_by, works, FliesLone, RunsAlone, Answers, Bound, Elsewhere, Errand, Question, Reply, Result, Here, Records, Ends, Unbound, Work, IsUnderWay, IsUnbound, MayFile, Works, EntryLeaves, results, errands_for, is_watch, Asking, Bond, First, IsOnly, IsNone, Lone, Next, Turn}
 use Rattle.sc_live_steps.proofs.OrdersProofs.Lemmas.{votes-count-alone, tables-file, tables-ask-on, cases-draw, tables-rest, promises-keep, entries-run-alone}
-use Rattle.sc_live_journals.specs.scenes.Definitions.{Expects, IsAsking, IsWaiting, Aborted, Changed, Decided, Ended, FindsFlight, Heard, Late, LeaderFinds, Leaves, Opened, Voted, ComesToLeader, scene_at, IsEntry}
-use Rattle.sc_live_journals.proofs.ScenesProofs.Lemmas.{row_of_comes, answers_reach, errand_among, tell}
+use Rattle.sc_live_journals.specs.scenes.Definitions.{IsAsking, IsWaiting, Aborted, Changed, Decided, Ended, FindsFlight, Heard, Late, LeaderFinds, Leaves, Opened, Voted, ComesToLeader, scene_at, IsEntry}
+use Rattle.sc_live_journals.proofs.ScenesProofs.Lemmas.{tell}
 use Rattle.sc_live_journals.proofs.ScenesProofs.AnswersAndLateMail.{untouched, asks_leave, votes_late, learnt_late, sent_late}
 use Rattle.sc_words.proofs.PaxosProofs.Lemmas.{Each-among}
 use Rattle.std.specs.Prelude.{cond}
+use Rattle.sc_live_answers.proofs.LeaderDeliveries.{expected, strays}
 
 -- ---- errands
 
@@ -71,11 +72,6 @@ module _ (words : ℕ → ℕ → ℕ × ℕ) (births : List (Seat Player)) (row
   abbrev waiting : Here
   waiting = (scene_at births rows).at group
 
-  expected : (entry : Draw × Errand) → errand_by mail.from mail.to mail.body ≡ Some entry → Expects entry.1 waiting
-  expected entry errand =
-      answers_reach.waits (scene_at births rows) group entry.1 under
-      (errand_among words births rows seat number mail group entry errand c.comes.node c.comes.taking (row_of_comes words births rows seat number mail group r c.comes).0)
-
   bond_here : waiting.bond ≡ bond_of r.group.core
   bond_here = (tell.led births rows group seat.who r c.leads).1.0
 
@@ -84,9 +80,6 @@ module _ (words : ℕ → ℕ → ℕ × ℕ) (births : List (Seat Player)) (row
 
   none_some : {X : Type 0} {x : X} → None ≡ Some x → ⊥
   none_some e = cc
-
-  strays : (body : MailBody) → mail.body ≡ body → group_of_mail body ≡ None → ⊥
-  strays body e none = none_some (sym none ∙ (ap group_of_mail (sym e) ∙ c.comes.taking.named))
 
   abbrev By : MailBody → Type 0
   By body = IsSending mail r (mailed mail.from body (r, [])).0
@@ -114,24 +107,24 @@ module _ (words : ℕ → ℕ → ℕ × ℕ) (births : List (Seat Player)) (row
 
   by_body : (body : MailBody) → mail.body ≡ body → LeaderFinds births rows seat number mail group r body → By body
   by_body (TxPrepare tx offer) e f =
-      let w : IsWaiting Unbound waiting = expected (offer.part, Question tx offer.coord false offer.by mail.to) (ap (errand_by mail.from mail.to) e) in
+      let w : IsWaiting Unbound waiting = expected words births rows seat number mail group r c under (offer.part, Question tx offer.coord false offer.by mail.to) (ap (errand_by mail.from mail.to) e) in
       mute mail r (Answers tx offer.coord false offer.by ∷ []) (mailed mail.from (TxPrepare tx offer) (r, [])).0 (tables-file.offer mail.from tx offer r (may f.0 w.work) f.1)
   by_body (TxWatch tx watch) e f =
-      let w : IsWaiting Unbound waiting = expected (watch.part, Question tx watch.coord true watch.by mail.to) (ap (errand_by mail.from mail.to) e) in
+      let w : IsWaiting Unbound waiting = expected words births rows seat number mail group r c under (watch.part, Question tx watch.coord true watch.by mail.to) (ap (errand_by mail.from mail.to) e) in
       mute mail r (Answers tx watch.coord true watch.by ∷ []) (mailed mail.from (TxWatch tx watch) (r, [])).0 (tables-file.watch mail.from tx watch r (may f.0 w.work) f.1)
   by_body (TxVote tx coord party vote) e f =
-      let w : IsAsking tx (Some false) waiting = expected (coord, Reply tx false (is_yes vote) mail.from mail.to) (ap (errand_by mail.from mail.to) e) in
+      let w : IsAsking tx (Some false) waiting = expected words births rows seat number mail group r c under (coord, Reply tx false (is_yes vote) mail.from mail.to) (ap (errand_by mail.from mail.to) e) in
       mute mail r (Records tx false (is_yes vote) mail.from ∷ []) (mailed mail.from (TxVote tx coord party vote) (r, [])).0
       (tables-file.vote mail.from tx coord party vote w.asked w.turn r (may f.0 w.work) (sym bond_here ∙ w.bond) (w.turn_is false refl) f.1)
   by_body (TxWatched tx coord party vote) e f =
-      let w : IsAsking tx (Some true) waiting = expected (coord, Reply tx true (is_cast_yes vote) mail.from mail.to) (ap (errand_by mail.from mail.to) e) in
+      let w : IsAsking tx (Some true) waiting = expected words births rows seat number mail group r c under (coord, Reply tx true (is_cast_yes vote) mail.from mail.to) (ap (errand_by mail.from mail.to) e) in
       mute mail r (Records tx true (is_cast_yes vote) mail.from ∷ []) (mailed mail.from (TxWatched tx coord party vote) (r, [])).0
       (tables-file.watched mail.from tx coord party vote w.asked w.turn r (may f.0 w.work) (sym bond_here ∙ w.bond) (w.turn_is true refl) f.1)
   by_body (TxOutcome tx party outcome) e f =
-      let w : IsWaiting (Bound tx) waiting = expected (party, Result tx mail.to) (ap (errand_by mail.from mail.to) e) in
+      let w : IsWaiting (Bound tx) waiting = expected words births rows seat number mail group r c under (party, Result tx mail.to) (ap (errand_by mail.from mail.to) e) in
       mute mail r (Ends tx ∷ []) (mailed mail.from (TxOutcome tx party outcome) (r, [])).0 (tables-file.outcome mail.from tx party outcome r (may f w.work) (sym bond_here ∙ w.bond_is))
   by_body (TxElsewhere tx coord hint) e f =
-      let w : IsAsking tx None waiting = expected (coord, Elsewhere tx mail.to) (ap (errand_by mail.from mail.to) e) in
+      let w : IsAsking tx None waiting = expected words births rows seat number mail group r c under (coord, Elsewhere tx mail.to) (ap (errand_by mail.from mail.to) e) in
       let w2 = tables-ask-on mail.from f.to tx coord w.asked w.turn r f.settles (sym bond_here ∙ w.bond) in
       subst (λ h. By (TxElsewhere tx coord h)) (sym f.hint_is)
       (AsksOn tx coord f.to (e ∙ ap (λ h. TxElsewhere tx coord h) f.hint_is) (λ name x a. only_each (IsTo f.to) ((w.asked, Question tx (name_of r) (is_watch w.turn) r.me f.to ∷ []) ∷ []) (λ n. errands_for n (mailed mail.from (TxElsewhere tx coord (Some f.to)) (r, [])).0.1) w2.sends ((refl, tt), tt) name x a))
@@ -149,8 +142,8 @@ module _ (words : ℕ → ℕ → ℕ × ℕ) (births : List (Seat Player)) (row
       mute mail r (works r) (mailed mail.from (Install named slot base sets) (r, [])).0 (untouched r (mailed mail.from (Install named slot base sets) (r, [])).0 (sent_late r mail.from named slot base sets f))
   by_body (Ask named slot) e f = mute mail r (works r) (mailed mail.from (Ask named slot) (r, [])).0 (untouched r (mailed mail.from (Ask named slot) (r, [])).0 (asks_leave r mail.from named slot))
   by_body (Request named client seq op) e f = mute mail r (works r) (mailed mail.from (Request named client seq op) (r, [])).0 f
-  by_body (Answer named seq answer) e f = absurd (strays (Answer named seq answer) e refl)
-  by_body (ToldMail order result) e f = absurd (strays (ToldMail order result) e refl)
+  by_body (Answer named seq answer) e f = absurd (strays words births rows seat number mail group r c under (Answer named seq answer) e refl)
+  by_body (ToldMail order result) e f = absurd (strays words births rows seat number mail group r c under (ToldMail order result) e refl)
 
   pub leader_sends : LeaderFinds births rows seat number mail group r mail.body → IsSending mail r (mailed mail.from mail.body (r, [])).0
   leader_sends f = by_body mail.body refl f

@@ -1,12 +1,12 @@
 -- Calm scenarios at their budget have charts, so no line of theirs is cut off, and their quiet journals rest.
-use Rattle.std.proofs.Common.{◌≡◌, ℕ, ◌+◌, ◌*◌, ◌^◌, ◌≤◌, eqb, Bool, true, false, true≢false, cond, List, [], ◌∷◌, ◌++◌, length, find, replicate, Some, None, ◌||◌, zero, suc, inl, inr, refl, sym, ◌∙◌, ap, subst, arith, append-nil, length-append}
+use Rattle.std.proofs.Common.{◌≡◌, ℕ, ◌+◌, ◌*◌, ◌^◌, ◌≤◌, eqb, Bool, true, false, true≢false, cond, List, [], ◌∷◌, ◌++◌, length, find, Some, None, ◌||◌, inl, inr, refl, sym, ◌∙◌, ap, subst, arith, append-nil, length-append}
 use Rattle.std.specs.List.{list_any}
 use Rattle.std.proofs.Math.Nat.{mul-le-mul}
 use Rattle.std.proofs.lemmas.Bool.{cases_lt}
-use Rattle.sc_base.specs.Definitions.{Among, Each}
+use Rattle.sc_base.specs.Definitions.{Each}
 use Rattle.sc_node_table.specs.Values.{Base, OrderLine, Mail, MailBody, Told, Node, Client, Seat, Row}
 use Rattle.sc_actor.specs.Definitions.{mails, copies, System, numbers_of, is_delivery, is_quiet, unsettled}
-use Rattle.sc_live_orderly.specs.Definitions.{deliveries, orders, is_born, mail_with, HasRoom, under_way, AreInTime, AreSpaced, Nothing, IsMeasure, orders_given}
+use Rattle.sc_live_orderly.specs.Definitions.{deliveries, orders, is_born, HasRoom, under_way, AreInTime, AreSpaced, Nothing, IsMeasure, orders_given}
 use Rattle.sc_live_orderly.proofs.GivenOrders.{few_told, spaced_are_calm}
 use Rattle.sc_live_orderly.proofs.Lemmas.{count_push, rows_in_time, deliveries_and_orders, settled_in_time, uncut_before}
 use Rattle.sc_words.proofs.PaxosProofs.Lemmas.{Each-among, Each-from}

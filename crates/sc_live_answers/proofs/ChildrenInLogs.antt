@@ -15,11 +15,12 @@ use Rattle.sc_law_groups.specs.whole.Definitions.{BeginsWell, section_op, Orders
 use Rattle.sc_law_groups.proofs.WholeProofs.Lemmas.{orders_allowed}
 use Rattle.sc_live_steps.specs.calm.Definitions.{Rows}
 use Rattle.sc_live_journals.specs.rows.Definitions.{view_at}
-use Rattle.sc_live_journals.specs.logs.Definitions.{IsGroupOf, ViewsAreReplicas}
+use Rattle.sc_live_journals.specs.logs.Definitions.{ViewsAreReplicas}
 use Rattle.sc_live_journals.proofs.LogsProofs.Lemmas.{found}
 use Rattle.sc_live_answers.specs.Definitions.{ReplicasRunLogs, IsCalmJournal, IsPrefixOf}
 use Rattle.sc_live_answers.proofs.KnownChildren.{HasCreated, stays_born, kid_members, new_born}
 use Rattle.sc_live_answers.proofs.Lineage.{log_gains, take_more, last_child}
+use Rattle.sc_live_answers.proofs.JournalGroups.{calm_group}
 use Rattle.sc_group_table.proofs.MachineProofs.Lemmas.{state_push}
 
 -- the laws of journals that are used
@@ -49,9 +50,6 @@ module _ (laws : OfJournals) (words : ℕ → ℕ → ℕ × ℕ) (scenario : Sc
   pub all_found : AreFound as_nodes scenario.groups journal
   all_found = found sources as_nodes words scenario route well journal orders calm.lawful
 
-  pub group_is : (base : Base) → Among base (groups_at as_nodes scenario.groups journal) → IsGroupOf as_nodes words scenario journal base
-  group_is base stands = record { open_slots = refl; valid = calm.valid; lawful = calm.lawful; stands = stands }
-
   module _ (base : Base) (stands : Among base (groups_at as_nodes scenario.groups journal)) where
     abbrev log : List Command
     log = decided_log as_nodes base journal
@@ -63,8 +61,8 @@ module _ (laws : OfJournals) (words : ℕ → ℕ → ℕ × ℕ) (scenario : Sc
     -- a replica of it has executed some of them
     pub state_of : (rows : Rows) → IsPrefixOf journal rows → (who : ℕ) (r : ReplicaState) → view_at (births as_nodes scenario) rows base.core.id who ≡ Some r → (k : ℕ) × (next r ≡ suc k) × (r.group ≡ State k)
     state_of rows prefix who r v =
-        let here = laws.views as_nodes words scenario journal base (group_is base stands) rows prefix.more prefix.is who r v in
-        let run = laws.runs as_nodes words scenario journal base (group_is base stands) rows here.0 here.1 r here.2 in
+        let here = laws.views as_nodes words scenario journal base (calm_group words scenario journal calm base stands) rows prefix.more prefix.is who r v in
+        let run = laws.runs as_nodes words scenario journal base (calm_group words scenario journal calm base stands) rows here.0 here.1 r here.2 in
         let some : 1 ≤ next r = run.0 in
         (next r - 1, omega (arith, some), run.1)
 

@@ -21,6 +21,7 @@ use Rattle.sc_live_steps.specs.calm.Definitions.{Rows}
 use Rattle.sc_live_journals.specs.rows.Definitions.{view_at, replicas_of, replica_in, IsSeat}
 use Rattle.sc_live_journals.proofs.RowsProofs.Lemmas.{found_name}
 use Rattle.sc_live_journals.specs.scenes.Definitions.{IsNowhere}
+use Rattle.sc_live_journals.proofs.MailProofs.MailSenders.{numbers_in}
 
 -- ---- the groups of a scenario have no name that nodes draw
 
@@ -38,14 +39,6 @@ begin_undrawn scenario bounded = subst (Each BeginsUndrawn) (sym bounded.groups)
 module _ (scenario : Scenario) where
   IsBorn : Seat Player → Type 0
   IsBorn seat = (born : NodeState) → seat.actor ≡ Node born → (n : ℕ) × (1 ≤ n) × (n ≤ scenario.nodes) × (seat ≡ node_seat as_nodes scenario.groups scenario.policy n)
-
-  numbers_in : (from more : ℕ) → Each (λ n. (from ≤ n) × (n + 1 ≤ from + more)) (numbers_from from more)
-  numbers_in from zero = tt
-  numbers_in from (suc more) = ((omega arith, omega arith), weaker (numbers_from (from + 1) more) (numbers_in (from + 1) more))
-    where
-      weaker : (ns : List ℕ) → Each (λ n. (from + 1 ≤ n) × (n + 1 ≤ (from + 1) + more)) ns → Each (λ n. (from ≤ n) × (n + 1 ≤ from + suc more)) ns
-      weaker [] k = tt
-      weaker (n ∷ ns) k = ((let low = k.0.0 in let high = k.0.1 in (omega (arith, low), omega (arith, high))), weaker ns k.1)
 
   nodes_born : (numbers : List ℕ) → Each (λ n. (1 ≤ n) × (n + 1 ≤ 1 + scenario.nodes)) numbers → Each IsBorn (map (node_seat as_nodes scenario.groups scenario.policy) numbers)
   unfolding IsBorn

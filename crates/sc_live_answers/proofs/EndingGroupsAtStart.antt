@@ -1,5 +1,5 @@
 -- Which groups go is known once an order is given in a quiet prefix: none did.
-use Rattle.std.proofs.Common.{◌≡◌, ◌⊎◌, ℕ, eqb, true≢false, List, [], Option, Some, None, is_some, inl, inr, refl, sym, ◌∙◌, ap, subst, arith}
+use Rattle.std.proofs.Common.{◌≡◌, ◌⊎◌, ℕ, eqb, true≢false, List, [], Option, Some, None, is_some, inl, inr, refl, sym, ◌∙◌, ap, arith}
 use Rattle.std.proofs.lemmas.Bool.{cases_Bool, eq-eqb, eqb-true}
 use Rattle.std.proofs.lemmas.Option.{none-some, same_Some}
 use Rattle.sc_base.specs.Definitions.{Each}
@@ -15,16 +15,16 @@ use Rattle.sc_meaning.specs.sound.Definitions.{Player, as_nodes, births, player_
 use Rattle.sc_live_steps.specs.calm.Definitions.{Rows}
 use Rattle.sc_live_journals.specs.logs.Definitions.{IsGroupOf}
 use Rattle.sc_live_journals.proofs.LogsProofs.Lemmas.{views_are_replicas}
-use Rattle.sc_live_steps.specs.orders.Definitions.{works, Asking, Bound, Here, Scene, Turn, Unbound, Asks, Closes, ClosesBoth, IsAt, Leg, Ordered, Recorded, Replied, SentOn, Stage, Still, Weighs, closing}
+use Rattle.sc_live_steps.specs.orders.Definitions.{works, Here, Scene, Asks, Closes, ClosesBoth, IsAt, Ordered, Recorded, Replied, SentOn, Stage, Still, Weighs}
 use Rattle.sc_live_steps.proofs.OrdersProofs.Lemmas.{cases-draw, tables-order}
 use Rattle.sc_live_journals.specs.rows.Definitions.{view_at, with_event}
 use Rattle.sc_live_journals.proofs.RowsProofs.Lemmas.{view_is, view_others}
-use Rattle.sc_live_journals.specs.scenes.Definitions.{ByAnother, ByLeader, FindsQuiet, IsGivenInQuiet, StageAfter, scene_at, IsOfGroup, IsTablesRow, LeavesOrMakes}
-use Rattle.sc_live_journals.proofs.ScenesProofs.Lemmas.{found_step, now_is, rows_taken, was_is}
+use Rattle.sc_live_journals.specs.scenes.Definitions.{ByAnother, ByLeader, FindsQuiet, IsGivenInQuiet, scene_at, IsOfGroup, IsTablesRow, LeavesOrMakes}
+use Rattle.sc_live_journals.proofs.ScenesProofs.Lemmas.{now_is, rows_taken, was_is}
 use Rattle.sc_live_answers.specs.Definitions.{EndingGroupsBegin, HasBegun, IsGoingSince, WasGone, IsCalmJournal, IsPrefixOf, PrefixesAreFound, EndsAreLogged, tx_of, RestsAt, AreSeen}
 use Rattle.sc_live_answers.proofs.GuidedGroups.{named_there}
 use Rattle.sc_live_answers.proofs.QuestionedGroups.{rests_idle}
-use Rattle.sc_live_answers.proofs.OrderFactsAtStart.{begun_so, ordered_unbound, still_unbound, closing_bond}
+use Rattle.sc_live_answers.proofs.OrderFactsAtStart.{no_deal, no_party}
 
 -- the transaction of a stage, if it has one
 the_tx : (o : Option Draw) → (tx : Draw) × Each (λ other. other ≡ tx) (listed o)
@@ -44,34 +44,16 @@ module _ (found_law : PrefixesAreFound) (ends_law : EndsAreLogged) (words : ℕ 
 
   -- ---- no transaction has begun
 
-  found : StageAfter all quiet seat (Told line) Still
-  found = found_step words all quiet seat (Told line) t.seated t.timely t.finds Still t.still
-
-  unbound : (name : Draw) → (after.at name).bond ≡ Unbound
-  unbound name = elim found.2 [
-    | inl e ↦ still_unbound after (subst (λ x. IsAt x after) e found.1) name
-    | inr g ↦ elim (begun_so g.group found.0 g.step) [
-      | inl e ↦ still_unbound after (subst (λ x. IsAt x after) e found.1) name
-      | inr o ↦ ordered_unbound after g.group o.0 o.1 (subst (λ x. IsAt x after) o.2 found.1) name
-    ]
-  ]
-
-  no_deal : (name tx asked : Draw) (turn : Turn) → (after.at name).bond ≡ Asking tx asked turn → ⊥
-  no_deal name tx asked turn e = (let bad : Asking tx asked turn ≡ Unbound = sym e ∙ unbound name in cc)
-
-  no_party : (name tx : Draw) (leg : Leg) (host : ℕ) → after.at name ≡ closing tx leg host → ⊥
-  no_party name tx leg host e = (let bad : Bound tx ≡ Unbound = sym (closing_bond tx leg host) ∙ (ap (λ (h : Here). h.bond) (sym e) ∙ unbound name) in cc)
-
   none_begun : (stage : Stage) → IsAt stage after → HasBegun stage → ⊥
   none_begun Still a h = h
   none_begun (Ordered group chief work) a h = h
-  none_begun (Asks deal to) a h = no_deal deal.coord deal.tx deal.asked deal.turn (ap (λ (x : Here). x.bond) a.parties.0.0)
-  none_begun (SentOn deal) a h = no_deal deal.coord deal.tx deal.asked deal.turn (ap (λ (x : Here). x.bond) a.parties.0.0)
-  none_begun (Weighs deal host) a h = no_deal deal.coord deal.tx deal.asked deal.turn (ap (λ (x : Here). x.bond) a.parties.0.0)
-  none_begun (Replied deal agreed host) a h = no_deal deal.coord deal.tx deal.asked deal.turn (ap (λ (x : Here). x.bond) a.parties.0.0)
-  none_begun (Recorded deal agreed host) a h = no_deal deal.coord deal.tx deal.asked deal.turn (ap (λ (x : Here). x.bond) a.parties.0.0)
-  none_begun (Closes tx party) a h = no_party party.group tx party.leg party.host a.parties.0.0
-  none_begun (ClosesBoth tx one two) a h = no_party one.group tx one.leg one.host a.parties.0.0
+  none_begun (Asks deal to) a h = no_deal words all quiet seat line t deal.coord deal.tx deal.asked deal.turn (ap (λ (x : Here). x.bond) a.parties.0.0)
+  none_begun (SentOn deal) a h = no_deal words all quiet seat line t deal.coord deal.tx deal.asked deal.turn (ap (λ (x : Here). x.bond) a.parties.0.0)
+  none_begun (Weighs deal host) a h = no_deal words all quiet seat line t deal.coord deal.tx deal.asked deal.turn (ap (λ (x : Here). x.bond) a.parties.0.0)
+  none_begun (Replied deal agreed host) a h = no_deal words all quiet seat line t deal.coord deal.tx deal.asked deal.turn (ap (λ (x : Here). x.bond) a.parties.0.0)
+  none_begun (Recorded deal agreed host) a h = no_deal words all quiet seat line t deal.coord deal.tx deal.asked deal.turn (ap (λ (x : Here). x.bond) a.parties.0.0)
+  none_begun (Closes tx party) a h = no_party words all quiet seat line t party.group tx party.leg party.host a.parties.0.0
+  none_begun (ClosesBoth tx one two) a h = no_party words all quiet seat line t one.group tx one.leg one.host a.parties.0.0
 
   -- ---- a replica after the row has the group of one before it, or is new
 

@@ -48,10 +48,10 @@ own_members old (m ∷ more) f = (f m (or_left (eqb m m) (is_member more m) (eq-
 left_none : (n : ℕ) (old : List ℕ) → length (filter (λ who. not (is_member old who)) (take n old)) ≡ 0
 left_none n old = ap (λ (l : List ℕ). length l) (none_new old (take n old) (taken_old n old old (own_members old old (λ who e. e))))
 
-any_kept : (members : List ℕ) (node who : ℕ) → is_member members who ≡ true → is_member (with_any members node) who ≡ true
+pub any_kept : (members : List ℕ) (node who : ℕ) → is_member members who ≡ true → is_member (with_any members node) who ≡ true
 any_kept members node who m = cond_both (is_member members node) members (with_member members node) (λ xs. is_member xs who ≡ true) (λ _. m) (λ _. with_kept members node who m)
 
-united_kept : (members others : List ℕ) (who : ℕ) → is_member members who ≡ true → is_member (united members others) who ≡ true
+pub united_kept : (members others : List ℕ) (who : ℕ) → is_member members who ≡ true → is_member (united members others) who ≡ true
 united_kept members [] who m = m
 united_kept members (x ∷ others) who m = united_kept (with_any members x) others who (any_kept members x who m)
 

@@ -21,9 +21,9 @@ use Rattle.sc_live_journals.specs.rows.Definitions.{IsSeat}
 use Rattle.sc_live_journals.specs.mail.Definitions.{IsClientsBody, IsPlayers, IsPosted, MailIsPosted}
 use Rattle.sc_live_answers.specs.Definitions.{IsNodeOf, GoesToNode, RefusesToNode, RefusalsGoToNodes, NodeErrandsReachPlayers}
 use Rattle.sc_live_answers.proofs.QuietPrefixes.{IsClient, client_among, node_among, seat_in}
-use Rattle.sc_live_answers.proofs.RefusalMail.{IsRefusal, AreSaid}
+use Rattle.sc_live_answers.proofs.Refusals.{IsRefusal, AreSaid}
 use Rattle.sc_live_answers.proofs.PlayerRefusals.{input_said}
-use Rattle.sc_live_answers.proofs.RefusalsInRows.{Refuses}
+use Rattle.sc_live_journals.proofs.RowsProofs.OwnGroupMail.{Refuses}
 
 -- what a client sends asks for no promise, and to accept nothing
 clients_unrefused : (me : ℕ) (state : AcceptorState Command) (body : MailBody) → IsClientsBody me body → Refuses state body → ⊥

@@ -10,7 +10,8 @@ use Rattle.sc_live_steps.specs.following.Definitions.{Mark, promise_by, reached,
 use Rattle.sc_live_steps.proofs.FollowingProofs.Lemmas.{hinted-append, counts_of, reached-append, pledged-append, reached-least, pledged-most, rises, offers-reached}
 use Rattle.sc_live_answers.proofs.PrepareSlots.{MovesLast}
 use Rattle.sc_live_answers.specs.Definitions.{IsPassed, IsFated, EndsGone, AreFated}
-use Rattle.sc_live_answers.proofs.Lists.{round_most, Silent, none_silent, counts_silent, pledged_rises, fit_behind, open_or, member_open, told_nothing, told_all, offered_nothing}
+use Rattle.sc_live_answers.proofs.Lists.{round_most, Silent, none_silent, counts_silent, open_or, member_open, told_nothing, told_all, offered_nothing}
+use Rattle.sc_live_answers.proofs.PromisedBallots.{others_rise}
 
 module _ (at : Sets) (by : Tellers) (now after : Progress) (node : ℕ) (taken : Option Mark) (sent marks marks_after : ℕ → List Mark) (hints hints_after : ℕ → Option ℕ) (row : IsRow now after node taken sent marks marks_after)
     (was : IsFollowing at now marks) (then_ : IsFollowing at after marks_after) (others : (who : ℕ) → (who ≡ node → ⊥) → hints_after who ≡ hints who) (k : AreFated at by now hints marks) where
@@ -53,16 +54,8 @@ module _ (at : Sets) (by : Tellers) (now after : Progress) (node : ℕ) (taken :
     passed = subst (IsPassed after marks_after) (sym promise) (up (pledged (now.promise who) (marks who)) f.passed);
   }
 
-  -- no promise falls
-  pub promises_rise : (who : ℕ) → (who ≡ node → ⊥) → IsAtLeast (pledged (after.promise who) (marks_after who)) (pledged (now.promise who) (marks who))
-  promises_rise who ne =
-      let fit : AreFit (now.next who) (now.promise who) (marks who ++ sent who) = subst (λ n. AreFit n (now.promise who) (marks who ++ sent who)) (row.next who ne) (subst (λ p. AreFit (after.next who) p (marks who ++ sent who)) (row.promise who ne)
-      (subst (AreFit (after.next who) (after.promise who)) (row.others who ne) (then_.fits who))) in
-      subst (λ p. IsAtLeast p (pledged (now.promise who) (marks who))) (sym (promise_more who ne))
-      (pledged_rises (reached (now.next who) (marks who)) (pledged (now.promise who) (marks who)) (sent who) (fit_behind (now.next who) (now.promise who) (marks who) (sent who) fit))
-
   promised_up : (who : ℕ) → (who ≡ node → ⊥) → (pledged (now.promise who) (marks who)).round ≤ (pledged (after.promise who) (marks_after who)).round
-  promised_up who ne = round_most (pledged (after.promise who) (marks_after who)) (pledged (now.promise who) (marks who)) (promises_rise who ne)
+  promised_up who ne = round_most (pledged (after.promise who) (marks_after who)) (pledged (now.promise who) (marks who)) (others_rise now after node taken sent marks marks_after row then_.fits who ne)
 
   -- ---- rows in which the course stays
 

@@ -8,7 +8,7 @@ use Rattle.sc_base.specs.Definitions.{Among, same_draw}
 use Rattle.sc_node_table.specs.Values.{Draw, Route, Node, Client, Seat}
 use Rattle.sc_base.proofs.Lemmas.{draw_is, same_name}
 use Rattle.sc_actor.specs.Definitions.{value}
-use Rattle.sc_paxos_law.proofs.Lemmas.{Among-left, Among-right, Among-either, from_map}
+use Rattle.sc_paxos_law.proofs.Lemmas.{Among-left, Among-either, from_map}
 use Rattle.sc_words.proofs.PaxosProofs.Lemmas.{find_found}
 use Rattle.sc_scenario.specs.scenario.Definitions.{ValidScenariosAreBounded}
 use Rattle.sc_scenario.specs.declared.scenario.scenarios.Scenario.{Scenario}
@@ -24,6 +24,7 @@ use Rattle.sc_live_journals.proofs.ChartsProofs.Lemmas.{led_by}
 use Rattle.sc_live_answers.specs.Definitions.{LawfulReplicasAreNamedOnce, GoneAgree, IsQuietPrefix, IsFoundPrefix, PrefixesAreFound}
 use Rattle.sc_live_answers.proofs.QuietPrefixes.{IsClient, replayed_client, client_among, seat_in, node_among}
 use Rattle.sc_live_answers.proofs.Frames.{found_once}
+use Rattle.sc_live_answers.proofs.AllReplicas.{from_seats, into_seats}
 
 -- ---- lists
 
@@ -41,7 +42,7 @@ went_none group (r ∷ rs) none = elim (cases_Bool (same_draw (name_of r) group)
 ]
 
 -- one went where some replica says
-went_found : (group : Draw) (into : Route) (rs : List ReplicaState) → went_in group rs ≡ Some into → (r : ReplicaState) × Among r rs × (name_of r ≡ group) × (r.group.core.gone ≡ Some into)
+pub went_found : (group : Draw) (into : Route) (rs : List ReplicaState) → went_in group rs ≡ Some into → (r : ReplicaState) × Among r rs × (name_of r ≡ group) × (r.group.core.gone ≡ Some into)
 went_found group into [] e = absurd (none-some into e)
 went_found group into (r ∷ rs) e = by (λ w. went_found group into rs w) (same_draw (name_of r) group && is_some r.group.core.gone) refl e
   where
@@ -50,7 +51,7 @@ went_found group into (r ∷ rs) e = by (λ w. went_found group into rs w) (same
     by rest false f w = (let more = rest w in (more.0, inr more.1, more.2, more.3))
 
 -- where some replica is gone, it went somewhere
-went_some : (group : Draw) (into : Route) (rs : List ReplicaState) (r : ReplicaState) → Among r rs → name_of r ≡ group → r.group.core.gone ≡ Some into → (elsewhere : Route) × (went_in group rs ≡ Some elsewhere)
+pub went_some : (group : Draw) (into : Route) (rs : List ReplicaState) (r : ReplicaState) → Among r rs → name_of r ≡ group → r.group.core.gone ≡ Some into → (elsewhere : Route) × (went_in group rs ≡ Some elsewhere)
 went_some group into [] r a named gone = absurd a
 went_some group into (x ∷ rs) r a named gone = by (λ more. went_some group into rs r more named gone) (same_draw (name_of x) group && is_some x.group.core.gone) refl
   where
@@ -84,18 +85,6 @@ module _ (bounded : ValidScenariosAreBounded) (named : LawfulReplicasAreNamedOnc
 
   -- ---- seat by seat
 
-  from_seats : (ss : List (Seat Player)) (r : ReplicaState) → Among r (all_replicas ss prefix) → (seat : Seat Player) × Among seat ss × Among r (replicas_of (value player_table seat prefix))
-  from_seats [] r a = absurd a
-  from_seats (seat ∷ ss) r a = elim (Among-either r (replicas_of (value player_table seat prefix)) (all_replicas ss prefix) a) [
-    | inl here ↦ (seat, inl refl, here)
-    | inr more ↦ (let f = from_seats ss r more in (f.0, inr f.1, f.2))
-  ]
-
-  into_seats : (ss : List (Seat Player)) (seat : Seat Player) (r : ReplicaState) → Among seat ss → Among r (replicas_of (value player_table seat prefix)) → Among r (all_replicas ss prefix)
-  into_seats [] seat r a here = absurd a
-  into_seats (s ∷ ss) seat r (inl e) here = Among-left r (replicas_of (value player_table s prefix)) (all_replicas ss prefix) (subst (λ x. Among r (replicas_of (value player_table x prefix))) (sym e) here)
-  into_seats (s ∷ ss) seat r (inr more) here = Among-right r (replicas_of (value player_table s prefix)) (all_replicas ss prefix) (into_seats ss seat r more here)
-
   no_client : (player : Player) (r : ReplicaState) → IsClient player → Among r (replicas_of player) → ⊥
   no_client (Node node) r is a = is
   no_client (Client client) r is a = a
@@ -103,7 +92,7 @@ module _ (bounded : ValidScenariosAreBounded) (named : LawfulReplicasAreNamedOnc
   -- each replica is one that is seen of its group
   all_seen : (r : ReplicaState) → Among r all → (me : ℕ) × (at (name_of r) me ≡ Some r)
   all_seen r a =
-      let f = from_seats seats r a in
+      let f = from_seats prefix seats r a in
       elim (Among-either f.0 (map seat_of (numbers_from 1 scenario.nodes)) (client_seats scenario.groups scenario.clients) f.1) [
         | inl node ↦ (
             let m = from_map seat_of (numbers_from 1 scenario.nodes) f.0 node in
@@ -154,7 +143,7 @@ module _ (bounded : ValidScenariosAreBounded) (named : LawfulReplicasAreNamedOnc
   seen_gone agree name node r into e gone =
       let s = seen_all name node r e in
       let f = find_found (λ (x : ReplicaState). same_draw (name_of x) name) s.state.replicas r s.here in
-      let w = went_some name into all r (into_seats seats s.seat r s.seated (subst (λ (p : Player). Among r (replicas_of p)) (sym s.is) f.0)) (draw_is (name_of r) name f.1) gone in
+      let w = went_some name into all r (into_seats prefix seats s.seat r s.seated (subst (λ (p : Player). Among r (replicas_of p)) (sym s.is) f.0)) (draw_is (name_of r) name f.1) gone in
       let g = gone_seen name w.0 w.1 in
       w.1 ∙ ap Some (agree name g.0 node g.1 r w.0 into g.2 e g.3 gone)
 

@@ -1,12 +1,12 @@
 -- The greatest ballot that a replica saw after what it takes: one that does not run sees another by what asks it alone, or runs then.
-use Rattle.std.proofs.Common.{◌≡◌, ℕ, ◌-◌, ◌^◌, ◌<◌, ◌≤◌, ◌&&◌, ◌||◌, not, nat_le, nat_lt, eqb, Bool, true, false, true≢false, cond, List, [], ◌∷◌, ◌++◌, length, Option, Some, None, ◌⊎◌, inl, inr, refl, sym, ◌∙◌, ap, subst}
+use Rattle.std.proofs.Common.{◌≡◌, ℕ, ◌-◌, ◌^◌, ◌<◌, ◌≤◌, ◌||◌, not, nat_lt, eqb, Bool, true, false, true≢false, cond, List, [], length, Option, Some, None, ◌⊎◌, inl, inr, refl, sym, ◌∙◌, ap, subst}
 use Rattle.std.proofs.lemmas.Bool.{cond_both, and_parts, eqb-true, eq-eqb}
-use Rattle.sc_base.specs.Definitions.{Drawer, next_name, same_ballot, is_member, least_of}
-use Rattle.sc_node_table.specs.Values.{Ballot, Draw, Op, Offer, Watch, Command, Call, Prepared as PreparedAct, RecordVote, Finish, Watched, RecordWatch, Base, Route, OrderLine, OrderRefusal, Outcome, Past, Vote, AnswerBody, Mail, MailBody, Request, Answer, Prepare, Promise, Accept, Accepted, Nack, Learn, Ask, Install, TxPrepare, TxVote, TxOutcome, TxElsewhere, TxWatch, TxWatched, Told, Report}
-use Rattle.sc_words.specs.declared.commands.votes.Past.TheVariants as Cast
-use Rattle.sc_words.specs.declared.commands.votes.Vote.TheVariants as Vows
-use Rattle.sc_node_table.specs.Definitions.{has_act, with_act, act_queued, elected, stopped, entered, is_among, looked_for, looked, executed_one, executed_ready, executed, named, jumped, ordered_command, untaken, queued_or_refused, ordered_row, pumped, queued_number, without_request, ReplicaState, Place, Executed, childless, next, members, set_at, settled, last_slot, forgotten, first_ballot, installed_replica, refused_at, queued, requested, request_row, looked_up, took_over, install_row, mailed, made_by, asked_next, noted_outcome, standing_vote, sent_elsewhere, offered_by, offer_row, watched_by, watch_row, awaits_vote, awaits_watch, vote_queued, vote_met, vote_row, watch_queued, watch_met, watched_row, elsewhere_row, is_bound, outcome_row, leads, promise_row, voted, accepted_row}
+use Rattle.sc_base.specs.Definitions.{Drawer, same_ballot, is_member, least_of}
+use Rattle.sc_node_table.specs.Values.{Ballot, Draw, Command, Base, Route, OrderLine, Mail, MailBody, Promise, Accepted, Learn, Install, Report}
+use Rattle.sc_node_table.specs.Definitions.{elected, stopped, entered, is_among, looked_for, looked, executed_one, executed_ready, executed, named, jumped, ordered_row, pumped, ReplicaState, Place, Executed, childless, next, members, set_at, last_slot, forgotten, first_ballot, installed_replica, looked_up, took_over, install_row, mailed, made_by, leads, promise_row, voted, accepted_row}
 use Rattle.sc_law_walks.proofs.Lemmas.{idle_ready, idle_pump, either_way}
+use Rattle.sc_law_walks.proofs.Lemmas.{grows}
+use Rattle.sc_live_journals.proofs.RowsProofs.StillReplicas as beside
 use Rattle.sc_live_steps.specs.following.Definitions.{Stays, MayElect}
 use Rattle.sc_live_steps.proofs.FollowingProofs.Lemmas.{looked_same, place2, over, over_off, looks, told_is}
 
@@ -70,80 +70,12 @@ module _ (r : ReplicaState) where
   abbrev pub Idly : Place → Type 0
   Idly place = (place.0.running ≡ false) × (place.0.top ≡ r.top)
 
-  pumped_idly : (place : Place) → Idly place → Idly (pumped place)
-  pumped_idly place k = subst Idly (sym (idle_pump place k.0)) k
+  -- what waits, and what it sends, is nothing to it
+  pub order_idly : (drawer : Drawer) (line : OrderLine) → r.running ≡ false → Idly (ordered_row drawer line (r, []))
+  order_idly drawer line off = beside.order_keeps Idly (λ place k. k.0) (λ q mails acts backlog k. k) (λ q. grows q.me (λ mails. Idly (q, mails)) (λ mails mail k. k)) drawer line (r, []) (off, refl)
 
-  act_idly : (act : Command) (place : Place) → Idly place → Idly (act_queued act place)
-  unfolding act_queued
-  act_idly act (q, mails) k = pumped_idly (with_act act q, mails) (either_way (λ (x : ReplicaState). Idly (x, mails)) (has_act act q) q (record q { acts = q.acts ++ act ∷ [] }) k k)
-
-  -- ---- Request
-
-  queued_idly : (o : Option ℕ) (client seq : ℕ) (op : Op) (place : Place) → Idly place → Idly (queued o client seq op place)
-  unfolding queued
-  queued_idly None client seq op (q, mails) k = pumped_idly (record q { backlog = q.backlog ++ Call client seq op ∷ [] }, mails) k
-  queued_idly (Some seen) client seq op (q, mails) k =
-      either_way Idly (nat_le seq seen) (q, mails) (pumped (record q { backlog = without_request q.backlog client ++ Call client seq op ∷ [] }, mails)) k (pumped_idly (record q { backlog = without_request q.backlog client ++ Call client seq op ∷ [] }, mails) k)
-
-  requested_idly : (o : Option AnswerBody) (client seq : ℕ) (op : Op) (place : Place) → Idly place → Idly (requested o client seq op place)
-  unfolding requested
-  requested_idly (Some answer) client seq op (q, mails) k = k
-  requested_idly None client seq op (q, mails) k = queued_idly (queued_number q.backlog client) client seq op (q, mails) k
-
-  request_idly : (client seq : ℕ) (op : Op) (place : Place) → Idly place → Idly (request_row client seq op place)
-  unfolding request_row
-  request_idly client seq op (q, mails) k = requested_idly (refused_at q.group.core.gone op q) client seq op (q, mails) k
-
-  -- ---- the parties of a transaction
-
-  offered_idly : (o : Option Past) (from : ℕ) (tx : Draw) (offer : Offer) (place : Place) → Idly place → Idly (offered_by o from tx offer place)
-  offered_idly (Some vote) from tx offer (q, mails) k = k
-  offered_idly None from tx offer (q, mails) k = either_way Idly q.running (act_queued (PreparedAct tx offer) (q, mails)) (sent_elsewhere from tx offer.coord (q, mails)) (act_idly (PreparedAct tx offer) (q, mails) k) k
-
-  offer_idly : (from : ℕ) (tx : Draw) (offer : Offer) (place : Place) → Idly place → Idly (offer_row from tx offer place)
-  unfolding offer_row
-  offer_idly from tx offer (q, mails) k = offered_idly (standing_vote q.group.core tx) from tx offer (q, mails) k
-
-  watched_by_idly : (o : Option Past) (from : ℕ) (tx : Draw) (watch : Watch) (place : Place) → Idly place → Idly (watched_by o from tx watch place)
-  watched_by_idly (Some vote) from tx watch (q, mails) k = k
-  watched_by_idly None from tx watch (q, mails) k = either_way Idly q.running (act_queued (Watched tx watch) (q, mails)) (sent_elsewhere from tx watch.coord (q, mails)) (act_idly (Watched tx watch) (q, mails) k) k
-
-  watch_idly : (from : ℕ) (tx : Draw) (watch : Watch) (place : Place) → Idly place → Idly (watch_row from tx watch place)
-  unfolding watch_row
-  watch_idly from tx watch (q, mails) k = watched_by_idly (standing_vote q.group.core tx) from tx watch (q, mails) k
-
-  vote_queued_idly : (from : ℕ) (tx : Draw) (vote : Vote) (place : Place) → Idly place → Idly (vote_queued from tx vote place)
-  vote_queued_idly from tx vote (q, mails) k = either_way Idly (q.running && awaits_vote q.group.core.lock tx) _ _ (act_idly (RecordVote tx vote from) (q, mails) k) k
-
-  vote_met_idly : (vote : Vote) (o : Option Outcome) (from : ℕ) (tx part : Draw) (place : Place) → Idly place → Idly (vote_met vote o from tx part place)
-  vote_met_idly (Vows.Yes frozen) (Some outcome) from tx part (q, mails) k = k
-  vote_met_idly (Vows.Yes frozen) None from tx part place k = vote_queued_idly from tx (Vows.Yes frozen) place k
-  vote_met_idly (Vows.No why) outcome from tx part place k = vote_queued_idly from tx (Vows.No why) place k
-
-  vote_idly : (from : ℕ) (tx part : Draw) (vote : Vote) (place : Place) → Idly place → Idly (vote_row from tx part vote place)
-  unfolding vote_row
-  vote_idly from tx part vote (q, mails) k = vote_met_idly vote (noted_outcome q.group.core tx) from tx part (q, mails) k
-
-  watch_queued_idly : (from : ℕ) (tx : Draw) (vote : Past) (place : Place) → Idly place → Idly (watch_queued from tx vote place)
-  watch_queued_idly from tx vote (q, mails) k = either_way Idly (q.running && awaits_watch q.group.core.lock tx) _ _ (act_idly (RecordWatch tx vote from) (q, mails) k) k
-
-  watch_met_idly : (vote : Past) (o : Option Outcome) (from : ℕ) (tx part : Draw) (place : Place) → Idly place → Idly (watch_met vote o from tx part place)
-  watch_met_idly Cast.Yes (Some outcome) from tx part (q, mails) k = k
-  watch_met_idly Cast.Yes None from tx part place k = watch_queued_idly from tx Cast.Yes place k
-  watch_met_idly (Cast.No why) outcome from tx part place k = watch_queued_idly from tx (Cast.No why) place k
-  watch_met_idly Cast.Ended outcome from tx part place k = watch_queued_idly from tx Cast.Ended place k
-
-  watched_idly : (from : ℕ) (tx part : Draw) (vote : Past) (place : Place) → Idly place → Idly (watched_row from tx part vote place)
-  unfolding watched_row
-  watched_idly from tx part vote (q, mails) k = watch_met_idly vote (noted_outcome q.group.core tx) from tx part (q, mails) k
-
-  elsewhere_idly : (from : ℕ) (tx : Draw) (hint : Option ℕ) (place : Place) → Idly place → Idly (elsewhere_row from tx hint place)
-  unfolding elsewhere_row
-  elsewhere_idly from tx hint (q, mails) k = either_way Idly (settled q) (q, asked_next q.group.core.lock q.me q.group.core from tx hint mails) (q, mails) k k
-
-  outcome_idly : (tx : Draw) (outcome : Outcome) (place : Place) → Idly place → Idly (outcome_row tx outcome place)
-  unfolding outcome_row
-  outcome_idly tx outcome (q, mails) k = either_way Idly (q.running && is_bound q.group.core.lock tx) _ _ (act_idly (Finish tx outcome) (q, mails) k) k
+  beside_idly : (from : ℕ) (body : MailBody) → beside.IsBeside body → r.running ≡ false → Idly (mailed from body (r, [])).0
+  beside_idly from body a off = beside.beside_keeps Idly (λ place k. k.0) (λ q mails acts backlog k. k) (λ q. grows q.me (λ mails. Idly (q, mails)) (λ mails mail k. k)) from body (r, []) a (off, refl)
 
   -- ---- votes and promises
 
@@ -154,53 +86,20 @@ module _ (r : ReplicaState) where
 
   promise_counted_ : (from : ℕ) (ballot : Ballot) (reports : List (Report Command)) → Idly (r, []) → Idly (promise_row from ballot reports (r, []))
   unfolding promise_row
-  promise_counted_ from ballot reports k = either_way Idly (leads ballot r) _ (r, []) (pumped_idly _ k) k
-
-  -- ---- orders
-
-  taken_idly : (o : Option OrderRefusal) (number : ℕ) (command : Command) (place : Place) → Idly place → Idly (queued_or_refused o number command place)
-  taken_idly (Some why) number command (q, mails) k = k
-  taken_idly None number command (q, mails) k = pumped_idly (record q { backlog = q.backlog ++ command ∷ [] }, mails) k
-
-  pub order_idly : (drawer : Drawer) (line : OrderLine) → r.running ≡ false → Idly (ordered_row drawer line (r, []))
-  unfolding ordered_row
-  order_idly drawer line off = taken_idly (untaken drawer line r) line.number (ordered_command (next_name drawer) line.number line.order) (r, []) (off, refl)
+  promise_counted_ from ballot reports k = either_way Idly (leads ballot r) _ (r, []) (subst Idly (sym (idle_pump _ k.0)) k) k
 
   -- ---- mail that neither asks nor tells anything
 
   abbrev pub IsIdleMail : MailBody → Type 0
-  IsIdleMail (Prepare group ballot from_slot) = ⊥
-  IsIdleMail (Accept group ballot slot command) = ⊥
-  IsIdleMail (Nack group promised) = ⊥
-  IsIdleMail (Learn group slot command) = ⊥
-  IsIdleMail (Ask group from_slot) = ⊥
-  IsIdleMail (Install group slot base sets) = ⊥
   IsIdleMail (Promise group ballot reports) = Unit {0}
   IsIdleMail (Accepted group ballot slot) = Unit {0}
-  IsIdleMail (Request group client seq op) = Unit {0}
-  IsIdleMail (Answer group seq answer) = Unit {0}
-  IsIdleMail (TxPrepare tx offer) = Unit {0}
-  IsIdleMail (TxVote tx coord part vote) = Unit {0}
-  IsIdleMail (TxOutcome tx part outcome) = Unit {0}
-  IsIdleMail (TxElsewhere tx coord hint) = Unit {0}
-  IsIdleMail (TxWatch tx watch) = Unit {0}
-  IsIdleMail (TxWatched tx coord part vote) = Unit {0}
-  IsIdleMail (Told order result) = Unit {0}
+  IsIdleMail body = beside.IsBeside body
 
   pub mail_idly : (from : ℕ) (body : MailBody) → IsIdleMail body → r.running ≡ false → Idly (mailed from body (r, [])).0
   unfolding mailed
-  mail_idly from (Request group client seq op) a off = request_idly client seq op (r, []) (off, refl)
   mail_idly from (Promise group ballot reports) a off = promise_counted_ from ballot reports (off, refl)
   mail_idly from (Accepted group ballot slot) a off = vote_counted from ballot slot (off, refl)
-  mail_idly from (Answer group seq answer) a off = (off, refl)
-  mail_idly from (TxPrepare tx offer) a off = offer_idly from tx offer (r, []) (off, refl)
-  mail_idly from (TxVote tx coord part vote) a off = vote_idly from tx part vote (r, []) (off, refl)
-  mail_idly from (TxOutcome tx part outcome) a off = outcome_idly tx outcome (r, []) (off, refl)
-  mail_idly from (TxElsewhere tx coord hint) a off = elsewhere_idly from tx hint (r, []) (off, refl)
-  mail_idly from (TxWatch tx watch) a off = watch_idly from tx watch (r, []) (off, refl)
-  mail_idly from (TxWatched tx coord part vote) a off = watched_idly from tx part vote (r, []) (off, refl)
-  mail_idly from (Told order result) a off = (off, refl)
-  mail_idly from _ a off = absurd a
+  mail_idly from body a off = beside_idly from body a off
 
   -- ---- an entry that is learnt, by which it does not elect itself
 

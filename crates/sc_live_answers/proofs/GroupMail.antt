@@ -29,6 +29,7 @@ use Rattle.sc_live_answers.proofs.GroupMailFacts.{next_mail_so}
 use Rattle.sc_live_answers.proofs.MailReceivers.{homes_are_kept}
 use Rattle.sc_live_answers.proofs.SeenBallotBounds.{seen_then}
 use Rattle.sc_live_answers.proofs.WellLedGroupMail.{FindsNoneBy, row_says}
+use Rattle.sc_live_answers.proofs.LeadersInTime.{none_behind}
 
 -- ---- by a later ballot
 
@@ -163,10 +164,6 @@ finds_none words births rows seat event base course timely k number mail ballot 
     none_from (k.tops seat.who) from_slot r.acceptor.accepted asked.0 (k.accepted seat.who r view)
 
 -- ---- through a journal
-
-none_behind : (before : Rows) (row : Row Mail OrderLine) (more : Rows) → [] ≡ (before ++ row ∷ []) ++ more → ⊥
-none_behind [] row more e = cc
-none_behind (x ∷ before) row more e = cc
 
 module _ (bounds : ValidScenariosAreBounded) (idle : JournalsKeepIdle) (wb : ScenariosAreWellBorn) (groups_led : GroupsAreLed) (logs : LedLogsAreOne) (go_on : EventsGoOn) (begins : GroupsBeginLed) (births_are : GroupsAreBornAsBegun) where
   module _ (words : ℕ → ℕ → ℕ × ℕ) (scenario : Scenario) (journal : Rows) (base : Base) (group : IsGroupOf as_nodes words scenario journal base) (timely : AreInTime (players words (births as_nodes scenario)) journal) (few : AreFew as_nodes scenario journal base) where

@@ -1,5 +1,5 @@
 -- The groups of a calm journal at a row: each is guided at it, and well led after it.
-use Rattle.std.proofs.Common.{◌≡◌, ℕ, ◌+◌, ◌≤◌, eqb, true, List, [], ◌∷◌, ◌++◌, length, Option, Some, None, ◌⊎◌, inl, inr, refl, sym, ◌∙◌, ap, subst, arith, append_assoc, length-append}
+use Rattle.std.proofs.Common.{◌≡◌, ℕ, ◌+◌, ◌≤◌, eqb, true, List, [], ◌∷◌, ◌++◌, length, Option, Some, None, ◌⊎◌, inl, inr, refl, sym, ◌∙◌, ap, subst, arith, append_assoc}
 use Rattle.std.specs.List.{list_any}
 use Rattle.std.proofs.lemmas.Bool.{cases_Bool, or_left, eq-eqb}
 use Rattle.std.proofs.lemmas.Option.{none-some}
@@ -17,11 +17,12 @@ use Rattle.sc_live_steps.specs.orders.Definitions.{bond_of, Bond}
 use Rattle.sc_live_journals.specs.rows.Definitions.{view_at, marks_at, next_in, IsSeat, with_event}
 use Rattle.sc_live_journals.specs.mail.Definitions.{SlotsAreLeft, IsLater, ReplicasLast}
 use Rattle.sc_live_journals.specs.logs.Definitions.{IsGroupOf, ViewsAreReplicas, SlotsHaveRosters, logged_sets}
-use Rattle.sc_live_answers.specs.Definitions.{state_at, ReplicasRunLogs, over_at, AreFew, slot_leaders_at, AreBoundBy, IsGuided, IsNamedGuide, IsReached, IsReachedSo, NewestStay, IsQuietWhileYoung, IsSentThrough, IsSentStep, NextRowsAreSent, PrefixesAreFound, NoMailForStrangers, IsCalmJournal, IsPrefixOf, AreSent, ContinuesBy, IsNamedGroup, IsUnder, IsYoungAt}
-use Rattle.sc_live_journals.specs.scenes.Definitions.{IsThere, IsNowhere}
+use Rattle.sc_live_answers.specs.Definitions.{state_at, ReplicasRunLogs, over_at, slot_leaders_at, AreBoundBy, IsGuided, IsNamedGuide, IsReached, IsReachedSo, NewestStay, IsQuietWhileYoung, IsSentThrough, IsSentStep, NextRowsAreSent, PrefixesAreFound, NoMailForStrangers, IsCalmJournal, IsPrefixOf, AreSent, ContinuesBy, IsNamedGroup, IsUnder, IsYoungAt, WellLedLeadAlone}
+use Rattle.sc_live_journals.specs.scenes.Definitions.{IsThere, IsNowhere, LeadsAlone}
 use Rattle.sc_live_journals.proofs.ScenesProofs.Lemmas.{calm_is}
 use Rattle.sc_live_answers.proofs.OrderDeliveries.{there_or}
 use Rattle.sc_live_answers.proofs.ChildrenUnderOrders.{unmarked}
+use Rattle.sc_live_answers.proofs.JournalGroups.{calm_group, calm_slots}
 use Rattle.sc_base.proofs.Lemmas.{at_most_one}
 
 -- ---- marks
@@ -79,6 +80,13 @@ module _ (found_law : PrefixesAreFound) (words : ℕ → ℕ → ℕ × ℕ) (sc
       let of = found.replicas name there.0 there.1 (found.views name there.0 ∙ there.2) in
       (of.base, found.later of.base of.among, of.named)
 
+  -- one that runs leads alone
+  pub lead_alone : WellLedLeadAlone → AreSent words scenario journal rows → (name : Draw) (node : ℕ) (r : ReplicaState) → view_at (births as_nodes scenario) rows name node ≡ Some r → r.running ≡ true → LeadsAlone (births as_nodes scenario) rows name node r
+  lead_alone alone_law sent name node r e runs =
+      let g = named_there name (node, r, e) in
+      let t = sent g.0 g.1 in
+      subst (λ n. LeadsAlone (births as_nodes scenario) rows n node r) g.2 (alone_law.alone _ _ _ words (births as_nodes scenario) rows g.0 t.course node r t.led (ap (λ n. view_at (births as_nodes scenario) rows n node) g.2 ∙ e) runs).0
+
 -- ---- a row
 
 module _ (few_law : SlotsAreLeft) (logs_law : ReplicasRunLogs) (views_law : ViewsAreReplicas) (rosters_law : SlotsHaveRosters) (next_law : NextRowsAreSent) (newest_law : NewestStay) (found_law : PrefixesAreFound) (no_law : NoMailForStrangers)
@@ -98,22 +106,9 @@ module _ (few_law : SlotsAreLeft) (logs_law : ReplicasRunLogs) (views_law : View
   pub split : journal ≡ rows ++ (row ∷ prefix.more)
   split = prefix.is ∙ append_assoc rows (row ∷ []) prefix.more
 
-  pub group : (base : Base) → Among base (groups_at as_nodes scenario.groups journal) → IsGroupOf as_nodes words scenario journal base
-  group base among = record { open_slots = refl; valid = calm.valid; lawful = calm.lawful; stands = among }
-
-  pub few : (base : Base) → AreFew as_nodes scenario journal base
-  few base first more who r e view =
-      let timely_ : AreInTime s first = λ b row_ a same. calm.timely b row_ (a ++ more) (e ∙ (ap (λ l. l ++ more) same ∙ append_assoc b (row_ ∷ a) more)) in
-      let long = ap length e in
-      let sum = length-append first more in
-      let short = calm.short in
-      let left = few_law words scenario first base.core.id who r timely_ (omega (arith, long, sum, short)) view in
-      let low = left.0 in
-      (omega (arith, low), left.1)
-
   pub steps : (base : Base) (among : Among base (groups_at as_nodes scenario.groups journal))
       → IsSentStep (logged_sets as_nodes base journal) (over_at as_nodes base journal) (slot_leaders_at as_nodes scenario base journal) words (births as_nodes scenario) rows seat event base (sent base among).course
-  steps base among = next_law words scenario journal base (group base among) calm.timely (few base) rows prefix.more seat event prefix.is seated (sent base among) (young base among)
+  steps base among = next_law words scenario journal base (calm_group words scenario journal calm base among) calm.timely (calm_slots words scenario journal calm few_law base) rows prefix.more seat event prefix.is seated (sent base among) (young base among)
 
   abbrev pub sent_after : AreSent words scenario journal (with_event rows seat event)
   sent_after base among = (steps base among).through
@@ -124,8 +119,8 @@ module _ (few_law : SlotsAreLeft) (logs_law : ReplicasRunLogs) (views_law : View
 
   bound_by : (base : Base) → Among base (groups_at as_nodes scenario.groups journal) → (first more : Rows) → journal ≡ first ++ more → AreBoundBy (bonds base) (births as_nodes scenario) first base.core.id
   bound_by base among first more e node r view =
-      let v = views_law as_nodes words scenario journal base (group base among) first more e node r view in
-      let run = logs_law as_nodes words scenario journal base (group base among) first v.0 v.1 r v.2 in
+      let v = views_law as_nodes words scenario journal base (calm_group words scenario journal calm base among) first more e node r view in
+      let run = logs_law as_nodes words scenario journal base (calm_group words scenario journal calm base among) first v.0 v.1 r v.2 in
       ap (λ g. bond_of g.core) run.1
 
   pub guided : (base : Base) → Among base (groups_at as_nodes scenario.groups journal) → IsGuided words (births as_nodes scenario) rows seat event base
@@ -147,9 +142,6 @@ module _ (few_law : SlotsAreLeft) (logs_law : ReplicasRunLogs) (views_law : View
   pub here : IsPrefixOf journal rows
   here = record { more = row ∷ prefix.more; is = split }
 
-  pub named : (name : Draw) → IsThere (births as_nodes scenario) rows name → IsNamedGroup scenario journal name
-  named = named_there found_law words scenario journal rows calm here
-
   pub guide_of : (name : Draw) → IsNamedGroup scenario journal name → IsNamedGuide words (births as_nodes scenario) rows seat event name
   guide_of name g = record { base = g.0; named = g.2; guided = guided g.0 g.1 }
 
@@ -167,7 +159,7 @@ module _ (few_law : SlotsAreLeft) (logs_law : ReplicasRunLogs) (views_law : View
         → IsReachedSo (births as_nodes scenario) (with_event rows seat event) base through.course
     reached_after is_young there_then = elim (there_or (births as_nodes scenario) rows base.core.id) [
       | inl there ↦ was_there there there_then
-      | inr nowhere ↦ reached_even rosters_law logs_law views_law words scenario journal (with_event rows seat event) prefix.more base (group base among) prefix.is through (no_mail (is_young nowhere)) there_then
+      | inr nowhere ↦ reached_even rosters_law logs_law views_law words scenario journal (with_event rows seat event) prefix.more base (calm_group words scenario journal calm base among) prefix.is through (no_mail (is_young nowhere)) there_then
     ]
       where
         no_mail : IsYoungAt words (births as_nodes scenario) (with_event rows seat event) base → (who : ℕ) → marks_at s (with_event rows seat event) base.core.id who ≡ []

@@ -14,7 +14,7 @@ use Rattle.sc_group_table.specs.machine.Definitions.{Group, has_named}
 use Rattle.sc_node_table.specs.Definitions.{ReplicaState}
 use Rattle.sc_meaning.specs.sound.Definitions.{Player, player_table}
 use Rattle.sc_live_steps.specs.calm.Definitions.{players, Rows}
-use Rattle.sc_live_steps.specs.orders.Definitions.{OfQuestion, OfVote, OfOutcome, LastTakes, OneTakes, TwoTakes, LastFreed, OneFreed, TwoFreed, IsStepOf, ByRest, ByOrder, ByChange, ByDeal, ByPassing, ByAsking, ByTaking, ByVote, ByNo, ByHearing, ByDeciding, ByEnd, IsTaken, closed, Turn, First, Lone, Next, is_watch, is_yes, is_cast_yes, IsVote, Errand, Question, Elsewhere, Reply, Result, errand_by, errand_for, errands_for, bond_in, Bond, Unbound, Asking, Bound, Work, Opens, Records, Ends, IsOrder, Here, Scene, free, closing, Leg, Mailed, Filed, Party, Deal, Stage, Still, Ordered, Asks, SentOn, Weighs, Replied, Recorded, Closes, ClosesBoth, IsAt, bond_of, works}
+use Rattle.sc_live_steps.specs.orders.Definitions.{OfQuestion, OfVote, OfOutcome, LastTakes, OneTakes, TwoTakes, LastFreed, OneFreed, TwoFreed, IsStepOf, ByRest, ByOrder, ByChange, ByDeal, ByPassing, ByAsking, ByTaking, ByVote, ByNo, ByHearing, ByDeciding, ByEnd, IsTaken, closed, Turn, First, Lone, Next, is_watch, is_yes, is_cast_yes, IsVote, Errand, Question, Elsewhere, Reply, Result, errand_by, errand_for, errands_for, bond_in, Asking, Work, Opens, Records, Ends, IsOrder, Here, Scene, free, closing, Leg, Mailed, Filed, Deal, Stage, Still, Ordered, Asks, SentOn, Weighs, Replied, Recorded, Closes, ClosesBoth, IsAt, bond_of, works}
 use Rattle.sc_live_steps.proofs.OrdersProofs.Lemmas.{cases-draw}
 use Rattle.sc_live_journals.specs.rows.Definitions.{view_at, IsSeat, with_event}
 use Rattle.sc_live_journals.specs.scenes.Definitions.{FindsOrder, GoesBy, LeadsAlone, bond_by, bond_there, left_after, scene_at}
@@ -42,14 +42,9 @@ IsOpen (ClosesBoth tx one two) = ⊥
 
 open_or : (stage : Stage) → IsOpen stage ⊎ (IsOpen stage → ⊥)
 open_or Still = inr (λ o. o)
-open_or (Ordered group chief work) = inl tt
-open_or (Asks deal to) = inl tt
-open_or (SentOn deal) = inl tt
-open_or (Weighs deal host) = inl tt
-open_or (Replied deal agreed host) = inl tt
-open_or (Recorded deal agreed host) = inl tt
 open_or (Closes tx party) = inr (λ o. o)
 open_or (ClosesBoth tx one two) = inr (λ o. o)
+open_or _ = inl tt
 
 -- at such a stage a group holds the order
 pub held_at : (stage : Stage) (now : Scene) → IsOpen stage → IsAt stage now → IsOrderHeld now
@@ -87,12 +82,7 @@ none_holds (ClosesBoth tx one two) now o a h = elim (cases-draw h.0 one.group) [
     | inr other ↦ free_holds (subst HoldsOrder (a.parties.1 h.0 (ne, (other, tt))) h.1)
   ]
 ]
-none_holds (Ordered group chief work) now o a h = o tt
-none_holds (Asks deal to) now o a h = o tt
-none_holds (SentOn deal) now o a h = o tt
-none_holds (Weighs deal host) now o a h = o tt
-none_holds (Replied deal agreed host) now o a h = o tt
-none_holds (Recorded deal agreed host) now o a h = o tt
+none_holds _ now o a h = o tt
 
 -- ---- what is reported stays reported
 

@@ -1,8 +1,8 @@
 -- An order that is given is held by its group, or its refusal is reported.
-use Rattle.std.proofs.Common.{◌≡◌, ◌⊎◌, ℕ, ◌≤◌, ◌&&◌, nat_le, eqb, cond, true, false, List, [], ◌∷◌, ◌++◌, find, Option, Some, None, inl, inr, refl, sym, ◌∙◌, ap, subst, arith}
+use Rattle.std.proofs.Common.{◌≡◌, ◌⊎◌, ℕ, ◌≤◌, ◌&&◌, nat_le, eqb, cond, true, List, [], ◌∷◌, ◌++◌, Option, Some, None, inl, inr, refl, sym, ◌∙◌, ap, subst, arith}
 use Rattle.std.specs.Prelude.{is_some}
 use Rattle.std.proofs.lemmas.Bool.{and_parts, leb-true, lt-ltb}
-use Rattle.sc_base.specs.Definitions.{Among, Each, next_name}
+use Rattle.sc_base.specs.Definitions.{Among, next_name, Drawer}
 use Rattle.sc_group_table.specs.policy.Definitions.{is_reported}
 use Rattle.sc_node_table.specs.Values.{Draw, Command, OrderLine, OrderRefusal, Refused, Mail, Node, Client, Seat, Go, Input, Row, Report}
 use Rattle.sc_words.specs.declared.commands.orders.OrderRefusal.TheVariants.{NotLeader}
@@ -13,12 +13,12 @@ use Rattle.sc_actor.proofs.Lemmas.{mails-snoc}
 use Rattle.sc_paxos_law.proofs.Lemmas.{Among-either, Among-left, Among-right}
 use Rattle.sc_words.proofs.PaxosProofs.Lemmas.{Each-among}
 use Rattle.sc_words.specs.paxos.Definitions.{must_without, names_above, chosen_value}
-use Rattle.sc_live_orderly.specs.Definitions.{AreInTime, GivesAllowedOrder}
+use Rattle.sc_live_orderly.specs.Definitions.{GivesAllowedOrder}
 use Rattle.sc_law_walks.proofs.Lemmas.{either_way}
 use Rattle.sc_scenario.specs.declared.scenario.scenarios.Scenario.{Scenario}
 use Rattle.sc_node_table.specs.Definitions.{NodeState, result_sent, replica_of, group_of_order, ordered_of, untaken, queued_or_refused, ordered_command, ordered_row, ReplicaState, Place, next, last_slot, settled, may_offer, first_set}
 use Rattle.sc_meaning.specs.sound.Definitions.{Player, player_table, node_seat, births, as_nodes}
-use Rattle.sc_live_steps.specs.calm.Definitions.{players, IsAtRest, Rows}
+use Rattle.sc_live_steps.specs.calm.Definitions.{IsAtRest, Rows}
 use Rattle.sc_live_steps.specs.orders.Definitions.{Asking, Unbound, Here, Stage, Still, Recorded, IsAt, MayFile}
 use Rattle.sc_live_steps.proofs.OrdersProofs.Lemmas.{tables-order}
 use Rattle.sc_live_journals.specs.rows.Definitions.{view_at, IsSeat, with_event, IsReplicasRow}
@@ -102,6 +102,11 @@ is_node (Client client) k = absurd k
 
 -- ---- the row of an order
 
+-- an order that is not taken is refused, and nothing else
+pub order_refused : (drawer : Drawer) (line : OrderLine) (r : ReplicaState) (why : OrderRefusal) → untaken drawer line r ≡ Some why → ordered_row drawer line (r, []) ≡ (r, result_sent r.me line.number (Refused why) [])
+unfolding ordered_row
+order_refused drawer line r why e = ap (λ (x : Option OrderRefusal). queued_or_refused x line.number (ordered_command (next_name drawer) line.number line.order) (r, [])) e
+
 module _ (words : ℕ → ℕ → ℕ × ℕ) (scenario : Scenario) (quiet : Rows) (seat : Seat Player) (line : OrderLine) (seated : IsSeat (births as_nodes scenario) seat) (home : (1 ≤ seat.who) × (seat.who ≤ scenario.nodes))
     (rests : (name : Draw) (who : ℕ) (r : ReplicaState) → view_at (births as_nodes scenario) quiet name who ≡ Some r → IsAtRest r × (r.running ≡ true → r.leader.reports ≡ []) × (next r ≤ last_slot))
     (alone : (name : Draw) (node : ℕ) (r : ReplicaState) → view_at (births as_nodes scenario) (with_event quiet seat (Told line)) name node ≡ Some r → r.running ≡ true → LeadsAlone (births as_nodes scenario) (with_event quiet seat (Told line)) name node r) where
@@ -146,10 +151,6 @@ module _ (words : ℕ → ℕ → ℕ × ℕ) (scenario : Scenario) (quiet : Row
       abbrev rest : IsAtRest r × (r.running ≡ true → r.leader.reports ≡ []) × (next r ≤ last_slot)
       rest = rests (group_of_order line.order) seat.who r (view_was all quiet seat Go (group_of_order line.order) seated (Node node) is ∙ here)
 
-      refused : (why : OrderRefusal) → untaken node.draws line r ≡ Some why → ordered_row node.draws line (r, []) ≡ (r, result_sent r.me line.number (Refused why) [])
-      unfolding ordered_row
-      refused why e = ap (λ (x : Option OrderRefusal). queued_or_refused x line.number (ordered_command (next_name node.draws) line.number line.order) (r, [])) e
-
       -- one that takes it has its command as its one work
       taken : untaken node.draws line r ≡ None → Result
       taken e =
@@ -160,7 +161,7 @@ module _ (words : ℕ → ℕ → ℕ × ℕ) (scenario : Scenario) (quiet : Row
           inr (group_of_order line.order, Waits w.0 w.1 ((tell.led all then (group_of_order line.order) seat.who after.0 (alone (group_of_order line.order) seat.who after.0 row.is (w.3.running ∙ on))).1.1 ∙ w.3.work))
 
       by_untaken : (o : Option OrderRefusal) → untaken node.draws line r ≡ o → Result
-      by_untaken (Some why) e = reports r.me why (row.sends_all ∙ ap (λ (p : Place). p.1) (refused why e))
+      by_untaken (Some why) e = reports r.me why (row.sends_all ∙ ap (λ (p : Place). p.1) (order_refused node.draws line r why e))
       by_untaken None e = taken e
 
     by_replica : (o : Option ReplicaState) → replica_of (group_of_order line.order) node.replicas ≡ o → Result

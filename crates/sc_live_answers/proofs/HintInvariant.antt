@@ -14,8 +14,8 @@ use Rattle.sc_live_steps.specs.following.Definitions.{Mark, Asks, Votes, Tells, 
 use Rattle.sc_live_steps.proofs.FollowingProofs.Lemmas.{tables_elect, least_in, hints_follow}
 use Rattle.sc_live_journals.specs.rows.Definitions.{view_at, marks_at, mark_in, taken_mark, promise_in, progress_at, led_course, elected_course, IsSeat, with_event, IsReplicasRow}
 use Rattle.sc_live_journals.proofs.RowsProofs.Lemmas.{entered_name, rows_are, view_others}
-use Rattle.sc_live_journals.specs.groups.Definitions.{IsGroupRow, RowPasses, RowRests, RowTakes, RowMakes, RowLeads, RowElects, Ends, hint_in, hints_at, IsWellLed, IsLogsState, ElectsWell, AreWellBorn, HasOneLog, IsSentSo, IsTopKept}
-use Rattle.sc_live_journals.proofs.GroupsProofs.Lemmas.{replicas_kept, scenarios_kept_born, pledged_none}
+use Rattle.sc_live_journals.specs.groups.Definitions.{IsGroupRow, RowPasses, RowRests, RowTakes, RowMakes, RowLeads, RowElects, Ends, hint_in, hints_at, IsWellLed, IsLogsState, ElectsWell, AreWellBorn, HasOneLog, IsSentSo}
+use Rattle.sc_live_journals.proofs.GroupsProofs.Lemmas.{pledged_none}
 use Rattle.sc_live_journals.specs.mail.Definitions.{JournalsKeepIdle}
 use Rattle.sc_live_answers.proofs.PrepareSlots.{MovesLast}
 use Rattle.sc_live_answers.proofs.PrepareSlotRows.{turn, leader_last}
@@ -25,6 +25,7 @@ use Rattle.sc_live_answers.specs.Definitions.{AreFated}
 use Rattle.sc_live_answers.proofs.FormerMembers.{idle_fates, takes_fates, leads_fates, elects_fates}
 use Rattle.sc_live_answers.proofs.RowHints.{told_fit, own_body, none_flies, told_or, takes_by}
 use Rattle.sc_live_answers.proofs.Lists.{round_most, member_open}
+use Rattle.sc_live_answers.proofs.SeenBallotBounds.{topped}
 use Rattle.std.proofs.lemmas.Option.{same_Some}
 
 -- the mark of an entry
@@ -94,9 +95,6 @@ module _ (words : ℕ → ℕ → ℕ × ℕ) (at : Sets) (over : Ends) (by : Te
 
   -- ---- one that elects itself does so with a later round
 
-  topped : (r : ReplicaState) → view_at all rows base.core.id seat.who ≡ Some r → IsTopKept seat.who r
-  topped r e = (replicas_kept all rows name seat.who r (scenarios_kept_born scenario) e).0
-
   module _ (r : ReplicaState) (after : Place) (ballot : Ballot) (row_ : IsReplicasRow all rows seat event base.core.id (Some r) after) (off : r.running ≡ false) (e : ElectsWell at all rows seat event base course ballot after) where
     least_member : is_member (members_at at course.newest) seat.who ≡ true
     least_member = ap (is_member (members_at at course.newest)) e.self_election.least ∙ least_in (members_at at course.newest) (one.log.rosters (course.newest + 3)).some
@@ -110,7 +108,7 @@ module _ (words : ℕ → ℕ → ℕ × ℕ) (at : Sets) (over : Ends) (by : Te
         sym (pledged_none (now.promise seat.who) (row_in course).left none) ∙ (ap (pledged (now.promise seat.who)) (sym first) ∙ (was.followed.follows.ready seat.who opened).promised)
 
     seen_it : course.ballot.round ≤ r.top.round
-    seen_it = round_most r.top course.ballot (subst (IsAtLeast r.top) (sym (ap (promise_in base) row_.was) ∙ promised_it) (topped r row_.was).1)
+    seen_it = round_most r.top course.ballot (subst (IsAtLeast r.top) (sym (ap (promise_in base) row_.was) ∙ promised_it) (topped scenario rows base seat.who r row_.was).1)
 
     pub next_round : ballot.round ≡ r.top.round + 1
     next_round = by_turn (turn words at over by scenario rows seat event base course idle wb one so timely born calm was)

@@ -1,5 +1,5 @@
 -- In a whole journal of a plain scenario whose last line is at the budget, every request of each client that has started is answered.
-use Rattle.std.proofs.Common.{◌≡◌, ℕ, List, [], ◌∷◌, ◌++◌, map, refl, sym, ◌∙◌, ap, subst, append-nil, inl}
+use Rattle.std.proofs.Common.{◌≡◌, List, [], ◌∷◌, ◌++◌, map, refl, sym, ◌∙◌, ap, subst, append-nil, inl}
 use Rattle.std.proofs.lemmas.List.{map-append}
 use Rattle.sc_base.specs.Definitions.{Among, client_actor}
 use Rattle.sc_node_table.specs.Values.{OrderLine, Mail, Seat, Line}

@@ -1,7 +1,8 @@
 -- What a delivery makes of a leader: it executes nothing, or its one work.
-use Rattle.std.proofs.Common.{◌≡◌, ℕ, Bool, eqb, true, false, true≢false, List, [], ◌∷◌, ◌++◌, Option, Some, None, ◌⊎◌, inl, inr, refl, sym, ◌∙◌, ap, subst}
-use Rattle.std.proofs.lemmas.Bool.{cases_Bool, eq-eqb, eqb-true, cond-true, cond-false}
+use Rattle.std.proofs.Common.{◌≡◌, ℕ, Bool, eqb, true, false, true≢false, List, [], ◌∷◌, Option, Some, None, ◌⊎◌, inl, inr, refl, sym, ◌∙◌, ap, subst}
+use Rattle.std.proofs.lemmas.Bool.{cases_Bool, eq-eqb, eqb-true, cond-false}
 use Rattle.std.specs.Option.{option_map}
+use Rattle.std.proofs.lemmas.Option.{same_Some}
 use Rattle.sc_base.specs.Definitions.{Among, is_member}
 use Rattle.sc_group_table.specs.policy.Definitions.{is_reported}
 use Rattle.sc_node_table.specs.Values.{Ballot, Draw, Command, OrderLine, OrderResult, Mail, MailBody, Request, Answer, Prepare, Promise, Accept, Accepted, Nack, Learn, Ask, Install, TxPrepare, TxVote, TxOutcome, TxElsewhere, TxWatch, TxWatched, Told as ToldMail, Node, Client, Seat, Event, Deliver, Got, Flight}
@@ -10,11 +11,11 @@ use Rattle.sc_client_table.specs.table.Definitions.{Client as ClientState}
 use Rattle.sc_actor.specs.Definitions.{mails, numbered, value, row_of}
 use Rattle.sc_live_orderly.specs.Definitions.{AreInTime}
 use Rattle.sc_live_orderly.proofs.Lemmas.{last_in_time}
-use Rattle.sc_node_table.specs.Definitions.{NodeState, replica_of, group_of_mail, may_come, unknown, taken_by, routed, on_mail, ReplicaState, Place, listed, mailed}
+use Rattle.sc_node_table.specs.Definitions.{NodeState, replica_of, group_of_mail, may_come, unknown, routed, on_mail, ReplicaState, Place, mailed}
 use Rattle.sc_law_walks.proofs.Lemmas.{either_way}
 use Rattle.sc_meaning.specs.sound.Definitions.{Player, player_table}
 use Rattle.sc_live_steps.specs.calm.Definitions.{players, Rows}
-use Rattle.sc_live_steps.specs.orders.Definitions.{bond_of, errand_by, is_yes, is_cast_yes, work_by, works, works_flying, works_in, works_ready, FliesLone, RunsAlone, Answers, Bound, Elsewhere, Errand, Question, Reply, Result, Here, Records, Ends, Unbound, Work, IsUnderWay, IsUnbound, MayFile, Works}
+use Rattle.sc_live_steps.specs.orders.Definitions.{bond_of, errand_by, is_yes, is_cast_yes, work_by, works, FliesLone, RunsAlone, Answers, Bound, Elsewhere, Errand, Question, Reply, Result, Here, Records, Ends, Unbound, Work, IsUnderWay, IsUnbound, MayFile, Works}
 use Rattle.sc_live_steps.proofs.OrdersProofs.Lemmas.{votes-count-alone, tables-file, tables-ask-on, cases-draw, tables-rest, promises-keep, entries-run-alone}
 use Rattle.sc_live_journals.specs.rows.Definitions.{view_at, IsSeat, with_event}
 use Rattle.sc_live_journals.proofs.RowsProofs.Lemmas.{view_is, view_others, view_was, none_some}
@@ -22,7 +23,9 @@ use Rattle.sc_live_journals.specs.scenes.Definitions.{Expects, IsAsking, IsWaiti
 use Rattle.sc_live_journals.proofs.ScenesProofs.Lemmas.{unknown_apart, row_of_comes, takes_one, answers_reach, errand_among, now_is, was_is, calm_is, tell}
 use Rattle.sc_live_answers.specs.Definitions.{HasStepped, Rested, Executed, IsTold}
 use Rattle.sc_live_answers.proofs.ReportedMail.{Ends as EndsOrder, entry_reports}
+use Rattle.sc_live_answers.proofs.TakenMail.{mail_taken}
 use Rattle.sc_live_journals.proofs.ScenesProofs.AnswersAndLateMail.{untouched, asks_leave, votes_late, learnt_late, sent_late}
+use Rattle.sc_live_journals.proofs.ScenesProofs.VotesAndOrders.{flies_work}
 
 some_or_none : (xs : List Work) → (xs ≡ []) ⊎ (xs ≡ [] → ⊥)
 some_or_none [] = inl refl
@@ -52,13 +55,6 @@ keeps_work r sent after w = Waited w.running w.group (inr w.work)
 files_work : (work : Work) (r : ReplicaState) (sent : _) (after : Place) → MayFile r → Works (work ∷ []) sent r after → HasActed r after
 files_work work r sent after may w = Waited w.running w.group (inl may.idle)
 
-flies_work : (flight : Flight Command) (work : Work) (r : ReplicaState) → FliesLone flight r → work_by flight.value ≡ Some work → works r ≡ work ∷ []
-flies_work flight work r flies is =
-    ap (λ l. l ++ (works_in r.backlog ++ (works_flying r.leader.flights ++ works_ready r.ready))) flies.acts
-    ∙ (ap (λ l. l ++ (works_flying r.leader.flights ++ works_ready r.ready)) flies.backlog
-    ∙ (ap (λ l. works_flying l ++ works_ready r.ready) flies.flights
-    ∙ (ap (λ l. works_flying (flight ∷ []) ++ works_ready l) flies.ready ∙ ap (λ o. (listed o ++ []) ++ []) is)))
-
 -- a vote for the one command
 counts : (from : ℕ) (named : Draw) (ballot : Ballot) (slot : ℕ) (flight : Flight Command) (work : Work) (r : ReplicaState) → FliesLone flight r → work_by flight.value ≡ Some work → HasActed r (mailed from (Accepted named ballot slot) (r, [])).0
 counts from named ballot slot flight work r flies is = elim (votes-count-alone from named ballot slot flight r flies) [
@@ -74,7 +70,7 @@ module _ (words : ℕ → ℕ → ℕ × ℕ) (births : List (Seat Player)) (row
   abbrev waiting : Here
   waiting = (scene_at births rows).at group
 
-  expected : (entry : Draw × Errand) → errand_by mail.from mail.to mail.body ≡ Some entry → Expects entry.1 waiting
+  pub expected : (entry : Draw × Errand) → errand_by mail.from mail.to mail.body ≡ Some entry → Expects entry.1 waiting
   expected entry errand =
       answers_reach.waits (scene_at births rows) group entry.1 under
       (errand_among words births rows seat number mail group entry errand c.comes.node c.comes.taking (row_of_comes words births rows seat number mail group r c.comes).0)
@@ -85,7 +81,7 @@ module _ (words : ℕ → ℕ → ℕ × ℕ) (births : List (Seat Player)) (row
   may : IsUnbound r → waiting.work ≡ [] → MayFile r
   may unbound none = record { running = c.leads.running; unbound = unbound; idle = sym (tell.led births rows group seat.who r c.leads).1.1 ∙ none }
 
-  strays : (body : MailBody) → mail.body ≡ body → group_of_mail body ≡ None → ⊥
+  pub strays : (body : MailBody) → mail.body ≡ body → group_of_mail body ≡ None → ⊥
   strays body e none = none_some (sym none ∙ (ap group_of_mail (sym e) ∙ c.comes.taking.named))
 
   flight_steps : (named : Draw) (ballot : Ballot) (slot : ℕ) → mail.body ≡ Accepted named ballot slot → FindsFlight births rows seat number mail group r slot → HasActed r (mailed mail.from (Accepted named ballot slot) (r, [])).0
@@ -173,11 +169,6 @@ module _ (words : ℕ → ℕ → ℕ × ℕ) (births : List (Seat Player)) (row
           Same (now_is births rows seat event node born is step (Some (Got mail)) input response name ∙ (stays ∙ sym (was_is births rows seat event node born is step (Some (Got mail)) input response name)))
 
       module _ (group : Draw) (t : IsTaking words births rows seat number mail group node) where
-        takes_by : (o : Option ReplicaState) → replica_of group node.replicas ≡ o → on_mail mail.from mail.body node ≡ taken_by o group mail.from mail.body node
-        takes_by o found =
-            cond-true (may_come mail.from mail.body) (routed (group_of_mail mail.body) mail.from mail.body node) (node, []) t.comes
-            ∙ (ap (λ g. routed g mail.from mail.body node) t.named ∙ ap (λ x. taken_by x group mail.from mail.body node) found)
-
         left : LeavesOrMakes births rows seat event name → Fate name
         left (inl e) = Same e
         left (inr b) = New b
@@ -195,7 +186,7 @@ module _ (words : ℕ → ℕ → ℕ × ℕ) (births : List (Seat Player)) (row
 
         taken_so : (o : Option ReplicaState) → replica_of group node.replicas ≡ o → (group ≡ name) ⊎ (group ≡ name → ⊥) → Fate name
         taken_so None found (inl e) = subst Fate e (Missed mail node t found)
-        taken_so None found (inr ne) = makes (unknown mail.from mail.body node) (takes_by None found) (unknown_apart name group (λ i. ne (sym i)) node mail.from mail.body t.named).0
+        taken_so None found (inr ne) = makes (unknown mail.from mail.body node) (mail_taken mail.from mail.body node group t.named t.comes None found) (unknown_apart name group (λ i. ne (sym i)) node mail.from mail.body t.named).0
         taken_so (Some x) found (inl e) = own x found e
         taken_so (Some x) found (inr ne) =
             let f = finds.here number mail group node x refl t found in
@@ -227,16 +218,13 @@ module _ (words : ℕ → ℕ → ℕ × ℕ) (births : List (Seat Player)) (row
   abbrev pub Comes : Draw → ℕ → ReplicaState → Type 0
   Comes name host r = (after : ReplicaState) × (view_at births (with_event rows seat event) name host ≡ Some after) × HasStepped r after
 
-  some_same : (r x : ReplicaState) → Some r ≡ Some x → r ≡ x
-  some_same r x e = cc
-
   module _ (name : Draw) (r : ReplicaState) (runs : r.running ≡ true) where
     waits : (host : ℕ) → view_at births (with_event rows seat event) name host ≡ Some r → Acts name host r
     waits host e = ((r, []), e, stays_put r, λ n result k. absurd k.among)
 
     from_fate : view_at births rows name seat.who ≡ Some r → Fate name → Acts name seat.who r
     from_fate has (Same e) = waits seat.who (e ∙ has)
-    from_fate has (Leading x after leads row acts) = (after, row.is, subst (λ y. HasActed y after) (some_same x r (sym leads.is_there ∙ has)) acts, λ n result k. subst (λ ms. IsTold ms n result) (sym row.sends) k)
+    from_fate has (Leading x after leads row acts) = (after, row.is, subst (λ y. HasActed y after) (same_Some x r (sym leads.is_there ∙ has)) acts, λ n result k. subst (λ ms. IsTold ms n result) (sym row.sends) k)
     from_fate has (Aside mail x c (Led node lead leads ne off) f) = absurd (ne (sym (leads.alone seat.who r has runs)))
     from_fate has (Aside mail x c (Unled u) f) = absurd (true≢false (sym runs ∙ u.none seat.who r has))
     from_fate has (Missed mail node t none) = absurd (none_some (sym none ∙ (sym (view_was births rows seat event name born (Node node) t.is_node) ∙ has)))

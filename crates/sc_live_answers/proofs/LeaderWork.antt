@@ -95,7 +95,7 @@ party_there P (party ∷ named) t e a = by (λ b. party_there P named t e.1 b) p
 prefix_in_time : (words : ℕ → ℕ → ℕ × ℕ) (births : _) (rows more : Rows) → AreInTime (players words births) (rows ++ more) → AreInTime (players words births) rows
 prefix_in_time words births rows more t before row after e = t before row (after ++ more) (ap (λ x. x ++ more) e ∙ append_assoc before (row ∷ after) more)
 
-not_some : (o : Option Route) → is_some o ≡ false → o ≡ None
+pub not_some : (o : Option Route) → is_some o ≡ false → o ≡ None
 not_some None e = refl
 not_some (Some into) e = absurd (true≢false e)
 

@@ -22,8 +22,9 @@ use Rattle.sc_live_journals.specs.groups.Definitions.{ReplicasAreKept, Scenarios
 use Rattle.sc_live_journals.proofs.GroupsProofs.Lemmas.{each_among, among_marks}
 use Rattle.sc_live_answers.specs.Definitions.{over_at, HasLeaders, LedLogsAreOne, has_executed, first_to, slot_leaders_at, AreFew, GroupsBeginLed, GroupsAreLed, LedRowsGoOn}
 use Rattle.sc_live_answers.proofs.SlotLeaders.{last_parts, first_hit, none_hit, slot_leader_member, slot_leader_first, answers_none, offers_none, tells_within}
+use Rattle.sc_live_answers.proofs.SingleLogs.{whole_split}
 
-none_behind : (before : Rows) (row : Row Mail OrderLine) (more : Rows) → [] ≡ (before ++ row ∷ []) ++ more → ⊥
+pub none_behind : (before : Rows) (row : Row Mail OrderLine) (more : Rows) → [] ≡ (before ++ row ∷ []) ++ more → ⊥
 none_behind [] row more e = cc
 none_behind (x ∷ before) row more e = cc
 
@@ -89,10 +90,6 @@ module _ (well : ScenariosAreWellBorn) (kept : ScenariosAreKeptBorn) (keeps : Re
       sent : Each GivesAllowedOrder (mails rows)
       counted : CountedIn rows
 
-    -- what begins the first rows begins the journal
-    whole : (rows more : Rows) → prefix ≡ rows ++ more → journal ≡ rows ++ (more ++ rest)
-    whole rows more e = split ∙ (ap (λ l. l ++ rest) e ∙ append_assoc rows more rest)
-
     has_leaders : (rows more : Rows) → journal ≡ rows ++ more → ((before : Rows) (row : Row Mail OrderLine) (after : Rows) → rows ≡ before ++ row ∷ after → (mail : Mail) → Among mail (mails before) → GivesAllowedOrder mail) → CountedIn rows
         → HasLeaders as_nodes by scenario journal rows base
     has_leaders rows more e sent counted = record {
@@ -131,7 +128,7 @@ module _ (well : ScenariosAreWellBorn) (kept : ScenariosAreKeptBorn) (keeps : Re
       row = row_of player_table seat rows event
 
       in_journal : journal ≡ then_ ++ (more ++ rest)
-      in_journal = whole then_ more starts
+      in_journal = whole_split journal prefix rest split then_ more starts
 
       counted_then : CountedIn then_
       counted_then before who event2 r after i view runs next_ =

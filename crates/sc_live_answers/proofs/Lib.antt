@@ -9,6 +9,9 @@ pub mod PrepareSlotRows
 pub mod KnownRestingPrefixes
 pub mod RequestPhases
 pub mod Ballots
+pub mod VoteEntries
+pub mod JournalGroups
+pub mod TakenMail
 pub mod ReplicaChildren
 pub mod LogChildren
 pub mod ChildRows
@@ -28,6 +31,7 @@ pub mod ClientsUnderOrders
 pub mod JoiningMembers
 pub mod Cores
 mod BudgetAtBirth
+pub mod QuietGroupCuts
 mod QuietRanges
 pub mod RingCycles
 pub mod OrderDeliveries
@@ -76,6 +80,7 @@ pub mod QuietReplicaInvariants
 pub mod ChartQuestions
 pub mod CountableVotes
 pub mod ChartHints
+pub mod AllReplicas
 pub mod QuietViews
 pub mod OrderPremises
 pub mod QuietPrefixGroups
@@ -165,10 +170,8 @@ pub mod RoundBounds
 pub mod RoundsSinceQuiet
 mod GroupRing
 mod RequestRowReplicas
-pub mod RefusalMail
+pub mod Refusals
 pub mod PlayerRefusals
-pub mod RefusalsInParts
-pub mod RefusalsInRows
 pub mod GreatestBallots
 mod SegmentParts
 mod SegmentRows

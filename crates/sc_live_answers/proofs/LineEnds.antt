@@ -42,14 +42,7 @@ orders_same (Storm number most ∷ lines) = orders_same lines
 room_for : (less more : ℕ) → less ≤ more → (line : Line OrderLine) → HasRoom more line → HasRoom less line
 room_for less more le (line.Settle most) room = omega (arith, le, room)
 room_for less more le (line.Free most workers) room = omega (arith, le, room)
-room_for less more le (line.Go who) room = tt
-room_for less more le (line.Deliver who k) room = tt
-room_for less more le (line.Drop who k) room = tt
-room_for less more le (line.Again mail) room = tt
-room_for less more le (line.Tick who) room = tt
-room_for less more le (line.Crash who) room = tt
-room_for less more le (line.Told who order) room = tt
-room_for less more le (line.Storm number most) room = tt
+room_for less more le _ room = tt
 
 -- calm lines that give no order are plain, and have room for as much
 pub plain_by : (less more : ℕ) → less ≤ more → (lines : List SchedLine) → count_by gives_order lines ≡ 0 → Each (AllowsCalmly more) lines → Each (AllowsDeliveries less) lines

@@ -15,6 +15,7 @@ use Rattle.sc_meaning.specs.entries.Definitions.{division_in, division_of}
 use Rattle.sc_meaning.specs.declared.entries.Division.{Division}
 use Rattle.sc_law_entries.specs.ring.Definitions.{Sources, IsVoteCast, IsAllowed, Groups, IsCoordinating, Facts, Story, Stories, put, retold, unsigned, offer_for, new_story, vote_by, with_vote, with_watch_vote, with_decision, with_asked, stories_after}
 use Rattle.sc_law_entries.proofs.RingProofs.Lemmas.{from_at, own_story, same_lock}
+use Rattle.sc_law_entries.proofs.RingProofs.Rings.{no_division as no_child}
 use Rattle.sc_live_answers.proofs.LinkOutcomes.{Good, IsLinkedSo, GivesAllowedOrder, good_come, more_good, kept_links, finished_ends}
 use Rattle.sc_live_answers.proofs.Cores.{called_core}
 
@@ -42,9 +43,6 @@ module _ (Were Come : Draw → ℕ → Type 0) (come : (name : Draw) (node : ℕ
     Claim command r =
         Good Were g r.0.core.members → ((d : Division) → division_of s.core command r.1 ≡ Some d → Good Were d.child (right_members s.core.members))
         → ((tx : Draw) (vote : Vote) (by node : ℕ) → command ≡ RecordVote tx vote by → r.1 ≡ Was.Decided (Migrated node) → Come s.core.succ.group node) → Lands command r
-
-    no_child : {X : Type 0} (d : Division) → None ≡ Some d → X
-    no_child d e = absurd (none-some d e)
 
     same_links : (c : Core) → c.succ ≡ s.core.succ → c.gone ≡ s.core.gone → LinkedSo c
     same_links = kept_links Were Come come sources ys g s linked all_told

@@ -41,7 +41,7 @@ used_in drawn words scenario rows bounded lawful name who r has =
 -- ---- a name that is new
 
 module _ (K : Draw → Type 0) (tx : Draw) (new : K tx → ⊥) where
-  not_it : (name : Draw) → K name → same_draw name tx ≡ false
+  pub not_it : (name : Draw) → K name → same_draw name tx ≡ false
   not_it name k = elim (cases_Bool (same_draw name tx)) [ inl t ↦ absurd (new (subst K (draw_is name tx t) k)) | inr f ↦ f ]
 
   pub unvoted : (core : Core) → CoreNames K core → noted_vote core tx ≡ None

@@ -1,9 +1,9 @@
 -- Which groups that were nowhere in the quiet are there, while an order is under way, and where, is kept by each delivery.
 use Rattle.std.proofs.Common.{◌≡◌, ◌⊎◌, ℕ, suc, ◌+◌, ◌<◌, length, eqb, nat_lt, Bool, true, false, true≢false, List, [], ◌++◌, take, Option, Some, None, inl, inr, refl, sym, ◌∙◌, ap, subst, arith}
 use Rattle.std.specs.List.{list_any}
-use Rattle.std.proofs.lemmas.Bool.{cases_Bool, cond-false, eq-eqb, eqb-true}
+use Rattle.std.proofs.lemmas.Bool.{cases_Bool, cond-false, eqb-true, cases_eq}
 use Rattle.sc_base.specs.Definitions.{Among, same_ballot, same_draw, is_member}
-use Rattle.sc_node_table.specs.Values.{Ballot, Draw, Command, Base, OrderLine, Mail, MailBody, Request, Answer, Prepare, Promise, Accept, Accepted, Nack, Learn, Ask, Install, TxPrepare, TxVote, TxOutcome, TxElsewhere, TxWatch, TxWatched, Told as ToldMail, Seat, Deliver, Node, NotYet}
+use Rattle.sc_node_table.specs.Values.{Ballot, Draw, Command, Base, OrderLine, Mail, MailBody, Accepted, Learn, Install, Seat, Deliver, Node, NotYet}
 use Rattle.sc_actor.specs.Definitions.{mails, numbered, row_of}
 use Rattle.sc_live_orderly.proofs.Lemmas.{is_born-from}
 use Rattle.sc_group_table.specs.machine.Definitions.{child_by, Group, group_of, state_after, applied, right_members}
@@ -84,39 +84,13 @@ module _ (all : List (Seat Player)) (rows : Rows) (seat : Seat Player) (number :
   at_leader (Accepted named ballot slot) e s f = by_flight named ballot slot e f
   at_leader (Learn named slot command) e s f = inl (old_same r mail.from named slot command f)
   at_leader (Install named slot base sets) e s f = absurd s
-  at_leader (Request named client seq op) e s f = inl (rest_same r mail.from (Request named client seq op) tt)
-  at_leader (Answer named seq answer) e s f = inl (rest_same r mail.from (Answer named seq answer) tt)
-  at_leader (Prepare named ballot from_slot) e s f = inl (rest_same r mail.from (Prepare named ballot from_slot) tt)
-  at_leader (Promise named ballot reports) e s f = inl (rest_same r mail.from (Promise named ballot reports) tt)
-  at_leader (Accept named ballot slot command) e s f = inl (rest_same r mail.from (Accept named ballot slot command) tt)
-  at_leader (Nack named promised) e s f = inl (rest_same r mail.from (Nack named promised) tt)
-  at_leader (Ask named from_slot) e s f = inl (rest_same r mail.from (Ask named from_slot) tt)
-  at_leader (TxPrepare tx offer) e s f = inl (rest_same r mail.from (TxPrepare tx offer) tt)
-  at_leader (TxVote tx coord part vote) e s f = inl (rest_same r mail.from (TxVote tx coord part vote) tt)
-  at_leader (TxOutcome tx part outcome) e s f = inl (rest_same r mail.from (TxOutcome tx part outcome) tt)
-  at_leader (TxElsewhere tx coord hint) e s f = inl (rest_same r mail.from (TxElsewhere tx coord hint) tt)
-  at_leader (TxWatch tx watch) e s f = inl (rest_same r mail.from (TxWatch tx watch) tt)
-  at_leader (TxWatched tx coord part vote) e s f = inl (rest_same r mail.from (TxWatched tx coord part vote) tt)
-  at_leader (ToldMail order result) e s f = inl (rest_same r mail.from (ToldMail order result) tt)
+  at_leader body e s f = inl (rest_same r mail.from body tt)
 
   beside : (body : MailBody) → IsStateless body → BesideFinds mail r body → Out body
   beside (Accepted named ballot slot) s f = inr (kept.3 f).1
   beside (Learn named slot command) s f = inr f.ready
   beside (Install named slot base sets) s f = absurd s
-  beside (Request named client seq op) s f = inl (rest_same r mail.from (Request named client seq op) tt)
-  beside (Answer named seq answer) s f = inl (rest_same r mail.from (Answer named seq answer) tt)
-  beside (Prepare named ballot from_slot) s f = inl (rest_same r mail.from (Prepare named ballot from_slot) tt)
-  beside (Promise named ballot reports) s f = inl (rest_same r mail.from (Promise named ballot reports) tt)
-  beside (Accept named ballot slot command) s f = inl (rest_same r mail.from (Accept named ballot slot command) tt)
-  beside (Nack named promised) s f = inl (rest_same r mail.from (Nack named promised) tt)
-  beside (Ask named from_slot) s f = inl (rest_same r mail.from (Ask named from_slot) tt)
-  beside (TxPrepare tx offer) s f = inl (rest_same r mail.from (TxPrepare tx offer) tt)
-  beside (TxVote tx coord part vote) s f = inl (rest_same r mail.from (TxVote tx coord part vote) tt)
-  beside (TxOutcome tx part outcome) s f = inl (rest_same r mail.from (TxOutcome tx part outcome) tt)
-  beside (TxElsewhere tx coord hint) s f = inl (rest_same r mail.from (TxElsewhere tx coord hint) tt)
-  beside (TxWatch tx watch) s f = inl (rest_same r mail.from (TxWatch tx watch) tt)
-  beside (TxWatched tx coord part vote) s f = inl (rest_same r mail.from (TxWatched tx coord part vote) tt)
-  beside (ToldMail order result) s f = inl (rest_same r mail.from (ToldMail order result) tt)
+  beside body s f = inl (rest_same r mail.from body tt)
 
   finds_out : IsStateless mail.body → FindsReplica all rows seat number mail group r → Out mail.body
   finds_out s (AtLeader lead f) = at_leader mail.body refl s f
@@ -165,9 +139,6 @@ module _ (laws : OfJournals) (well : ScenariosAreWellBorn) (keeps : DeliveriesKe
   else_stays : (name : Draw) (who : ℕ) → (who ≡ seat.who → ⊥) → view_at (births as_nodes scenario) after name who ≡ view_at (births as_nodes scenario) rows name who
   else_stays name who ne = view_others (births as_nodes scenario) rows (row_of player_table seat rows (Deliver number)) name who ne
 
-  who_or : (node : ℕ) → (node ≡ seat.who) ⊎ (node ≡ seat.who → ⊥)
-  who_or node = elim (cases_Bool (eqb node seat.who)) [ inl t ↦ inl (eqb-true node seat.who t) | inr f ↦ inr (λ e. (let g : true ≡ false = sym (eq-eqb node seat.who e) ∙ f in absurd cc)) ]
-
   module _ (t : Takes words (births as_nodes scenario) rows seat number mail) where
     b_of : (kid : Base) → Among kid (mailed mail.from mail.body (t.r, [])).1 → IsCreated task t.group t.r kid
     b_of kid a =
@@ -196,7 +167,7 @@ module _ (laws : OfJournals) (well : ScenariosAreWellBorn) (keeps : DeliveriesKe
       by (inr (child, a, id, none, makes)) = (let b = b_of t child a in (b.splits, sym id ∙ b.name))
 
   only : (base : Base) → Among base (groups_at as_nodes scenario.groups journal) → IsNowhere (births as_nodes scenario) quiet base.core.id → IsThere (births as_nodes scenario) after base.core.id → (task.splits ≡ true) × (base.core.id ≡ task.name)
-  only base is nowhere (who, x, v) = elim (who_or who) [
+  only base is nowhere (who, x, v) = elim (cases_eq who seat.who) [
     | inl e ↦ new_one base is nowhere x (ap (view_at (births as_nodes scenario) after base.core.id) (sym e) ∙ v) kind
     | inr ne ↦ prior.only base is nowhere (who, x, sym (else_stays base.core.id who ne) ∙ v)
   ]
@@ -249,7 +220,7 @@ module _ (laws : OfJournals) (well : ScenariosAreWellBorn) (keeps : DeliveriesKe
             ((mailed mail.from mail.body (t.r, [])).0.0, ap (λ n. view_at (births as_nodes scenario) after n seat.who) (sym b.own) ∙ t.is, subst (λ n. HasCreated n (mailed mail.from mail.body (t.r, [])).0.0.group.core.born) b.name (knows_made mail.from mail.body t.r child a))
 
     known : (who : ℕ) (x : ReplicaState) → view_at (births as_nodes scenario) after task.name who ≡ Some x → Known who
-    known who x v = elim (who_or who) [
+    known who x v = elim (cases_eq who seat.who) [
       | inl e ↦ subst Known (sym e) (known_here x (ap (view_at (births as_nodes scenario) after task.name) (sym e) ∙ v) kind)
       | inr ne ↦ (let k = prior.known on base is id who x (sym (else_stays task.name who ne) ∙ v) in (k.0, else_stays task.group who ne ∙ k.1, k.2))
     ]
@@ -346,7 +317,7 @@ module _ (laws : OfJournals) (well : ScenariosAreWellBorn) (keeps : DeliveriesKe
             ]
 
     kept : (who : ℕ) (r : ReplicaState) → is_member base.core.members who ≡ true → view_at (births as_nodes scenario) after task.group who ≡ Some r → Knows task.name r → Has who
-    kept who r member v knows = elim (who_or who) [
+    kept who r member v knows = elim (cases_eq who seat.who) [
       | inl e ↦ subst Has (sym e) (kept_here r (subst (λ n. is_member base.core.members n ≡ true) e member) (ap (view_at (births as_nodes scenario) after task.group) (sym e) ∙ v) knows kind)
       | inr ne ↦ (let h = prior.kept on base is id who r member (sym (else_stays task.group who ne) ∙ v) knows in (h.0, else_stays task.name who ne ∙ h.1))
     ]

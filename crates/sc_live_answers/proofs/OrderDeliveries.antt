@@ -4,7 +4,7 @@ use Rattle.std.specs.Prelude.{is_some, ◌||◌}
 use Rattle.std.proofs.lemmas.Bool.{eqb-true}
 use Rattle.sc_base.specs.Definitions.{Among, Each, same_draw}
 use Rattle.sc_base.proofs.Lemmas.{draw_is}
-use Rattle.sc_node_table.specs.Values.{Draw, Base, Route, OrderLine, Mail, MailBody, Request, Answer, Prepare, Promise, Accept, Accepted, Nack, Learn, Ask, Install, TxPrepare, TxVote, TxOutcome, TxElsewhere, TxWatch, TxWatched, Told, Node, Client, Seat, Deliver}
+use Rattle.sc_node_table.specs.Values.{Draw, Base, Route, OrderLine, Mail, MailBody, Request, Promise, Accepted, TxPrepare, TxVote, TxOutcome, TxElsewhere, TxWatch, TxWatched, Node, Client, Seat, Deliver}
 use Rattle.sc_actor.specs.Definitions.{mails, numbered, value, System, row_of, numbers_of, is_quiet}
 use Rattle.sc_live_orderly.specs.Definitions.{IsCalmRow, AreInTime}
 use Rattle.sc_live_orderly.proofs.Lemmas.{in_time_before, in_time_tidy, last_in_time, TakesFirst, takes_first, is_born-from}
@@ -12,17 +12,17 @@ use Rattle.sc_node_table.specs.Definitions.{NodeState, replica_of, group_of_mail
 use Rattle.sc_words.proofs.PaxosProofs.Lemmas.{find_found}
 use Rattle.sc_scenario.specs.declared.scenario.scenarios.Scenario.{Scenario}
 use Rattle.sc_scenario.specs.scenario.Definitions.{ValidScenariosAreBounded}
-use Rattle.sc_meaning.specs.sound.Definitions.{groups_at, Player, player_table, births, as_nodes}
+use Rattle.sc_meaning.specs.sound.Definitions.{Player, player_table, births, as_nodes}
 use Rattle.sc_live_steps.specs.calm.Definitions.{Chart, players, IsCalmFor, FindsCalm, MayAskThere, Points, StandsOnce, Rows, led_elsewhere, leads, is_leading, is_led}
 use Rattle.sc_live_journals.specs.rows.Definitions.{replicas_of, replica_in, view_at, with_event}
 use Rattle.sc_live_journals.specs.mail.Definitions.{SlotsAreLeft}
-use Rattle.sc_live_journals.specs.logs.Definitions.{IsGroupOf, SlotsHaveRosters}
+use Rattle.sc_live_journals.specs.logs.Definitions.{SlotsHaveRosters}
 use Rattle.sc_live_journals.specs.groups.Definitions.{ScenariosAreKeptBorn, ReplicasAreKept, Delivers}
-use Rattle.sc_live_answers.specs.Definitions.{AreFew, FindsBy, JournalMailFinds, StrayMailFinds, MailIsForItsNode, IsPlainAt, IsNoRequest, NeedsAt, NeedsBesides, MayCountAt, IsUnsettled, WellLedLeadAlone, StagesLeaveOneWork, IsCalmJournal, AreSent, ContinuesBy, IsUnder, StagesAsk, ViewsAgree, IsKnownMail, IsKnownDelivery, OrderRowsFindCalm}
+use Rattle.sc_live_answers.specs.Definitions.{FindsBy, JournalMailFinds, StrayMailFinds, MailIsForItsNode, IsPlainAt, IsNoRequest, NeedsAt, NeedsBesides, MayCountAt, IsUnsettled, WellLedLeadAlone, StagesLeaveOneWork, IsCalmJournal, AreSent, ContinuesBy, IsUnder, StagesAsk, ViewsAgree, IsKnownMail, IsKnownDelivery, OrderRowsFindCalm}
 use Rattle.sc_live_journals.specs.charts.Definitions.{replicas_of as chart_replicas, all_replicas, chart_at, LedStandOnce, quiet_upto}
 use Rattle.sc_live_journals.proofs.ChartsProofs.Lemmas.{led_by}
 use Rattle.sc_live_steps.specs.orders.Definitions.{Turn, is_watch, Errand, Question, Elsewhere, Asking, Here, Scene, errand_by, bond_of, Stage, Asks, SentOn, IsAt}
-use Rattle.sc_live_steps.proofs.OrdersProofs.Lemmas.{among-left, among-right}
+use Rattle.sc_live_steps.proofs.OrdersProofs.Lemmas.{among-right}
 use Rattle.sc_live_journals.specs.scenes.Definitions.{IsThere, IsNowhere, IsFresh, FreshGroupsStay, WorksFlyLone, is_running, left_after, scene_at, AnswersReachLeaders, ScenesDescribe}
 use Rattle.sc_live_journals.proofs.ScenesProofs.Lemmas.{takes_one, lead_runs, calm_is}
 use Rattle.sc_live_steps.specs.entries.LoneEntries.{BondsAsk, OrderEntriesCount}
@@ -30,6 +30,8 @@ use Rattle.sc_live_plain.specs.Definitions.{replicas_after}
 use Rattle.sc_live_answers.proofs.CountableVotes.{may_count}
 use Rattle.sc_live_answers.proofs.Questions.{IsQuestionOf, question_stage, IsSentOnIn, elsewhere_stage}
 use Rattle.sc_live_answers.proofs.QuestionTargets.{errand_there}
+use Rattle.sc_live_answers.proofs.AllReplicas.{into_seats}
+use Rattle.sc_live_answers.proofs.JournalGroups.{calm_group, calm_slots}
 
 -- ---- where a group has a replica
 
@@ -89,14 +91,9 @@ module _ (births : List (Seat Player)) (rows : Rows) (name : Draw) where
   all_there (Node node) r e = (find_found (λ (x : ReplicaState). same_draw (name_of x) name) node.replicas r e).0
   all_there (Client client) r e = cc
 
-  pub in_all : (seats : List (Seat Player)) (seat : Seat Player) (r : ReplicaState) → Among seat seats → Among r (chart_replicas (value player_table seat rows)) → Among r (all_replicas seats rows)
-  in_all [] seat r a here = absurd a
-  in_all (s ∷ seats) seat r (inl e) here = among-left r (chart_replicas (value player_table s rows)) (all_replicas seats rows) (subst (λ x. Among r (chart_replicas (value player_table x rows))) (sym e) here)
-  in_all (s ∷ seats) seat r (inr a) here = among-right r (chart_replicas (value player_table s rows)) (all_replicas seats rows) (in_all seats seat r a here)
-
   -- a replica that is seen stands among all
   pub among_all : (who : ℕ) (r : ReplicaState) → view who ≡ Some r → Among r (all_replicas births rows)
-  among_all who r e = (let s = seat_of who r e in in_all births s.seat r s.among (all_there (value player_table s.seat rows) r s.has))
+  among_all who r e = (let s = seat_of who r e in into_seats rows births s.seat r s.among (all_there (value player_table s.seat rows) r s.has))
 
   named_there : (player : Player) (r : ReplicaState) → replica_of name (replicas_of player) ≡ Some r → name_of r ≡ name
   named_there (Node node) r e = draw_is (name_of r) name (find_found (λ (x : ReplicaState). same_draw (name_of x) name) node.replicas r e).1
@@ -150,19 +147,6 @@ module _ (named_at : JournalMailFinds) (strays : StrayMailFinds) (for_node : Mai
 
   short_prefix : length rows ≤ 2 ^ 28
   short_prefix = (let long = ap length split in let sum = length-append rows (row_of player_table seat rows (Deliver number) ∷ on.prefix.more) in let short = calm.short in omega (arith, long, sum, short))
-
-  group : (base : Base) → Among base (groups_at as_nodes scenario.groups journal) → IsGroupOf as_nodes words scenario journal base
-  group base among = record { open_slots = refl; valid = calm.valid; lawful = calm.lawful; stands = among }
-
-  few : (base : Base) → AreFew as_nodes scenario journal base
-  few base prefix more who r e view =
-      let timely : AreInTime s prefix = λ b row a same. calm.timely b row (a ++ more) (e ∙ (ap (λ l. l ++ more) same ∙ append_assoc b (row ∷ a) more)) in
-      let long = ap length e in
-      let sum = length-append prefix more in
-      let short = calm.short in
-      let left = slots_left words scenario prefix base.core.id who r timely (omega (arith, long, sum, short)) view in
-      let low = left.0 in
-      (omega (arith, low), left.1)
 
   module _ (mail : Mail) (node : NodeState) (name : Draw) (at : numbered (mails rows) number ≡ Some mail) (is : value player_table seat rows ≡ Node node) (of : group_of_mail mail.body ≡ Some name) where
     abbrev k : IsKnownMail scenario journal mail node name
@@ -294,7 +278,7 @@ module _ (named_at : JournalMailFinds) (strays : StrayMailFinds) (for_node : Mai
             let view = ap (λ n. view_at all rows n seat.who) k.named ∙ (view_is name ∙ e) in
             let room = slots_left words scenario rows base.core.id seat.who r before short_prefix view in
             may_count lone_fly entries_count leave_one tell lead_alone _ _ _ words all rows base now_sent.course now_sent.led
-            (rosters.rosters as_nodes words scenario journal base (group base k.among)) seat.who r view runs
+            (rosters.rosters as_nodes words scenario journal base (calm_group words scenario journal calm base k.among)) seat.who r view runs
             (replicas_kept all rows base.core.id seat.who r (kept_born scenario) view).1 room.0 (k.counts r e runs) (under.stage, under.untouched.stands) slot)
 
     -- ---- what it needs
@@ -304,15 +288,8 @@ module _ (named_at : JournalMailFinds) (strays : StrayMailFinds) (for_node : Mai
 
     needs_some : (r : ReplicaState) → replica_of name node.replicas ≡ Some r → (b : MailBody) → mail.body ≡ b → NeedsBesides chart.ways r b
     needs_some r here (Request group client seq op) body = absurd (subst IsNoRequest body k.unasked)
-    needs_some r here (Answer group seq answer) body = tt
-    needs_some r here (Prepare group ballot from_slot) body = tt
     needs_some r here (Promise group ballot reports) body = plain_at (Some r) here
-    needs_some r here (Accept group ballot slot command) body = tt
     needs_some r here (Accepted group ballot slot) body = subst (MayCountAt slot) here (counts_here slot)
-    needs_some r here (Nack group promised) body = tt
-    needs_some r here (Learn group slot command) body = tt
-    needs_some r here (Ask group from_slot) body = tt
-    needs_some r here (Install group slot state sets) body = tt
     needs_some r here (TxPrepare tx offer) body =
         let part : offer.part ≡ name = (let e : Some offer.part ≡ Some name = sym (ap group_of_mail body) ∙ of in cc) in
         let q = question_stage name tx offer.coord false offer.by mail.to now under.stage under.untouched.stands
@@ -327,7 +304,7 @@ module _ (named_at : JournalMailFinds) (strays : StrayMailFinds) (for_node : Mai
         (errand_way (Question tx watch.coord true watch.by mail.to) (ap (errand_by mail.from mail.to) body ∙ ap (λ n. Some (n, Question tx watch.coord true watch.by mail.to)) part)) in
         (plain_at (Some r) here, subst (λ n. Points chart.ways n r) (sym part) (question_points tx watch.coord true watch.by mail.to q r here), question_asks tx watch.coord true watch.by mail.to q ∙ ap (λ n. Some (n, true)) (sym part))
     needs_some r here (TxWatched tx coord part vote) body = plain_at (Some r) here
-    needs_some r here (Told order result) body = tt
+    needs_some r here _ body = tt
 
     needs : NeedsAt chart.ways (replica_of name node.replicas) mail.body
     needs = by (replica_of name node.replicas) refl
@@ -340,7 +317,7 @@ module _ (named_at : JournalMailFinds) (strays : StrayMailFinds) (for_node : Mai
     group_finds =
         let so = (sent_after base k.among).so in
         let deliver : Delivers (with_event rows seat (Deliver number)) rows seat number mail = record { row = record { more = []; is = sym (append-nil (with_event rows seat (Deliver number))) }; sent = at } in
-        named_at chart words scenario journal (with_event rows seat (Deliver number)) on.prefix.more base (group base k.among) calm.timely (few base) on.prefix.is so rows seat number mail node deliver on.seated is (of ∙ ap Some (sym k.named))
+        named_at chart words scenario journal (with_event rows seat (Deliver number)) on.prefix.more base (calm_group words scenario journal calm base k.among) calm.timely (calm_slots words scenario journal calm slots_left base) on.prefix.is so rows seat number mail node deliver on.seated is (of ∙ ap Some (sym k.named))
         (subst (λ n. StandsOnce n chart.groups) (sym k.named) once) (subst (λ n. NeedsAt chart.ways (replica_of n node.replicas) mail.body) (sym k.named) needs)
 
   finds : FindsCalm chart (births as_nodes scenario) rows seat (Deliver number)

@@ -1,6 +1,7 @@
 -- What is known of an order since a quiet journal, from when it is given.
 use Rattle.std.proofs.Common.{◌≡◌, ℕ, eqb, true≢false, List, [], ◌∷◌, Option, Some, None, ◌⊎◌, inl, inr, refl, sym, ◌∙◌, ap, subst}
 use Rattle.std.proofs.lemmas.Bool.{cases_Bool, eq-eqb, eqb-true}
+use Rattle.std.proofs.lemmas.Option.{same_Some}
 use Rattle.sc_base.specs.Definitions.{Each, next_name}
 use Rattle.sc_node_table.specs.Values.{Draw, Seat, Base, Order, OrderLine, OrderRefusal, Node, Client}
 use Rattle.sc_actor.specs.declared.rows.Event.TheVariants.{Told}
@@ -23,7 +24,7 @@ use Rattle.sc_live_journals.proofs.RowsProofs.Lemmas.{view_is, view_others, none
 use Rattle.sc_live_journals.specs.scenes.Definitions.{IsOrdered, ByAnother, ByLeader, FindsQuiet, IsGivenInQuiet, StageAfter, is_running, scene_at, IsOfGroup, IsTablesRow, LeavesOrMakes}
 use Rattle.sc_live_journals.proofs.ScenesProofs.Lemmas.{found_step, lead_runs, now_is, rows_taken, was_is}
 use Rattle.sc_live_answers.specs.Definitions.{IsCalmJournal, RestsAt, TrueOrdersBegin, HasDone, doer, IsUnused, opened_by, AreSeen, IsTrueSince}
-use Rattle.sc_live_answers.proofs.LeaderDeeds.{lead_works, one_not_none}
+use Rattle.sc_live_answers.proofs.LeaderDeeds.{lead_works, one_not_none, same_one as same_work}
 use Rattle.sc_live_answers.proofs.SeatNumbers.{next_unused}
 use Rattle.sc_live_answers.proofs.QuestionedGroups.{rests_idle}
 
@@ -37,13 +38,13 @@ begun_so group later (ByPassing s) = (let e = s.before_is in absurd cc)
 begun_so group later (ByAsking s) = (let e = s.before_is in absurd cc)
 begun_so group later (ByTaking (OfQuestion s)) = (let e = s.before_is in absurd cc)
 begun_so group later (ByTaking (OfVote s)) = (let e = s.before_is in absurd cc)
-begun_so group later (ByTaking (OfOutcome (LastTakes tx party e l g a))) = absurd cc
-begun_so group later (ByTaking (OfOutcome (OneTakes tx one two e l g a))) = absurd cc
-begun_so group later (ByTaking (OfOutcome (TwoTakes tx one two e l g a))) = absurd cc
 begun_so group later (ByVote s) = (let e = s.before_is in absurd cc)
 begun_so group later (ByNo s) = (let e = s.before_is in absurd cc)
 begun_so group later (ByHearing s) = (let e = s.before_is in absurd cc)
 begun_so group later (ByDeciding s) = (let e = s.before_is in absurd cc)
+begun_so group later (ByTaking (OfOutcome (LastTakes tx party e l g a))) = absurd cc
+begun_so group later (ByTaking (OfOutcome (OneTakes tx one two e l g a))) = absurd cc
+begun_so group later (ByTaking (OfOutcome (TwoTakes tx one two e l g a))) = absurd cc
 begun_so group later (ByEnd (LastFreed tx party e l g a)) = absurd cc
 begun_so group later (ByEnd (OneFreed tx one two e l g a)) = absurd cc
 begun_so group later (ByEnd (TwoFreed tx one two e l g a)) = absurd cc
@@ -67,6 +68,29 @@ pub closing_bond : (tx : Draw) (leg : Leg) (host : ℕ) → (closing tx leg host
 closing_bond tx Mailed host = refl
 closing_bond tx Filed host = refl
 
+-- an order that is given binds no group
+module _ (words : ℕ → ℕ → ℕ × ℕ) (births : List (Seat Player)) (quiet : Rows) (seat : Seat Player) (line : OrderLine) (t : IsGivenInQuiet words births quiet seat line) where
+  abbrev given : Scene
+  given = scene_at births (with_event quiet seat (Told line))
+
+  given_step : StageAfter births quiet seat (Told line) Still
+  given_step = found_step words births quiet seat (Told line) t.seated t.timely t.finds Still t.still
+
+  given_unbound : (name : Draw) → ((scene_at births (with_event quiet seat (Told line))).at name).bond ≡ Unbound
+  given_unbound name = elim given_step.2 [
+    | inl e ↦ still_unbound given (subst (λ x. IsAt x given) e given_step.1) name
+    | inr g ↦ elim (begun_so g.group given_step.0 g.step) [
+      | inl e ↦ still_unbound given (subst (λ x. IsAt x given) e given_step.1) name
+      | inr o ↦ ordered_unbound given g.group o.0 o.1 (subst (λ x. IsAt x given) o.2 given_step.1) name
+    ]
+  ]
+
+  pub no_deal : (name tx asked : Draw) (turn : Turn) → ((scene_at births (with_event quiet seat (Told line))).at name).bond ≡ Asking tx asked turn → ⊥
+  no_deal name tx asked turn e = no_asking tx asked turn (sym e ∙ given_unbound name)
+
+  pub no_party : (name tx : Draw) (leg : Leg) (host : ℕ) → (scene_at births (with_event quiet seat (Told line))).at name ≡ closing tx leg host → ⊥
+  no_party name tx leg host e = no_bound tx (sym (closing_bond tx leg host) ∙ (ap (λ (h : Here). h.bond) (sym e) ∙ given_unbound name))
+
 -- the transaction that an order opens has the next name
 opens_next : (name : Draw) (number : ℕ) (order : Order) (tx : Draw) → work_by (ordered_command name number order) ≡ Some (Opens tx) → tx ≡ name
 opens_next name number (An.Join node group) tx e = cc
@@ -86,18 +110,6 @@ module _ (words : ℕ → ℕ → ℕ × ℕ) (scenario : Scenario) (first : Bas
 
   abbrev after : Scene
   after = scene_at all next
-
-  found : StageAfter all quiet seat (Told line) Still
-  found = found_step words all quiet seat (Told line) t.seated t.timely t.finds Still t.still
-
-  unbound : (name : Draw) → (after.at name).bond ≡ Unbound
-  unbound name = elim found.2 [
-    | inl e ↦ still_unbound after (subst (λ x. IsAt x after) e found.1) name
-    | inr g ↦ elim (begun_so g.group found.0 g.step) [
-      | inl e ↦ still_unbound after (subst (λ x. IsAt x after) e found.1) name
-      | inr o ↦ ordered_unbound after g.group o.0 o.1 (subst (λ x. IsAt x after) o.2 found.1) name
-    ]
-  ]
 
   idle : (name : Draw) (who : ℕ) (r : ReplicaState) → view_at (births as_nodes scenario) quiet name who ≡ Some r → works r ≡ []
   idle name who r has = rests_idle r (rests.is.quiet.at_rest name who r (sym (seen name who) ∙ has))
@@ -122,12 +134,6 @@ module _ (words : ℕ → ℕ → ℕ × ℕ) (scenario : Scenario) (first : Bas
         same_here : view_at (births as_nodes scenario) next group seat.who ≡ view_at (births as_nodes scenario) quiet group seat.who → Done
         same_here e = same_not (ap (view_at all next group) here ∙ (e ∙ ap (view_at all quiet group) (sym here)))
 
-        some_is : (x y : ReplicaState) → Some x ≡ Some y → x ≡ y
-        some_is x y e = cc
-
-        same_work : (one other : Work) → one ∷ [] ≡ other ∷ [] → one ≡ other
-        same_work one other e = cc
-
         of_client : (client : ClientState) → value player_table seat quiet ≡ Client client → Done
         of_client client is = absurd (none_some (sym (view_is all quiet seat (Told line) group t.seated (Client client) is (Some (ToldInput line)) refl) ∙ now_here))
 
@@ -147,7 +153,7 @@ module _ (words : ℕ → ℕ → ℕ × ℕ) (scenario : Scenario) (first : Bas
 
             other : LeavesOrMakes (births as_nodes scenario) quiet seat (Told line) group → Done
             other (inl e) = same_here e
-            other (inr b) = absurd (one_not_none work (works r) has_work (ap works (some_is r (born_replica slots_ahead seat.who b.base) (sym now_here ∙ b.makes))))
+            other (inr b) = absurd (one_not_none work (works r) has_work (ap works (same_Some r (born_replica slots_ahead seat.who b.base) (sym now_here ∙ b.makes))))
 
             -- one that takes the order has its command as its one work
             taken : group_of_order line.order ≡ group → FindsQuiet words (births as_nodes scenario) quiet seat line node x → Done
@@ -156,11 +162,11 @@ module _ (words : ℕ → ℕ → ℕ × ℕ) (scenario : Scenario) (first : Bas
                 absurd (one_not_none work (works r) has_work (ap works (now_is_so own) ∙ (w.work ∙ idle (group_of_order line.order) seat.who x rows_of.1.was)))
               where
                 now_is_so : group_of_order line.order ≡ group → r ≡ (ordered_row node.draws line (x, [])).0
-                now_is_so e = some_is r (ordered_row node.draws line (x, [])).0 (sym now_here ∙ (ap (λ n. view_at all next n seat.who) (sym e) ∙ rows_of.1.is))
+                now_is_so e = same_Some r (ordered_row node.draws line (x, [])).0 (sym now_here ∙ (ap (λ n. view_at all next n seat.who) (sym e) ∙ rows_of.1.is))
             taken own (ByLeader leads unbound goes nothing) = by (untaken node.draws line x) refl
               where
                 now_is_so : r ≡ (ordered_row node.draws line (x, [])).0
-                now_is_so = some_is r (ordered_row node.draws line (x, [])).0 (sym now_here ∙ (ap (λ n. view_at all next n seat.who) (sym own) ∙ rows_of.1.is))
+                now_is_so = same_Some r (ordered_row node.draws line (x, [])).0 (sym now_here ∙ (ap (λ n. view_at all next n seat.who) (sym own) ∙ rows_of.1.is))
 
                 may : MayFile x
                 may = record { running = leads.running; unbound = unbound; idle = idle (group_of_order line.order) seat.who x rows_of.1.was }
@@ -214,22 +220,16 @@ module _ (words : ℕ → ℕ → ℕ × ℕ) (scenario : Scenario) (first : Bas
 
   -- ---- each stage
 
-  no_deal : (name tx asked : Draw) (turn : Turn) → (after.at name).bond ≡ Asking tx asked turn → ⊥
-  no_deal name tx asked turn e = no_asking tx asked turn (sym e ∙ unbound name)
-
-  no_party : (name tx : Draw) (leg : Leg) (host : ℕ) → after.at name ≡ closing tx leg host → ⊥
-  no_party name tx leg host e = no_bound tx (sym (closing_bond tx leg host) ∙ (ap (λ (h : Here). h.bond) (sym e) ∙ unbound name))
-
   begins : (stage : Stage) → IsAt stage after → IsTrueSince scenario quiet next stage
   begins Still a = record { new = tt; done = tt; asked = tt }
   begins (Ordered group chief work) a = (let d = ordered_done group chief work a in record { new = d.1; done = (d.0, tt); asked = tt })
-  begins (Asks deal to) a = absurd (no_deal deal.coord deal.tx deal.asked deal.turn (ap (λ (h : Here). h.bond) a.parties.0.0))
-  begins (SentOn deal) a = absurd (no_deal deal.coord deal.tx deal.asked deal.turn (ap (λ (h : Here). h.bond) a.parties.0.0))
-  begins (Weighs deal host) a = absurd (no_deal deal.coord deal.tx deal.asked deal.turn (ap (λ (h : Here). h.bond) a.parties.0.0))
-  begins (Replied deal agreed host) a = absurd (no_deal deal.coord deal.tx deal.asked deal.turn (ap (λ (h : Here). h.bond) a.parties.0.0))
-  begins (Recorded deal agreed host) a = absurd (no_deal deal.coord deal.tx deal.asked deal.turn (ap (λ (h : Here). h.bond) a.parties.0.0))
-  begins (Closes tx party) a = absurd (no_party party.group tx party.leg party.host a.parties.0.0)
-  begins (ClosesBoth tx one two) a = absurd (no_party one.group tx one.leg one.host a.parties.0.0)
+  begins (Asks deal to) a = absurd (no_deal words all quiet seat line t deal.coord deal.tx deal.asked deal.turn (ap (λ (h : Here). h.bond) a.parties.0.0))
+  begins (SentOn deal) a = absurd (no_deal words all quiet seat line t deal.coord deal.tx deal.asked deal.turn (ap (λ (h : Here). h.bond) a.parties.0.0))
+  begins (Weighs deal host) a = absurd (no_deal words all quiet seat line t deal.coord deal.tx deal.asked deal.turn (ap (λ (h : Here). h.bond) a.parties.0.0))
+  begins (Replied deal agreed host) a = absurd (no_deal words all quiet seat line t deal.coord deal.tx deal.asked deal.turn (ap (λ (h : Here). h.bond) a.parties.0.0))
+  begins (Recorded deal agreed host) a = absurd (no_deal words all quiet seat line t deal.coord deal.tx deal.asked deal.turn (ap (λ (h : Here). h.bond) a.parties.0.0))
+  begins (Closes tx party) a = absurd (no_party words all quiet seat line t party.group tx party.leg party.host a.parties.0.0)
+  begins (ClosesBoth tx one two) a = absurd (no_party words all quiet seat line t one.group tx one.leg one.host a.parties.0.0)
 
 pub true_begins : ValidScenariosAreBounded → ValidScenariosBeginWell → TakenOrdersAreAllowed → TakenWishesAreAllowed → WishesAreAtPositions → OtherNamesAreFree → NodesHaveNames → TrueOrdersBegin
 true_begins bounded begin allowed wishes positions free names words scenario first journal quiet seat line stage calm rests seen t stands =

@@ -18,7 +18,7 @@ use Rattle.sc_live_journals.specs.rows.Definitions.{view_at, with_event}
 use Rattle.sc_live_journals.proofs.RowsProofs.Lemmas.{view_was}
 use Rattle.sc_live_journals.specs.mail.Definitions.{SlotsAreLeft, ReplicasLast, MailMayCome}
 use Rattle.sc_live_journals.specs.logs.Definitions.{ViewsAreReplicas, SlotsHaveRosters, logged_sets}
-use Rattle.sc_live_answers.specs.Definitions.{ReplicasRunLogs, IsUnsettled, IsNamedGuide, NewestStay, WellLedLeadAlone, IsOrdersRow, OrdersRowsFind, OrdersRowsMeet, IsQuietWhileYoung, IsSentStep, NextRowsAreSent, SentReplicas, IsNoRequest, IsPlainAt, over_at, slot_leaders_at, NextRowsRise, IsRisingOn, IsRoundSince, OrdersKeepRounds, PrefixesAreFound, NoMailForStrangers, IsCalmJournal, AreSent, ContinuesBy, IsNamedGroup, IsUnder, IsYoungAt, AllLeadAlone, IsKnownMail, OrderRowsFindCalm, ViewsAgree, ChildrenAreCreated, IsWorkingRow, ChildrenWereNowhere, IsUnanswered, YoungGroupsStay, AreSeen, IsTrueSince, LeadsSince, EntriesAreTrue, MailComesUnsettled, TakesSince, IsHinted, CoordinatorsAreHinted, HintedOrdersGoOn, AreSettled, CoordinatorsAreSettled, SettledOrdersGoOn, EndingGroupsGoOn, IsGoingSince, NamesStayFew, NoneWaits, AskedGroupsStood, ContinuesSince, TrueOrdersGoOn, IsGuidedRow, DeliveriesKeepWork, WorkStandsAlone, FlightsAreEntries, OrderErrandsGoToNodes, IsOfJournal, IsOrderedSince, DeliveriesKeepOrdered, TakersAreNodes, LawfulReplicasAreNamedOnce, IsTrueEntry, Does, HasNumber, LockNumber, IsRefusalSent, IsReported, IsGiven, IsOrderHeld}
+use Rattle.sc_live_answers.specs.Definitions.{ReplicasRunLogs, IsUnsettled, IsNamedGuide, NewestStay, WellLedLeadAlone, IsOrdersRow, OrdersRowsFind, OrdersRowsMeet, IsQuietWhileYoung, IsSentStep, NextRowsAreSent, SentReplicas, IsNoRequest, IsPlainAt, over_at, slot_leaders_at, NextRowsRise, IsRisingOn, IsRoundSince, OrdersKeepRounds, PrefixesAreFound, NoMailForStrangers, IsCalmJournal, AreSent, ContinuesBy, IsNamedGroup, IsUnder, IsYoungAt, AllLeadAlone, IsKnownMail, OrderRowsFindCalm, ViewsAgree, ChildrenAreCreated, IsWorkingRow, ChildrenWereNowhere, IsUnanswered, YoungGroupsStay, AreSeen, IsTrueSince, LeadsSince, EntriesAreTrue, MailComesUnsettled, TakesSince, IsHinted, CoordinatorsAreHinted, HintedOrdersGoOn, AreSettled, CoordinatorsAreSettled, SettledOrdersGoOn, EndingGroupsGoOn, IsGoingSince, NamesStayFew, NoneWaits, AskedGroupsStood, ContinuesSince, TrueOrdersGoOn, IsGuidedRow, DeliveriesKeepWork, WorkStandsAlone, FlightsAreEntries, OrderErrandsGoToNodes, IsOfJournal, IsOrderedSince, DeliveriesKeepOrdered, TakersAreNodes, LawfulReplicasAreNamedOnce, IsTrueEntry, Does, HasNumber, LockNumber, IsRefusalSent, IsReported, IsGiven, IsOrderHeld, IsPrefixOf}
 use Rattle.sc_live_journals.specs.scenes.Definitions.{IsThere, IsNowhere, AreUntouched, IsDelivered, FreshGroupsStay, FindsOrder, GoesBy, StageAfter, IsTaking, LeadsAlone, scene_at}
 use Rattle.sc_live_steps.specs.entries.LoneEntries.{IsEntry}
 use Rattle.sc_live_journals.specs.charts.Definitions.{chart_at, quiet_prefix}
@@ -26,7 +26,7 @@ use Rattle.sc_live_plain.specs.Definitions.{replicas_after, DoHintsRise}
 use Rattle.sc_live_plain.proofs.Lemmas.{each_numbered}
 use Rattle.sc_client_table.specs.table.Definitions.{Client as ClientState}
 use Rattle.sc_live_answers.proofs.GuidedGroups as at_row
-use Rattle.sc_live_answers.proofs.GuidedGroups.{named_there}
+use Rattle.sc_live_answers.proofs.GuidedGroups.{named_there, lead_alone}
 use Rattle.sc_live_answers.proofs.ClientsUnderOrders.{started_still, other_stays}
 use Rattle.sc_live_answers.proofs.PlayerReplicas.{place_of}
 use Rattle.sc_live_answers.proofs.SentMailGroups.{known_after}
@@ -74,14 +74,12 @@ module _ (all_bounded : ValidScenariosAreBounded) (few_law : SlotsAreLeft) (logs
   guide_of : (name : Draw) → IsNamedGroup scenario journal name → IsNamedGuide words all rows seat (Deliver number) name
   guide_of = at_row.guide_of few_law logs_law views_law rosters_law next_law newest_law found_law no_law words scenario journal rows seat (Deliver number) calm on.prefix on.seated on.timely under.sent under.reached young
 
+  -- the rows are a prefix
+  abbrev rows_prefix : IsPrefixOf journal rows
+  rows_prefix = at_row.here few_law logs_law views_law rosters_law next_law newest_law found_law no_law words scenario journal rows seat (Deliver number) calm on.prefix on.seated on.timely under.sent under.reached young
+
   before : AreInTime s rows
   before = at_row.before few_law logs_law views_law rosters_law next_law newest_law found_law no_law words scenario journal rows seat (Deliver number) calm on.prefix on.seated on.timely under.sent under.reached young
-
-  named : (name : Draw) → IsThere all rows name → IsNamedGroup scenario journal name
-  named = at_row.named few_law logs_law views_law rosters_law next_law newest_law found_law no_law words scenario journal rows seat (Deliver number) calm on.prefix on.seated on.timely under.sent under.reached young
-
-  named_quiet : (name : Draw) → IsThere all quiet name → IsNamedGroup scenario journal name
-  named_quiet = named_there found_law words scenario journal quiet calm under.rests.prefix
 
   abbrev sent_after : AreSent words scenario journal then
   sent_after = at_row.sent_after few_law logs_law views_law rosters_law next_law newest_law found_law no_law words scenario journal rows seat (Deliver number) calm on.prefix on.seated on.timely under.sent under.reached young
@@ -126,7 +124,7 @@ module _ (all_bounded : ValidScenariosAreBounded) (few_law : SlotsAreLeft) (logs
   -- one that runs leads its group alone, with only work in flight
   lead_at : (name : Draw) (node : ℕ) (r : ReplicaState) → view_at all rows name node ≡ Some r → r.running ≡ true → LeadsAlone all rows name node r
   lead_at name node r e runs =
-      let g = named name (node, r, e) in
+      let g = named_there found_law words scenario journal rows calm rows_prefix name (node, r, e) in
       let t = under.sent g.0 g.1 in
       subst (λ n. LeadsAlone all rows n node r) g.2 (alone_law.alone _ _ _ words all rows g.0 t.course node r t.led (ap (λ n. view_at all rows n node) g.2 ∙ e) runs).0
 
@@ -149,7 +147,7 @@ module _ (all_bounded : ValidScenariosAreBounded) (few_law : SlotsAreLeft) (logs
     seated = on.seated;
     timely = on.timely;
     under = (under.stage, under.untouched.stands);
-    groups = λ name node r e. guide_of name (named name (node, r, e));
+    groups = λ name node r e. guide_of name (named_there found_law words scenario journal rows calm rows_prefix name (node, r, e));
     states = λ n mail group slot state sets e at body.
         (let same : n ≡ number = cc in
         let of : group_of_mail mail.body ≡ Some group = ap group_of_mail body in
@@ -168,10 +166,10 @@ module _ (all_bounded : ValidScenariosAreBounded) (few_law : SlotsAreLeft) (logs
 
   -- what is delivered meets what an order needs; and children were nowhere
   guided_row : IsGuidedRow words scenario rows seat number
-  guided_row = record { seated = on.seated; timely = on.timely; meets = meets_law words scenario rows seat number orders_row; groups = λ name node r e. guide_of name (named name (node, r, e)) }
+  guided_row = record { seated = on.seated; timely = on.timely; meets = meets_law words scenario rows seat number orders_row; groups = λ name node r e. guide_of name (named_there found_law words scenario journal rows calm rows_prefix name (node, r, e)) }
 
   working : IsWorkingRow words scenario first journal quiet rows o.line o.task seat number
-  working = record { calm = calm; under = under; goes = on; guided = guided_row; named = λ name who r e. named name (who, r, e); of = o.is_task; work = o.work }
+  working = record { calm = calm; under = under; goes = on; guided = guided_row; named = λ name who r e. named_there found_law words scenario journal rows calm rows_prefix name (who, r, e); of = o.is_task; work = o.work }
 
   finds : FindsOrder words all rows seat (Deliver number)
   finds =
@@ -247,21 +245,12 @@ module _ (all_bounded : ValidScenariosAreBounded) (few_law : SlotsAreLeft) (logs
 
   -- ---- the order's result
 
-  named_after : (name : Draw) → IsThere all then name → IsNamedGroup scenario journal name
-  named_after = named_there found_law words scenario journal then calm on.prefix
-
-  lead_after : (name : Draw) (node : ℕ) (r : ReplicaState) → view_at all then name node ≡ Some r → r.running ≡ true → LeadsAlone all then name node r
-  lead_after name node r e runs =
-      let g = named_after name (node, r, e) in
-      let t = sent_after g.0 g.1 in
-      subst (λ n. LeadsAlone all then n node r) g.2 (alone_law.alone _ _ _ words all then g.0 t.course node r t.led (ap (λ n. view_at all then n node) g.2 ∙ e) runs).0
-
   leaders : AreLeaders o.line.number all rows then
   leaders = record {
     flights = λ name node r e. Each-weaker (λ (flight : Flight Command). Does o.task name flight.value) (λ (flight : Flight Command). HasNumber o.line.number flight.value) (λ flight d. subst (λ n. HasNumber n flight.value) o.is_task.number d.1) r.leader.flights (o.work.replicas name node r e).flights;
     locks = λ name node r e. subst (λ n. LockNumber n r.group.core.lock) o.is_task.number (o.work.replicas name node r e).state.1;
     entries = λ name node r e runs flight among. Each-among (λ (f : Flight Command). IsTrueEntry r.me r.group f.value) r.leader.flights flight (entries_law words scenario first journal quiet rows name node r under.stage (leads_since name node r e runs)) among;
-    alone = lead_after;
+    alone = lead_alone found_law words scenario journal then calm on.prefix alone_law sent_after;
   }
 
   refusal_after : IsRefusalSent (mails then) next_stage.0
@@ -301,7 +290,7 @@ module _ (all_bounded : ValidScenariosAreBounded) (few_law : SlotsAreLeft) (logs
     work = work_law.keeps words scenario rows seat number o.task guided_row o.work;
     created = created_law.keeps words scenario first journal quiet rows o.line o.task seat number working o.created;
     clients = λ other client is was. (let h = o.clients other client is was in (other_stays all rows seat other on.seated is (Deliver number) client (nodes client) h.0, started_still rows row other.who refl ∙ h.1));
-    known = known_after words scenario journal quiet rows seat number next_stage.0 on.seated on.timely unanswered named_quiet next_stage.1 o.known;
+    known = known_after words scenario journal quiet rows seat number next_stage.0 on.seated on.timely unanswered (named_there found_law words scenario journal quiet calm under.rests.prefix) next_stage.1 o.known;
     home = errands_law words scenario journal quiet rows row next_stage.0 calm under.rests.prefix on.prefix next_stage.1.stands hinted_after o.home;
     waits = waits_law.goes_on words scenario journal rows seat number calm on sent_after o.waits;
     names = names_law.goes_on words scenario first journal quiet rows seat (Deliver number) o.task calm under.rests on.prefix (created_law.keeps words scenario first journal quiet rows o.line o.task seat number working o.created) o.names;
@@ -316,7 +305,7 @@ module _ (all_bounded : ValidScenariosAreBounded) (few_law : SlotsAreLeft) (logs
   -- a replica that a player has is one of a group of the journal
   alone : AllLeadAlone all rows
   alone r a runs =
-      let prefix = at_row.here few_law logs_law views_law rosters_law next_law newest_law found_law no_law words scenario journal rows seat (Deliver number) calm on.prefix on.seated on.timely under.sent under.reached young in
+      let prefix = rows_prefix in
       let f = found_law words scenario journal rows calm prefix in
       let p = place_of all_bounded once_law agree_law words scenario rows calm.valid f.lawful f.homes r a in
       (p.0, lead_at (name_of r) p.0 r p.1 runs)

@@ -1,32 +1,32 @@
 -- An order given in a quiet prefix begins all that holds while it is under way.
-use Rattle.std.proofs.Common.{◌≡◌, ◌⊎◌, ◌≤◌, ℕ, true, false, List, [], ◌∷◌, Some, inl, inr, refl, sym, ◌∙◌, ap, subst, arith}
-use Rattle.std.proofs.lemmas.Bool.{cases_Bool}
+use Rattle.std.proofs.Common.{◌≡◌, ◌⊎◌, ◌≤◌, ℕ, true, false, List, [], ◌∷◌, Some, inl, inr, refl, sym, ◌∙◌, ap, arith}
 use Rattle.sc_base.specs.Definitions.{Among, Each}
 use Rattle.sc_node_table.specs.Values.{Draw, Base, OrderLine, Mail, Seat, Row}
 use Rattle.sc_actor.specs.declared.rows.Event.TheVariants.{Told}
 use Rattle.sc_actor.specs.Definitions.{System, row_of, mails}
 use Rattle.sc_live_orderly.specs.Definitions.{is_born, is_told, AreInTime}
-use Rattle.sc_live_orderly.proofs.Lemmas.{count_push, in_time_before, in_time_tidy, quiet-empty}
+use Rattle.sc_live_orderly.proofs.Lemmas.{count_push, in_time_before}
 use Rattle.sc_scenario.specs.scenario.Definitions.{ValidScenariosAreBounded}
 use Rattle.sc_scenario.specs.declared.scenario.scenarios.Scenario.{Scenario}
 use Rattle.sc_node_table.specs.Definitions.{ReplicaState, next, last_slot}
 use Rattle.sc_meaning.specs.sound.Definitions.{groups_at, Player, player_table, births, as_nodes}
-use Rattle.sc_live_steps.specs.following.Definitions.{marks_of}
 use Rattle.sc_live_steps.specs.calm.Definitions.{players, FindsCalm, IsAtRest, Rows}
 use Rattle.sc_live_steps.specs.orders.Definitions.{Stage, Still}
 use Rattle.sc_live_journals.specs.rows.Definitions.{view_at, marks_at, IsSeat, with_event}
 use Rattle.sc_live_journals.specs.mail.Definitions.{SlotsAreLeft}
-use Rattle.sc_live_journals.specs.logs.Definitions.{IsGroupOf, ViewsAreReplicas, SlotsHaveRosters, logged_sets}
+use Rattle.sc_live_journals.specs.logs.Definitions.{ViewsAreReplicas, SlotsHaveRosters, logged_sets}
 use Rattle.sc_live_answers.specs.Definitions.{ReplicasRunLogs, IsNamedGuide, IsReachedSo, NewestStay, IsOrdersRow, OrdersRowsFind, IsQuietWhileYoung, IsSentStep, NextRowsAreSent, SentReplicas, over_at, slot_leaders_at, NextRowsRise, IsRisingOn, IsRoundSince, OrdersKeepRounds, PrefixesAreFound, IsFoundPrefix, NoMailForStrangers, GoesToNode, OrderErrandsGoToNodes, NodeErrandsReachPlayers, IsCalmJournal, IsPrefixOf, AreSent, IsNamedGroup, RestsAt, IsUnder, IsYoungAt, GivenOrdersFindCalm, ViewsAgree, ChildrenAreCreated, YoungGroupsStay, TrueOrdersBegin, EndingGroupsBegin, NamesStayFew, NoneWaits, IsHinted, HintedOrdersBegin, SettledOrdersBegin, AreSeen, OrdersBeginWork, WorkStandsAlone, IsOrderedSince, OrdersBeginOrdered, IsGiven}
-use Rattle.sc_live_journals.specs.scenes.Definitions.{IsThere, IsNowhere, AreUntouched, IsGivenInQuiet, FreshGroupsStay, FindsOrder, FoundOrdersStep, StageAfter, LeadsAlone}
+use Rattle.sc_live_journals.specs.scenes.Definitions.{IsNowhere, AreUntouched, IsGivenInQuiet, FreshGroupsStay, FindsOrder, FoundOrdersStep, StageAfter}
 use Rattle.sc_live_journals.specs.charts.Definitions.{chart_at}
 use Rattle.sc_live_answers.proofs.GuidedGroups as at_row
-use Rattle.sc_live_answers.proofs.GuidedGroups.{named_there, reached_even}
+use Rattle.sc_live_answers.proofs.GuidedGroups.{named_there, reached_even, lead_alone}
 use Rattle.sc_live_answers.proofs.ClientsUnderOrders.{started_still, told_stays}
 use Rattle.sc_live_answers.proofs.SentMailGroups.{known_told}
 use Rattle.sc_group_table.specs.policy.Definitions.{is_reported as is_told_order}
 use Rattle.sc_live_answers.proofs.HeldOrdersAtStart.{given_allowed, given_rows, refusal_at_start, held_at_start}
 use Rattle.sc_live_answers.proofs.WellLedLeaders.{well_led_lead_alone}
+use Rattle.sc_live_answers.proofs.JournalGroups.{calm_group, calm_slots}
+use Rattle.sc_live_answers.proofs.RestAfterOrders.{none_pending}
 
 module _ (all_bounded : ValidScenariosAreBounded) (few_law : SlotsAreLeft) (logs_law : ReplicasRunLogs) (views_law : ViewsAreReplicas) (rosters_law : SlotsHaveRosters) (next_law : NextRowsAreSent) (newest_law : NewestStay) (found_law : PrefixesAreFound) (no_law : NoMailForStrangers)
     (agree_law : ViewsAgree) (plain_law : SentReplicas) (finds_law : OrdersRowsFind) (fresh_law : FreshGroupsStay) (young_law : YoungGroupsStay) (true_law : TrueOrdersBegin) (settled_law : SettledOrdersBegin) (hinted_law : HintedOrdersBegin) (work_law : OrdersBeginWork) (created_law : ChildrenAreCreated) (rise_law : NextRowsRise) (rounds_law : OrdersKeepRounds) (stands_law : WorkStandsAlone) (calm_law : GivenOrdersFindCalm) (errands_law : OrderErrandsGoToNodes) (actors_law : NodeErrandsReachPlayers) (ending_groups_law : EndingGroupsBegin) (waits_law : NoneWaits) (names_law : NamesStayFew) (step_law : FoundOrdersStep)
@@ -50,30 +50,17 @@ module _ (all_bounded : ValidScenariosAreBounded) (few_law : SlotsAreLeft) (logs
   strangers : (name : Draw) (who : ℕ) → is_born s who ≡ false → marks_at s quiet name who ≡ []
   strangers = no_law.strangers words scenario journal quiet calm rests.prefix rests.sent
 
-  -- nothing is under way
-  none : (name : Draw) (who : ℕ) → marks_at s quiet name who ≡ []
-  none name who = elim (cases_Bool (is_born s who)) [
-    | inl t ↦ ap (marks_of name) (quiet-empty s quiet who (in_time_tidy s quiet before) t rests.calm)
-    | inr f ↦ strangers name who f
-  ]
-
   young : (base : Base) → Among base (groups_at as_nodes scenario.groups journal) → IsQuietWhileYoung words all quiet base
-  young base among who member absent = none base.core.id who
-
-  group : (base : Base) → Among base (groups_at as_nodes scenario.groups journal) → IsGroupOf as_nodes words scenario journal base
-  group base among = record { open_slots = refl; valid = calm.valid; lawful = calm.lawful; stands = among }
+  young base among who member absent = none_pending no_law words scenario first journal quiet calm rests base.core.id who
 
   abbrev reached : (base : Base) (among : Among base (groups_at as_nodes scenario.groups journal)) → IsReachedSo all quiet base (rests.sent base among).course
-  reached base among = reached_even rosters_law logs_law views_law words scenario journal quiet rests.prefix.more base (group base among) rests.prefix.is (rests.sent base among) (none base.core.id)
+  reached base among = reached_even rosters_law logs_law views_law words scenario journal quiet rests.prefix.more base (calm_group words scenario journal calm base among) rests.prefix.is (rests.sent base among) (none_pending no_law words scenario first journal quiet calm rests base.core.id)
 
   guide_of : (name : Draw) → IsNamedGroup scenario journal name → IsNamedGuide words all quiet seat (Told line) name
   guide_of = at_row.guide_of few_law logs_law views_law rosters_law next_law newest_law found_law no_law words scenario journal quiet seat (Told line) calm prefix seated timely rests.sent reached young
 
   abbrev sent_after : AreSent words scenario journal then
   sent_after = at_row.sent_after few_law logs_law views_law rosters_law next_law newest_law found_law no_law words scenario journal quiet seat (Told line) calm prefix seated timely rests.sent reached young
-
-  named : (name : Draw) → IsThere all quiet name → IsNamedGroup scenario journal name
-  named = named_there found_law words scenario journal quiet calm rests.prefix
 
   seen : AreSeen scenario quiet
   seen name node = agree_law.nodes scenario quiet name node (all_bounded scenario calm.valid) (found_law words scenario journal quiet calm rests.prefix).homes
@@ -83,11 +70,11 @@ module _ (all_bounded : ValidScenariosAreBounded) (few_law : SlotsAreLeft) (logs
   at_rest name who r e = rests.is.quiet.at_rest name who r (sym (seen name who) ∙ e)
 
   room : (name : Draw) (who : ℕ) (r : ReplicaState) → view_at all quiet name who ≡ Some r → next r ≤ last_slot
-  room name who r e = (at_row.few few_law logs_law views_law rosters_law next_law newest_law found_law no_law words scenario journal quiet seat (Told line) calm prefix seated timely rests.sent reached young (named name (who, r, e)).0 quiet rests.prefix.more who r rests.prefix.is
-      (ap (λ n. view_at all quiet n who) (named name (who, r, e)).2 ∙ e)).0
+  room name who r e = (calm_slots words scenario journal calm few_law (named_there found_law words scenario journal quiet calm rests.prefix name (who, r, e)).0 quiet rests.prefix.more who r rests.prefix.is
+      (ap (λ n. view_at all quiet n who) (named_there found_law words scenario journal quiet calm rests.prefix name (who, r, e)).2 ∙ e)).0
 
   plain : (name : Draw) (who : ℕ) (r : ReplicaState) → view_at all quiet name who ≡ Some r → r.leader.reports ≡ []
-  plain name who r e = (let g = named name (who, r, e) in plain_law.plain _ _ _ words all quiet g.0 (rests.sent g.0 g.1) who r (ap (λ n. view_at all quiet n who) g.2 ∙ e))
+  plain name who r e = (let g = named_there found_law words scenario journal quiet calm rests.prefix name (who, r, e) in plain_law.plain _ _ _ words all quiet g.0 (rests.sent g.0 g.1) who r (ap (λ n. view_at all quiet n who) g.2 ∙ e))
 
   orders_row : IsOrdersRow words scenario quiet seat (Told line)
   orders_row = record {
@@ -95,7 +82,7 @@ module _ (all_bounded : ValidScenariosAreBounded) (few_law : SlotsAreLeft) (logs
     seated = seated;
     timely = timely;
     under = (Still, rests.still);
-    groups = λ name node r e. guide_of name (named name (node, r, e));
+    groups = λ name node r e. guide_of name (named_there found_law words scenario journal quiet calm rests.prefix name (node, r, e));
     states = λ n mail group_ slot state sets e at body. cc;
     unsettled = λ n mail group_ node r e taking here. cc;
     requests = λ n mail group_ client seq op e at body. cc;
@@ -144,19 +131,13 @@ module _ (all_bounded : ValidScenariosAreBounded) (few_law : SlotsAreLeft) (logs
   round_after : (base : Base) (among : Among base (groups_at as_nodes scenario.groups journal)) → IsRoundSince (rests.sent base among).course begun.0 base.core.id (sent_after base among).course
   unfolding steps
   round_after base among =
-      rounds_law.told words (logged_sets as_nodes base journal) (over_at as_nodes base journal) (slot_leaders_at as_nodes scenario base journal) scenario quiet seat line base begun.0 timely seated (rests.sent base among) (steps base among) (none base.core.id)
+      rounds_law.told words (logged_sets as_nodes base journal) (over_at as_nodes base journal) (slot_leaders_at as_nodes scenario base journal) scenario quiet seat line base begun.0 timely seated (rests.sent base among) (steps base among) (none_pending no_law words scenario first journal quiet calm rests base.core.id)
 
   hinted_after : IsHinted scenario quiet then begun.0
   hinted_after = hinted_law words scenario quiet seat line begun.0 told_so begun.1.stands
 
   found : IsFoundPrefix words scenario journal quiet
   found = found_law words scenario journal quiet calm rests.prefix
-
-  lead_after : (name : Draw) (node : ℕ) (r : ReplicaState) → view_at all then name node ≡ Some r → r.running ≡ true → LeadsAlone all then name node r
-  lead_after name node r e runs =
-      let g = named_there found_law words scenario journal then calm prefix name (node, r, e) in
-      let t = sent_after g.0 g.1 in
-      subst (λ n. LeadsAlone all then n node r) g.2 (well_led_lead_alone.alone _ _ _ words all then g.0 t.course node r t.led (ap (λ n. view_at all then n node) g.2 ∙ e) runs).0
 
   -- the order is one for a node of the scenario
   allowed : ((1 ≤ seat.who) × (seat.who ≤ scenario.nodes)) × (is_told_order line.number ≡ true)
@@ -188,13 +169,13 @@ module _ (all_bounded : ValidScenariosAreBounded) (few_law : SlotsAreLeft) (logs
         only = only_begins;
         told = allowed.1;
         refusal = refusal_at_start all quiet seat line (step_law words all quiet seat (Told line) seated timely finds Still rests.still) begun.0 begun.1.stands (mails then);
-        result = held_at_start words scenario quiet seat line seated allowed.0 (λ name who r e. (at_rest name who r e, λ runs. plain name who r e, room name who r e)) lead_after;
+        result = held_at_start words scenario quiet seat line seated allowed.0 (λ name who r e. (at_rest name who r e, λ runs. plain name who r e, room name who r e)) (lead_alone found_law words scenario journal then calm prefix well_led_lead_alone sent_after);
         task = work.0;
         is_task = work.1;
         work = work.2;
         created = created_law.begins words scenario journal quiet seat line work.0 seated timely work.1;
         clients = λ other client is was. (told_stays all quiet seat other seated is line client was, started_still quiet row other.who refl);
-        known = known_told words scenario journal quiet seat line begun.0 seated timely rests.calm named begun.1;
+        known = known_told words scenario journal quiet seat line begun.0 seated timely rests.calm (named_there found_law words scenario journal quiet calm rests.prefix) begun.1;
         home = errands_law words scenario journal quiet quiet row begun.0 calm rests.prefix prefix begun.1.stands hinted_after home;
         waits = waits_law.begins words scenario first journal quiet seat line calm rests seated prefix sent_after;
         names = names_law.goes_on words scenario first journal quiet quiet seat (Told line) work.0 calm rests prefix (created_law.begins words scenario journal quiet seat line work.0 seated timely work.1) (names_law.begins all quiet work.0);

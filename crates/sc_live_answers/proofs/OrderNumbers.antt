@@ -1,5 +1,5 @@
 -- Each command of an order, and each lock of a coordinator, keeps the order's number while the order is under way.
-use Rattle.std.proofs.Common.{◌≡◌, ℕ, Bool, Option, Some, None}
+use Rattle.std.proofs.Common.{◌≡◌, ℕ, Option, Some, None}
 use Rattle.std.proofs.lemmas.Bool.{cond_both}
 use Rattle.sc_base.specs.Definitions.{same_draw}
 use Rattle.sc_node_table.specs.Values.{Draw, Body, Command, Noop, Call, Join, Leave, Split, Begin, Prepared, RecordVote, GiveUp, Finish, Watched, RecordWatch, Lock, Free, Coordinating, Promised, Watching, Effect, Heard, No, Outcome, Past, Vote, Frozen}

@@ -1,10 +1,10 @@
 -- An entry of an order ends it with a result, or the group goes on to ask another in the order's transaction.
-use Rattle.std.proofs.Common.{◌≡◌, ◌⊎◌, ℕ, ◌&&◌, not, Bool, true, false, true≢false, cond, Option, Some, None, inl, inr, refl, sym, ◌∙◌, ap, subst}
+use Rattle.std.proofs.Common.{◌≡◌, ◌⊎◌, ℕ, ◌&&◌, not, Bool, true, false, cond, Option, Some, None, inl, inr, refl, sym, ◌∙◌, ap, subst}
 use Rattle.std.specs.Option.{option_map}
 use Rattle.std.proofs.lemmas.Bool.{cond-false, cond_both}
 use Rattle.sc_base.specs.Definitions.{holds, same_draw}
 use Rattle.sc_base.proofs.Lemmas.{same_name}
-use Rattle.sc_node_table.specs.Values.{Draw, Body, Command, Noop, Call, Join, Leave, Split, Begin, Prepared, RecordVote, GiveUp, Finish, Watched, RecordWatch, Core, Lock, Free, Coordinating, Promised, Watching, Effect, Route, OrderResult, OrderRefusal, Heard, Frozen, No, Outcome, Abort, Merged, Moved, Migrated, Divided}
+use Rattle.sc_node_table.specs.Values.{Draw, Body, Command, Noop, Call, Join, Leave, Split, Begin, RecordVote, RecordWatch, Core, Lock, Free, Coordinating, Promised, Watching, Effect, Route, OrderResult, OrderRefusal, Heard, Frozen, No, Outcome, Abort, Merged, Moved, Migrated, Divided}
 use Rattle.sc_words.specs.declared.commands.orders.OrderResult.TheVariants.{Committed, Aborted}
 use Rattle.sc_words.specs.declared.commands.votes.Past.TheVariants as Cast
 use Rattle.sc_words.specs.commands.Definitions.{is_alone, is_changed, decided_in, result_of}
@@ -15,9 +15,11 @@ use Rattle.sc_group_table.specs.machine.Definitions.{Group, applied, ordered, sp
 use Rattle.sc_node_table.specs.Definitions.{before_of, before_in, begun_result, outcome_result}
 use Rattle.sc_live_steps.specs.orders.Definitions.{Turn, First, Lone, Next, is_watch, Work, Opens, Records, Asking, IsOrder, work_by, bond_of, bond_in, turn_of}
 use Rattle.sc_live_steps.proofs.OrdersProofs.Lemmas.{orders-leave, records-leave}
+use Rattle.sc_live_steps.proofs.OrdersProofs.ErrandTables.{watch_is as asks_by}
 use Rattle.sc_live_journals.specs.scenes.Definitions.{StaysIn}
 use Rattle.sc_live_answers.specs.Definitions.{IsTrueEntry, HasNumber, LockNumber}
 use Rattle.sc_live_answers.proofs.ReportedMail.{Ends}
+use Rattle.sc_live_answers.proofs.TransactionTurns.{first_turn}
 
 -- the result is not that a transaction was aborted
 abbrev pub IsNoAbort : OrderResult → Type 0
@@ -110,15 +112,6 @@ before_number n core tx asked turn Free k b = absurd cc
 before_number n core tx asked turn (Promised locked offer) k b = absurd cc
 before_number n core tx asked turn (Watching locked watch) k b = absurd cc
 
-asks_by : (core : Core) (body : Body) (heard : Option Heard) → asks_watcher body heard ≡ is_watch (turn_of core body heard)
-asks_by core At.Merge None = refl
-asks_by core At.Merge (Some heard) = refl
-asks_by core (At.Repart at) None = refl
-asks_by core (At.Repart at) (Some heard) = refl
-asks_by core (At.Migrate node) None = refl
-asks_by core (At.Migrate node) (Some heard) = refl
-asks_by core (At.Split at child) heard = refl
-
 -- a No of the participant decides
 no_decides : (group : Group) (why : No) (by : ℕ) (tx asked : Draw) (turn : Turn) (lock : Lock) → bond_in lock group.core ≡ Asking tx asked turn → is_watch turn ≡ false → decided_in (vote_recorded lock group tx (Says.No why) by).1 ≡ Some Abort
 no_decides group why by tx asked turn Free b first = absurd cc
@@ -129,11 +122,6 @@ no_decides group why by tx asked turn (Coordinating locked body order heard) b f
     let asks : turn_of group.core body heard ≡ turn = cc in
     ap (λ x. decided_in (cond {A = Group × Effect} x (cond (asks_watcher body heard) (group, NoEffect tx) (participant_answered (Says.No why) body group tx order by)) (group, NoEffect tx)).1) (same_name locked tx own)
     ∙ ap (λ x. decided_in (cond {A = Group × Effect} x (group, NoEffect tx) (participant_answered (Says.No why) body group tx order by)).1) (asks_by group.core body heard ∙ (ap is_watch asks ∙ first))
-
-first_turn : (turn : Turn) → is_watch turn ≡ false → turn ≡ First
-first_turn First e = refl
-first_turn Lone e = absurd (true≢false e)
-first_turn (Next part host) e = absurd (true≢false e)
 
 -- what is the work of an order is no other work
 order_same : (one work : Work) → Some one ≡ Some work → IsOrder work → IsOrder one
@@ -180,12 +168,7 @@ module _ (n me : ℕ) (group : Group) where
   order_ends (Begin tx body order) work e is number new t = begin_ends tx body order number (new tx (let same : work ≡ Opens tx = cc in same)) t
   order_ends Noop work e is number new t = absurd cc
   order_ends (Call client seq op) work e is number new t = absurd cc
-  order_ends (Prepared tx offer) work e is number new t = absurd (order_same _ work e is)
-  order_ends (RecordVote tx vote by) work e is number new t = absurd (order_same _ work e is)
-  order_ends (GiveUp tx) work e is number new t = absurd (order_same _ work e is)
-  order_ends (Finish tx outcome) work e is number new t = absurd (order_same _ work e is)
-  order_ends (Watched tx watch) work e is number new t = absurd (order_same _ work e is)
-  order_ends (RecordWatch tx vote by) work e is number new t = absurd (order_same _ work e is)
+  order_ends _ work e is number new t = absurd (order_same _ work e is)
 
   module _ (tx asked : Draw) (turn : Turn) (bound : bond_of group.core ≡ Asking tx asked turn) (number : LockNumber n group.core.lock) where
     number_is : (before_of group.core).order ≡ n
@@ -213,12 +196,4 @@ module _ (n me : ℕ) (group : Group) where
     record_ends (RecordWatch t Cast.Ended by) watch agreed by_ e first true_so =
         (let no : agreed ≡ false = cc in inl (outcome_result true_so.1.0, inr (number_is, ap (option_map outcome_result) true_so.1.1), λ _. no))
     record_ends Noop watch agreed by_ e first true_so = absurd cc
-    record_ends (Call client seq op) watch agreed by_ e first true_so = absurd cc
-    record_ends (Join node order) watch agreed by_ e first true_so = absurd cc
-    record_ends (Leave node order) watch agreed by_ e first true_so = absurd cc
-    record_ends (Split at child order) watch agreed by_ e first true_so = absurd cc
-    record_ends (Begin t body order) watch agreed by_ e first true_so = absurd cc
-    record_ends (Prepared t offer) watch agreed by_ e first true_so = absurd cc
-    record_ends (GiveUp t) watch agreed by_ e first true_so = absurd cc
-    record_ends (Finish t outcome) watch agreed by_ e first true_so = absurd cc
-    record_ends (Watched t w) watch agreed by_ e first true_so = absurd cc
+    record_ends _ watch agreed by_ e first true_so = absurd cc

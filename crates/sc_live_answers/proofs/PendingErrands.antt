@@ -1,6 +1,7 @@
 -- Of which stage an errand is that is delivered.
 use Rattle.std.proofs.Common.{◌≡◌, ℕ, Bool, List, [], ◌∷◌, ◌++◌, Some, inl, inr, refl, sym, ◌∙◌, ap, subst}
 use Rattle.std.proofs.lemmas.Bool.{cond-true}
+use Rattle.std.proofs.lemmas.Option.{same_Some}
 use Rattle.sc_base.specs.Definitions.{Among, same_draw}
 use Rattle.sc_node_table.specs.Values.{Draw, Mail, Seat, Deliver}
 use Rattle.sc_base.proofs.Lemmas.{same_name}
@@ -21,21 +22,18 @@ own_errand : (entry : Draw × Errand) (more : List Errand) → Among entry.1 (er
 own_errand entry more = among-left entry.1 (errand_for entry.0 (Some entry)) more (subst (Among entry.1) (sym (cond-true (same_draw entry.0 entry.0) (entry.1 ∷ []) [] (same_name entry.0 entry.0 refl))) (inl refl))
 
 module _ (words : ℕ → ℕ → ℕ × ℕ) (births : List (Seat Player)) (rows : Rows) (seat : Seat Player) (number : ℕ) (mail : Mail) (timely : AreInTime (players words births) (with_event rows seat (Deliver number))) (sent : numbered (mails rows) number ≡ Some mail) where
-  some_mail : (one other : Mail) → Some one ≡ Some other → one ≡ other
-  some_mail one other e = cc
-
   -- a mail that is delivered goes to who takes it, and its errand is under way for its group
   pub goes_to : mail.to ≡ seat.who
   goes_to =
       let calm = (last_in_time (players words births) rows (row_of player_table seat rows (Deliver number)) timely).0 in
       let one = takes_one words births rows seat.who number (calm_is words births rows seat (Deliver number) calm) in
-      ap (λ (m : Mail). m.to) (sym (some_mail one.mail mail (sym one.sent ∙ sent))) ∙ one.to_is
+      ap (λ (m : Mail). m.to) (sym (same_Some one.mail mail (sym one.sent ∙ sent))) ∙ one.to_is
 
   pub is_pending : (entry : Draw × Errand) → errand_by mail.from mail.to mail.body ≡ Some entry → Among entry.1 ((scene_at births rows).at entry.0).errands
   is_pending entry errand =
       let calm = (last_in_time (players words births) rows (row_of player_table seat rows (Deliver number)) timely).0 in
       let one = takes_one words births rows seat.who number (calm_is words births rows seat (Deliver number) calm) in
-      let same = some_mail one.mail mail (sym one.sent ∙ sent) in
+      let same = same_Some one.mail mail (sym one.sent ∙ sent) in
       let is : errand_by one.mail.from one.mail.to one.mail.body ≡ Some entry = ap (λ (m : Mail). errand_by m.from m.to m.body) same ∙ errand in
       let has : errands_for entry.0 (left_after rows) ≡ errands_for entry.0 one.takes.before ++ (errand_for entry.0 (Some entry) ++ errands_for entry.0 one.takes.behind) =
       ap (errands_for entry.0) one.takes.had_is ∙ (errands-append entry.0 one.takes.before (one.mail ∷ one.takes.behind)

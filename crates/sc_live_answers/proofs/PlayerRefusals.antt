@@ -8,8 +8,8 @@ use Rattle.sc_words.proofs.PaxosProofs.Lemmas.{Each-weaker}
 use Rattle.sc_law_walks.proofs.Lemmas.{either_way}
 use Rattle.sc_meaning.specs.sound.Definitions.{Player, player_table}
 use Rattle.sc_live_journals.proofs.MailProofs.Lemmas.{IsRequestOf, clients_ask}
-use Rattle.sc_live_answers.proofs.RefusalMail.{IsSaid, AreSaid}
-use Rattle.sc_live_answers.proofs.RefusalsInRows.{Refuses, mailed_keeps, order_keeps, made_keeps}
+use Rattle.sc_live_answers.proofs.Refusals.{IsSaid, AreSaid, mailed_keeps, order_keeps, made_keeps}
+use Rattle.sc_live_journals.proofs.RowsProofs.OwnGroupMail.{Refuses}
 
 module _ (may : Draw → ℕ → Ballot → Type 0) where
   unknown_said : (from : ℕ) (body : MailBody) (node : NodeState) → AreSaid may (unknown from body node).1

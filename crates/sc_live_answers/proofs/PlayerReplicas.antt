@@ -19,6 +19,7 @@ use Rattle.sc_live_answers.proofs.Nodes.{node_replays}
 use Rattle.sc_live_answers.proofs.ChartSequence.{split_among}
 use Rattle.sc_paxos_law.proofs.Lemmas.{from_map}
 use Rattle.sc_live_answers.proofs.Frames.{found_once, nodes_numbered}
+use Rattle.sc_live_answers.proofs.AllReplicas.{from_seats}
 
 -- ---- a client stays a client
 
@@ -36,13 +37,6 @@ module _ (all_bounded : ValidScenariosAreBounded) (once_law : LawfulReplicasAreN
   abbrev seat_of : ℕ → Seat Player
   seat_of me = node_seat as_nodes scenario.groups scenario.policy me
 
-  from_seats : (seats : List (Seat Player)) (r : ReplicaState) → Among r (all_replicas seats rows) → (seat : Seat Player) × Among seat seats × Among r (chart_replicas (value player_table seat rows))
-  from_seats [] r a = absurd a
-  from_seats (seat ∷ seats) r a = elim (split_among (chart_replicas (value player_table seat rows)) (all_replicas seats rows) r a) [
-    | inl here ↦ (seat, inl refl, here)
-    | inr more ↦ (let f = from_seats seats r more in (f.0, inr f.1, f.2))
-  ]
-
   no_client : (r : ReplicaState) (bases : List Base) (seat : Seat Player) → Among seat (client_seats bases scenario.clients) → Among r (chart_replicas (value player_table seat rows)) → ⊥
   no_client r [] seat a here = absurd a
   no_client r (base ∷ bases) seat a here =
@@ -55,7 +49,7 @@ module _ (all_bounded : ValidScenariosAreBounded) (once_law : LawfulReplicasAreN
 
   pub place_of : (r : ReplicaState) → Among r (all_replicas (births as_nodes scenario) rows) → (me : ℕ) × (view_at (births as_nodes scenario) rows (name_of r) me ≡ Some r)
   place_of r a =
-      let f = from_seats (births as_nodes scenario) r a in
+      let f = from_seats rows (births as_nodes scenario) r a in
       elim (split_among (map seat_of (numbers_from 1 scenario.nodes)) (client_seats scenario.groups scenario.clients) f.0 f.1) [
         | inl node ↦ (
             let m = from_map seat_of (numbers_from 1 scenario.nodes) f.0 node in

@@ -2,12 +2,12 @@
 use Rattle.std.proofs.Common.{◌≡◌, ◌⊎◌, ℕ, Bool, true, false, List, [], ◌∷◌, cond, Option, Some, None, inl, inr, refl, sym, ◌∙◌, ap, subst}
 use Rattle.std.specs.Option.{option_map}
 use Rattle.std.specs.Prelude.{is_some}
-use Rattle.std.proofs.lemmas.Bool.{cond-true, cond-false}
+use Rattle.std.proofs.lemmas.Bool.{cond-false}
 use Rattle.sc_base.specs.Definitions.{Among}
 use Rattle.sc_node_table.specs.Values.{Draw, Base, AnswerBody, Mail, MailBody, Request, Answer, Install, Node, Client, Seat, Deliver, Go, Got}
 use Rattle.sc_actor.specs.Definitions.{mails, numbered, value}
 use Rattle.sc_live_orderly.specs.Definitions.{AreInTime}
-use Rattle.sc_node_table.specs.Definitions.{NodeState, replica_of, with_replica, with_new, with_born, with_children, group_of_mail, may_come, unknown, taken_by, routed, on_mail, ReplicaState, Executed, born_replica, mailed, slots_ahead}
+use Rattle.sc_node_table.specs.Definitions.{NodeState, replica_of, with_replica, with_new, with_born, with_children, group_of_mail, may_come, unknown, routed, on_mail, ReplicaState, Executed, born_replica, mailed, slots_ahead}
 use Rattle.sc_law_walks.proofs.Lemmas.{either_way}
 use Rattle.sc_meaning.specs.sound.Definitions.{Player, player_table}
 use Rattle.sc_live_steps.specs.calm.Definitions.{players, Rows}
@@ -16,6 +16,7 @@ use Rattle.sc_live_journals.specs.rows.Definitions.{view_at, IsSeat, with_event}
 use Rattle.sc_live_journals.proofs.RowsProofs.Lemmas.{names_stay, found_name, rows_replicas, view_was, new_is, child_me as born_me}
 use Rattle.sc_live_journals.specs.scenes.Definitions.{IsTaking}
 use Rattle.sc_live_journals.proofs.ScenesProofs.Lemmas.{client_leaves, got_nothing, unknown_apart, OneOf, all_children, now_is}
+use Rattle.sc_live_answers.proofs.TakenMail.{mail_taken}
 
 -- a child that is made has a replica then
 stays_there : (who : ℕ) (name : Draw) (x : ReplicaState) (children : List Base) (node : NodeState) → node.me ≡ who → replica_of name node.replicas ≡ Some x → (y : ReplicaState) × (replica_of name (with_children children node).replicas ≡ Some y)
@@ -80,11 +81,6 @@ module _ (words : ℕ → ℕ → ℕ × ℕ) (births : List (Seat Player)) (row
       before name = view_was births rows seat Go name born (Node node) is
 
       module _ (group : Draw) (t : IsTaking words births rows seat number mail group node) where
-        takes_by : (o : Option ReplicaState) → replica_of group node.replicas ≡ o → on_mail mail.from mail.body node ≡ taken_by o group mail.from mail.body node
-        takes_by o here =
-            cond-true (may_come mail.from mail.body) (routed (group_of_mail mail.body) mail.from mail.body node) (node, []) t.comes
-            ∙ (ap (λ g. routed g mail.from mail.body node) t.named ∙ ap (λ x. taken_by x group mail.from mail.body node) here)
-
         some_takes : (r : ReplicaState) → replica_of group node.replicas ≡ Some r → Takes mail
         some_takes r here =
             let made : Executed = mailed mail.from mail.body (r, []) in
@@ -101,17 +97,17 @@ module _ (words : ℕ → ℕ → ℕ × ℕ) (births : List (Seat Player)) (row
               is = row.is;
               others = λ name ne.
                   subst (λ (o : Option ReplicaState). OneOf name seat.who made.1 (view_at births (with_event rows seat (Deliver number)) name seat.who) o) (sym (before name))
-                  (subst (λ (o : Option ReplicaState). OneOf name seat.who made.1 o (replica_of name node.replicas)) (sym (now (with_children made.1 put, made.0.1) (takes_by (Some r) here) name))
+                  (subst (λ (o : Option ReplicaState). OneOf name seat.who made.1 o (replica_of name node.replicas)) (sym (now (with_children made.1 put, made.0.1) (mail_taken mail.from mail.body node group t.named t.comes (Some r) here) name))
                   (subst (λ (o : Option ReplicaState). OneOf name seat.who made.1 (replica_of name (with_children made.1 put).replicas) o) (put_others group name made.0.0 node.replicas (names_stay.mailed mail.from mail.body r ∙ own) ne)
                   (all_children seat.who name made.1 put t.me_is)));
-              made = λ kid among ne. (let there = child_there seat.who kid made.1 put t.me_is among in (there.0, now (with_children made.1 put, made.0.1) (takes_by (Some r) here) kid.core.id ∙ there.1));
+              made = λ kid among ne. (let there = child_there seat.who kid made.1 put t.me_is among in (there.0, now (with_children made.1 put, made.0.1) (mail_taken mail.from mail.body node group t.named t.comes (Some r) here) kid.core.id ∙ there.1));
             }
 
         others_stay : replica_of group node.replicas ≡ None → (name : Draw) → (name ≡ group → ⊥) → view_at births (with_event rows seat (Deliver number)) name seat.who ≡ view_at births rows name seat.who
-        others_stay here name ne = now (unknown mail.from mail.body node) (takes_by None here) name ∙ ((unknown_apart name group ne node mail.from mail.body t.named).0 ∙ sym (before name))
+        others_stay here name ne = now (unknown mail.from mail.body node) (mail_taken mail.from mail.body node group t.named t.comes None here) name ∙ ((unknown_apart name group ne node mail.from mail.body t.named).0 ∙ sym (before name))
 
         all_stay : replica_of group node.replicas ≡ None → (unknown mail.from mail.body node).0 ≡ node → AllStay
-        all_stay here e name = now (unknown mail.from mail.body node) (takes_by None here) name ∙ (ap (λ (n : NodeState). replica_of name n.replicas) e ∙ sym (before name))
+        all_stay here e name = now (unknown mail.from mail.body node) (mail_taken mail.from mail.body node group t.named t.comes None here) name ∙ (ap (λ (n : NodeState). replica_of name n.replicas) e ∙ sym (before name))
 
         none_takes : (b : MailBody) → mail.body ≡ b → replica_of group node.replicas ≡ None → RowKind mail
         none_takes (Install n slot state sets) e here =

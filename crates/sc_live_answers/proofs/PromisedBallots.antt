@@ -33,7 +33,7 @@ module _ (now after : Progress) (node : ℕ) (taken : Option Mark) (sent marks m
       subst (λ p. IsAtLeast p (pledged (now.promise node) (marks node))) (sym all)
       (pledged_rises (reached (after.next node) row.left) (pledged (now.promise node) (marks node)) (sent node) (subst (λ p. AreFit (reached (after.next node) row.left) p (sent node)) start fit))
 
-  others_rise : (who : ℕ) → (who ≡ node → ⊥) → IsAtLeast (pledged (after.promise who) (marks_after who)) (pledged (now.promise who) (marks who))
+  pub others_rise : (who : ℕ) → (who ≡ node → ⊥) → IsAtLeast (pledged (after.promise who) (marks_after who)) (pledged (now.promise who) (marks who))
   others_rise who ne =
       let all : pledged (after.promise who) (marks_after who) ≡ pledged (pledged (now.promise who) (marks who)) (sent who) =
       ap (pledged (after.promise who)) (row.others who ne) ∙ (ap (λ p. pledged p (marks who ++ sent who)) (row.promise who ne) ∙ pledged-append (now.promise who) (marks who) (sent who)) in

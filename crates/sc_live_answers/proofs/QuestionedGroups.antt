@@ -1,6 +1,7 @@
 -- A group that takes a question is as it was in the quiet; so what is known of an order goes on.
 use Rattle.std.proofs.Common.{◌≡◌, ℕ, Bool, eqb, true, false, true≢false, List, [], ◌∷◌, Option, Some, None, inl, inr, refl, sym, ◌∙◌, ap, subst}
 use Rattle.std.proofs.lemmas.Bool.{cases_Bool, eq-eqb, eqb-true}
+use Rattle.std.proofs.lemmas.Option.{same_Some}
 use Rattle.sc_base.specs.Definitions.{Among, Each}
 use Rattle.sc_node_table.specs.Values.{Draw, Seat, Deliver, Base, Mail}
 use Rattle.sc_actor.specs.Definitions.{numbers_of, row_of}
@@ -148,9 +149,6 @@ module _ (tells : ReplicasAreRecorded) (words : ℕ → ℕ → ℕ × ℕ) (sce
         now_here : view_at (births as_nodes scenario) next deal.asked seat.who ≡ Some r
         now_here = ap (view_at all next deal.asked) (sym here) ∙ has
 
-        some_is : (x y : ReplicaState) → Some x ≡ Some y → x ≡ y
-        some_is x y e = cc
-
         idle_there : view_at (births as_nodes scenario) next deal.asked seat.who ≡ view_at (births as_nodes scenario) rows deal.asked seat.who → Has
         idle_there e = absurd (no_idle (idle_was seat.who r (sym e ∙ now_here)))
 
@@ -181,7 +179,7 @@ module _ (tells : ReplicasAreRecorded) (words : ℕ → ℕ → ℕ × ℕ) (sce
             idle_there (misses words all rows seat number mail deal.asked at t own.0 none own.1).1
 
         born_now : Creates (births as_nodes scenario) rows seat (Deliver number) deal.asked → Has
-        born_now b = absurd (no_idle (ap works (some_is r (born_replica slots_ahead seat.who b.base) (sym now_here ∙ b.makes)) ∙ born_idle slots_ahead seat.who b.base))
+        born_now b = absurd (no_idle (ap works (same_Some r (born_replica slots_ahead seat.who b.base) (sym now_here ∙ b.makes)) ∙ born_idle slots_ahead seat.who b.base))
 
         by_fate : Fate words (births as_nodes scenario) rows seat number g.goes.seated g.goes.timely g.finds (stage, g.untouched.stands) deal.asked → Has
         by_fate (Same e) = idle_there e

@@ -1,7 +1,8 @@
 -- An order given in a quiet prefix asks nobody yet; and one that is to ask elsewhere learns whom.
-use Rattle.std.proofs.Common.{◌≡◌, ◌∷◌, Some, inl, inr, refl, sym, ◌∙◌, ap, subst}
+use Rattle.std.proofs.Common.{◌≡◌, ◌∷◌, inl, inr, refl, sym, ◌∙◌, ap, subst}
+use Rattle.std.proofs.lemmas.Option.{same_Some}
 use Rattle.sc_base.specs.Definitions.{Among}
-use Rattle.sc_node_table.specs.Values.{Draw, Deliver, Mail}
+use Rattle.sc_node_table.specs.Values.{Draw, Deliver}
 use Rattle.sc_actor.specs.declared.rows.Event.TheVariants.{Told}
 use Rattle.sc_actor.specs.Definitions.{row_of}
 use Rattle.sc_live_orderly.proofs.Lemmas.{last_in_time}
@@ -39,15 +40,12 @@ hinted_begin words scenario quiet seat line stage t stands = by stage stands
     by (SentOn deal) a = absurd (no_asking deal.tx deal.asked deal.turn (sym (unbound deal.coord) ∙ ap (λ (h : Here). h.bond) a.parties.0.0))
     by _ a = tt
 
-some_mail : (one other : Mail) → Some one ≡ Some other → one ≡ other
-some_mail one other e = cc
-
 -- So a coordinator that is to ask elsewhere learns whom.
 pub coordinators_hinted : CoordinatorsAreHinted
 coordinators_hinted words scenario first journal quiet rows seat number mail group node r stage tx coord hint t hinted body =
     let all = births as_nodes scenario in
     let one = takes_one words all rows seat.who number (calm_is words all rows seat (Deliver number) (last_in_time (players words all) rows (row_of player_table seat rows (Deliver number)) t.taking.timely).0) in
-    let same : one.mail ≡ mail = some_mail one.mail mail (sym one.sent ∙ t.taking.sent) in
+    let same : one.mail ≡ mail = same_Some one.mail mail (sym one.sent ∙ t.taking.sent) in
     let there : Among mail (left_after rows) = subst (λ m. Among m (left_after rows)) same (subst (Among one.mail) (sym one.takes.had_is) (among-right one.mail one.takes.before (one.mail ∷ one.takes.behind) (inl refl))) in
     let w = elsewhere_at (scene_at all rows) stage t.untouched.stands coord tx mail.to (errand_there coord (Elsewhere tx mail.to) mail (left_after rows) there (ap (errand_by mail.from mail.to) body)) in
     let h = (subst (IsHinted scenario quiet rows) w.is hinted) mail there tx coord hint body in

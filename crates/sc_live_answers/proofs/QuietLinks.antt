@@ -1,13 +1,12 @@
 -- The link of a group that stands in a quiet prefix is as a quiet journal asks it.
-use Rattle.std.proofs.Common.{◌≡◌, ℕ, ◌/◌, ◌%◌, ◌^◌, ◌<◌, true, false, List, [], ◌∷◌, Option, Some, None, refl, sym, ◌∙◌, ap, subst, arith}
-use Rattle.std.specs.Prelude.{IsTrue, ◌&&◌, is_none, is_some}
+use Rattle.std.proofs.Common.{◌≡◌, ◌^◌, ◌<◌, true, Option, Some, None, refl, sym, ◌∙◌, ap, subst, arith}
 use Rattle.std.specs.Option.{option_map}
 use Rattle.std.proofs.lemmas.Option.{none-some, same_Some}
-use Rattle.sc_base.specs.Definitions.{Among, Arc, IsArc, holds, end_of, pos_of, is_member}
+use Rattle.sc_base.specs.Definitions.{Among, Arc, IsArc, holds, end_of, is_member}
 use Rattle.sc_base.proofs.Lemmas.{draw_is}
-use Rattle.sc_node_table.specs.Values.{Base, Free, Route}
+use Rattle.sc_node_table.specs.Values.{Base}
 use Rattle.sc_words.specs.ideal.Definitions.{holds_key}
-use Rattle.sc_meaning.specs.entries.Definitions.{effective, effective_by, is_open, serves, IsPlaced, StoreWorld, named_group, is_named}
+use Rattle.sc_meaning.specs.entries.Definitions.{effective, effective_by, IsPlaced, StoreWorld, named_group, is_named}
 use Rattle.sc_meaning.specs.declared.entries.Cut.{Cut}
 use Rattle.sc_law_entries.specs.logs.Definitions.{Rows, AreItsLogs}
 use Rattle.sc_law_entries.proofs.LogsProofs.Lemmas.{find_base}
@@ -21,15 +20,10 @@ use Rattle.sc_live_answers.specs.Definitions.{over_at, replicas_at, FreeGroupsHa
 use Rattle.sc_live_answers.proofs.QuietGroupReplicas.{even, kept, place, states}
 use Rattle.sc_live_answers.proofs.QuietPrefixGroups.{found, most, ends, last_state}
 use Rattle.sc_live_answers.proofs.ReachableGroups.{last, has_replica, link_of}
-use Rattle.sc_live_answers.proofs.QuietRanges.{first_held}
+use Rattle.sc_live_answers.proofs.QuietGroupCuts.{key_at, key_there, first_held, serves_it}
+use Rattle.sc_live_answers.proofs.LeaderWork.{not_some as none_of}
 
 -- ---- a key at a position
-
-abbrev key_at : ℕ → List ℕ
-key_at p = p / 16777216 ∷ (p / 65536) % 256 ∷ (p / 256) % 256 ∷ p % 256 ∷ []
-
-key_there : (p : ℕ) → p < 2 ^ 32 → pos_of (key_at p) ≡ p
-key_there p low = omega arith
 
 module _ (scenario : Scenario) (prefix : Rows) (map : IsOneMap (world_at as_nodes scenario.groups prefix)) (logs : AreItsLogs as_nodes scenario.groups prefix) (apart : (one other : Base) → Among one (groups_at as_nodes scenario.groups prefix) → Among other (groups_at as_nodes scenario.groups prefix) → one.core.id ≡ other.core.id → one ≡ other)
     (free : AreAllFree scenario prefix) (arcs : (base : Base) → Among base (groups_at as_nodes scenario.groups prefix) → (decided_state as_nodes base prefix).core.gone ≡ None → IsArc (decided_state as_nodes base prefix).core.arc × ((decided_state as_nodes base prefix).core.arc.lo < 2 ^ 32)) where
@@ -59,9 +53,6 @@ module _ (scenario : Scenario) (prefix : Rows) (map : IsOneMap (world_at as_node
           let f = find_found (is_birth_of cut.group) (groups_at as_nodes scenario.groups prefix) base e in
           let named = draw_is base.core.id cut.group f.1 in
           (base, f.0, named, same_Some p.group (state base) (sym p.is ∙ (ap (effective world) (sym named) ∙ effective_is base f.0)))
-
-  serves_it : (group : Group) (key : List ℕ) → holds_key group.core.arc key ≡ true → group.core.lock ≡ Free → group.core.gone ≡ None → IsTrue (serves group key)
-  serves_it group key held unbound stands = ap (λ b. (b && is_open group.core.lock) && is_none group.core.gone) held ∙ (ap (λ lock. is_open lock && is_none group.core.gone) unbound ∙ ap is_none stands)
 
   -- who stands behind a group that stands
   pub record HasNext (base : Base) : Type 0 where
@@ -133,7 +124,3 @@ module _ (executed : QuietLogsAreExecuted) (finds : PrefixesAreFound) (all_there
             subst (λ name. HasReplica (replicas_at scenario prefix) name node) (ap (λ (g : Group). g.core.succ.group) (sym whole))
             (has_replica executed finds words scenario journal prefix q there (decided_state as_nodes base prefix).core.succ.group node (were.each node (ap (λ (g : Group). is_member g.core.succ.members node) (sym whole) ∙ m))));
       }
-    where
-      none_of : (o : Option Route) → is_some o ≡ false → o ≡ None
-      none_of None e = refl
-      none_of (Some x) e = cc

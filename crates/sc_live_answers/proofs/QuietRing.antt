@@ -1,53 +1,27 @@
 -- Groups that stand in a quiet journal, one behind the other.
-use Rattle.std.proofs.Common.{◌≡◌, ℕ, ◌+◌, ◌-◌, ◌/◌, ◌%◌, ◌<◌, ◌≤◌, ◌^◌, true, true≢false, List, [], ◌∷◌, Option, Some, None, inl, inr, refl, sym, ◌∙◌, ap, subst, arith}
-use Rattle.std.specs.Prelude.{IsTrue, find, ◌&&◌, cond, option_map, is_none}
+use Rattle.std.proofs.Common.{◌≡◌, ℕ, ◌+◌, ◌-◌, ◌%◌, ◌<◌, ◌≤◌, ◌^◌, Option, Some, sym, ◌∙◌, ap, subst, arith}
+use Rattle.std.specs.Prelude.{IsTrue}
 use Rattle.std.proofs.lemmas.Option.{same_Some}
-use Rattle.std.proofs.lemmas.Bool.{cases_Bool, lt-ltb}
-use Rattle.sc_base.proofs.Lemmas.{draw_is, same_name}
-use Rattle.sc_base.specs.Definitions.{Among, Arc, IsArc, end_of, holds, offset, same_draw, pos_of}
-use Rattle.sc_node_table.specs.Values.{Draw, Base, Free}
-use Rattle.sc_words.specs.ideal.Definitions.{holds_key, contents_after}
-use Rattle.sc_meaning.specs.entries.Definitions.{effective, effective_by, is_open, serves, IsPlaced, StoreWorld, is_named, named_group}
+use Rattle.std.proofs.lemmas.Bool.{lt-ltb}
+use Rattle.sc_base.specs.Definitions.{Among, Arc, IsArc, end_of, holds, offset}
+use Rattle.sc_node_table.specs.Values.{Draw, Base}
+use Rattle.sc_words.specs.ideal.Definitions.{contents_after}
+use Rattle.sc_meaning.specs.entries.Definitions.{effective, IsPlaced, StoreWorld}
 use Rattle.sc_meaning.specs.declared.entries.Cut.{Cut}
 use Rattle.sc_law_entries.specs.logs.Definitions.{AreItsLogs}
 use Rattle.sc_group_table.specs.machine.Definitions.{Group}
-use Rattle.sc_node_table.specs.Definitions.{ReplicaState, next}
-use Rattle.sc_words.proofs.PaxosProofs.Lemmas.{find_found}
+use Rattle.sc_node_table.specs.Definitions.{ReplicaState}
 use Rattle.sc_scenario.specs.declared.scenario.scenarios.Scenario.{Scenario}
-use Rattle.sc_meaning.specs.sound.Definitions.{groups_at, is_birth_of, world_at, as_nodes, IsOneMap}
-use Rattle.sc_live_steps.specs.calm.Definitions.{IsNewest, StandsQuiet, Rows}
+use Rattle.sc_meaning.specs.sound.Definitions.{world_at, as_nodes, IsOneMap}
+use Rattle.sc_live_steps.specs.calm.Definitions.{StandsQuiet, Rows}
 use Rattle.sc_live_plain.specs.Definitions.{IsQuietJournal, replicas_after}
-use Rattle.sc_live_answers.specs.Definitions.{AreKnown, state_of}
+use Rattle.sc_live_answers.specs.Definitions.{AreKnown}
 use Rattle.std.specs.FinMap.{empty}
 use Rattle.sc_law_entries.proofs.RingProofs.Lemmas.{InsideOf, inside_part, room_of, Holds, IsOnRing}
 use Rattle.sc_live_answers.proofs.FittingGroups.{Meets}
-use Rattle.sc_live_answers.proofs.QuietRanges.{first_held}
-
--- ---- names
-
-record Found (bases : List Base) (name : Draw) : Type 0 where
-  base : Base
-  is : find (is_birth_of name) bases ≡ Some base
-  among : Among base bases
-  named : base.core.id ≡ name
-
-found : (bases : List Base) (name : Draw) (base : Base) → Among base bases → base.core.id ≡ name → Found bases name
-found [] name base a e = absurd a
-found (b ∷ bases) name base a e = elim (cases_Bool (same_draw b.core.id name)) [
-  | inl is ↦ record { base = b; is = ap (λ t. cond t (Some b) (find (is_birth_of name) bases)) is; among = inl refl; named = draw_is b.core.id name is }
-  | inr other ↦ (
-      let there : Among base bases = elim a [ inl here ↦ absurd (true≢false (sym (same_name b.core.id name (ap (λ (x : Base). x.core.id) here ∙ e)) ∙ other)) | inr more ↦ more ] in
-      let f = found bases name base there e in
-      record { base = f.base; is = ap (λ t. cond t (Some b) (find (is_birth_of name) bases)) other ∙ f.is; among = inr f.among; named = f.named })
-]
+use Rattle.sc_live_answers.proofs.QuietGroupCuts.{effective_is, placed_group, cut_there}
 
 -- ---- arcs
-
-abbrev key_at : ℕ → List ℕ
-key_at p = p / 16777216 ∷ (p / 65536) % 256 ∷ (p / 256) % 256 ∷ p % 256 ∷ []
-
-key_there : (p : ℕ) → p < 2 ^ 32 → pos_of (key_at p) ≡ p
-key_there p low = omega arith
 
 -- the last position of an arc
 last_of : Arc → ℕ
@@ -78,35 +52,6 @@ module _ (words : ℕ → ℕ → ℕ × ℕ) (scenario : Scenario) (first : Bas
   abbrev at : Draw → ℕ → Option ReplicaState
   at = replicas_after scenario rows
 
-  free_is : (name : Draw) (group : Group) → named_group name world.groups ≡ Some group → group.core.lock ≡ Free → effective world name ≡ Some group
-  free_is name group there free =
-      ap (option_map (λ (g : Group). effective_by g.core.lock world.transactions g)) there ∙ ap (λ lock. Some (effective_by lock world.transactions group)) free
-
-  record IsHad (name : Draw) (r : ReplicaState) : Type 0 where
-    base : Base
-    among : Among base (groups_at as_nodes scenario.groups rows)
-    named : base.core.id ≡ name
-    state : r.group ≡ state_of scenario rows base
-    there : named_group name world.groups ≡ Some r.group
-
-  had : (name : Draw) (r : ReplicaState) → at name r.me ≡ Some r → ((node : ℕ) (other : ReplicaState) → at name node ≡ Some other → next other ≤ next r) → IsHad name r
-  had name r here most =
-      let k = known.named name r.me r here in
-      let f = found (groups_at as_nodes scenario.groups rows) name k.0 k.1 k.2 in
-      let state = known.newest f.base r f.among (subst (λ n. IsNewest at n r) (sym f.named) (record { is_there = here; most = most })) in
-      record {
-        base = f.base;
-        among = f.among;
-        named = f.named;
-        state = state;
-        there = logs.states name ∙ (ap (option_map (state_of scenario rows)) f.is ∙ ap Some (sym state));
-      }
-
-  -- what the world has of a group that stands
-  effective_is : (name : Draw) (q : StandsQuiet (replicas_after scenario rows) name) → effective world name ≡ Some q.lead.group
-  effective_is name q =
-      free_is name q.lead.group (had name q.lead q.newest.is_there q.newest.most).there (quiet.quiet.at_rest name q.lead.me q.lead q.newest.is_there).free
-
   -- it has a cut of the ring
   record HasCut (name : Draw) (lead : ReplicaState) : Type 0 where
     cut : Cut
@@ -114,23 +59,10 @@ module _ (words : ℕ → ℕ → ℕ × ℕ) (scenario : Scenario) (first : Bas
     named : cut.group ≡ name
     is : (placed : IsPlaced world cut) → placed.group ≡ lead.group
 
-  is_at : (name : Draw) (q : StandsQuiet (replicas_after scenario rows) name) (cut : Cut) → Among cut world.ring → cut.group ≡ name → HasCut name q.lead
-  is_at name q cut among named = record { cut = cut; among = among; named = named; is = λ placed. same_Some placed.group q.lead.group (sym placed.is ∙ (ap (effective world) named ∙ effective_is name q)) }
-
   cut_of : (name : Draw) (q : StandsQuiet (replicas_after scenario rows) name) → HasCut name q.lead
   cut_of name q =
-      let h = had name q.lead q.newest.is_there q.newest.most in
-      let free = (quiet.quiet.at_rest name q.lead.me q.lead q.newest.is_there).free in
-      let stood = ap (λ (g : Group). g.core.gone) (sym h.state) ∙ q.stands in
-      let arc = subst (λ (g : Group). IsArc g.core.arc × (g.core.arc.lo < 2 ^ 32)) (sym h.state) (known.arcs h.base h.among stood) in
-      let group = q.lead.group in
-      let key = key_at group.core.arc.lo in
-      let held : holds_key group.core.arc key ≡ true = ap (holds group.core.arc) (key_there group.core.arc.lo arc.1) ∙ first_held group.core.arc arc in
-      let c = map.serves_apart group (find_found (is_named name) world.groups group h.there).0 key (serves_it group key held free q.stands) in
-      is_at name q c.0 c.1 (c.2 ∙ (quiet.kept name q.lead.me q.lead q.newest.is_there).name_is)
-    where
-      serves_it : (group : Group) (key : List ℕ) → holds_key group.core.arc key ≡ true → group.core.lock ≡ Free → group.core.gone ≡ None → IsTrue (serves group key)
-      serves_it group key held free stands = ap (λ b. (b && is_open group.core.lock) && is_none group.core.gone) held ∙ (ap (λ lock. is_open lock && is_none group.core.gone) free ∙ ap is_none stands)
+      let c = cut_there words scenario first rows map logs known quiet name q in
+      record { cut = c.0; among = c.1; named = c.2; is = placed_group words scenario first rows map logs known quiet name q c.0 c.2 }
 
   has_inside : (group : Group) (cut : Cut) → Among cut world.ring → effective world cut.group ≡ Some group → group.core.arc ≡ cut.arc → InsideOf group.core.arc group.pairs
   has_inside group cut among is arc =
@@ -163,7 +95,7 @@ module _ (words : ℕ → ℕ → ℕ × ℕ) (scenario : Scenario) (first : Bas
     behind = map.placed placed.succ.0 placed.succ.1
 
     its_group : behind.group ≡ s.lead.group
-    its_group = same_Some behind.group s.lead.group (sym behind.is ∙ (ap (effective world) behind_named ∙ effective_is q.lead.group.core.succ.group s))
+    its_group = same_Some behind.group s.lead.group (sym behind.is ∙ (ap (effective world) behind_named ∙ effective_is words scenario first rows map logs known quiet q.lead.group.core.succ.group s))
 
     -- the one behind begins where the other ends
     pub meets : s.lead.group.core.arc.lo ≡ end_of q.lead.group.core.arc

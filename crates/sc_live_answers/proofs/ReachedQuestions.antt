@@ -42,11 +42,8 @@ module _ (tells : ReplicasAreRecorded) (words : ℕ → ℕ → ℕ × ℕ) (sce
   pub runs_at : (name : Draw) (host : ℕ) (r : ReplicaState) → (scene_at (births as_nodes scenario) rows).lead name ≡ Some host → view_at (births as_nodes scenario) rows name host ≡ Some r → r.running ≡ true
   runs_at name host r lead is = sym (ap is_running is) ∙ lead_runs (view_at all rows name) (numbers_of all) host lead
 
-  some_mail : (one_ other : Mail) → Some one_ ≡ Some other → one_ ≡ other
-  some_mail one_ other e = cc
-
   pub named_by : (group : Draw) (mail : Mail) → numbered (mails rows) number ≡ Some mail → group_of_mail mail.body ≡ Some group → group_of_mail (one words scenario first journal quiet rows seat number stage g).mail.body ≡ Some group
-  named_by group mail sent named = subst (λ (m : Mail). group_of_mail m.body ≡ Some group) (some_mail mail (one words scenario first journal quiet rows seat number stage g).mail (sym sent ∙ (one words scenario first journal quiet rows seat number stage g).sent)) named
+  named_by group mail sent named = subst (λ (m : Mail). group_of_mail m.body ≡ Some group) (same_Some mail (one words scenario first journal quiet rows seat number stage g).mail (sym sent ∙ (one words scenario first journal quiet rows seat number stage g).sent)) named
 
   -- a mail that is to be asked elsewhere is taken only where one is under way
   pub no_elsewhere : (tx coord : Draw) (hint : Option ℕ) → (one words scenario first journal quiet rows seat number stage g).mail.body ≡ TxElsewhere tx coord hint → (deal : Deal) × (stage ≡ SentOn deal)

@@ -51,13 +51,13 @@ module _ (tells : ReplicasAreRecorded) (sound : ValidJournalsAreSound) (logs : V
   abbrev Quiet : Draw → Type 0
   Quiet who = StandsQuiet (replicas_after scenario quiet) who
 
-  pred_at : (who : Draw) (q : StandsQuiet (replicas_after scenario quiet) who) (behind : Draw) → behind ≡ q.lead.group.core.succ.group → (s : StandsQuiet (replicas_after scenario quiet) behind) → s.lead.group.core.pred.group ≡ who
+  pub pred_at : (who : Draw) (q : StandsQuiet (replicas_after scenario quiet) who) (behind : Draw) → behind ≡ q.lead.group.core.succ.group → (s : StandsQuiet (replicas_after scenario quiet) behind) → s.lead.group.core.pred.group ≡ who
   pred_at who q behind e = subst (λ b. (s : Quiet b) → s.lead.group.core.pred.group ≡ who) (sym e) (λ s. pred_is words scenario first quiet the_map the_logs l.rests.known l.rests.is who q s)
 
   meets_at : (who : Draw) (q : StandsQuiet (replicas_after scenario quiet) who) (behind : Draw) → behind ≡ q.lead.group.core.succ.group → (who ≡ q.lead.group.core.succ.group → ⊥) → (s : StandsQuiet (replicas_after scenario quiet) behind) → Meets q.lead.group s.lead.group
   meets_at who q behind e other = subst (λ b. (s : Quiet b) → Meets q.lead.group s.lead.group) (sym e) (λ s. meet_so words scenario first quiet the_map the_logs l.rests.known l.rests.is who q s other)
 
-  own_id : (it : Doer) (d : HasDone (births as_nodes scenario) quiet rows it) → d.first.group.core.id ≡ it.group
+  pub own_id : (it : Doer) (d : HasDone (births as_nodes scenario) quiet rows it) → d.first.group.core.id ≡ it.group
   own_id it d = (l.rests.is.kept it.group it.host d.first (sym (l.seen it.group it.host) ∙ d.was)).name_is
 
   stood : (it : Doer) (d : HasDone (births as_nodes scenario) quiet rows it) → (s : StandsQuiet (replicas_after scenario quiet) it.group) × (d.first ≡ s.lead)

@@ -1,22 +1,23 @@
 -- A replica along its group's log makes the child of each entry that it executes.
-use Rattle.std.proofs.Common.{◌≡◌, ℕ, ◌+◌, ◌-◌, ◌<◌, ◌≤◌, ◌&&◌, eqb, nat_lt, Bool, true, false, true≢false, cond, List, [], ◌∷◌, ◌++◌, length, take, slice_get, Option, Some, None, inl, inr, refl, sym, ◌∙◌, ap, subst, arith}
-use Rattle.std.proofs.lemmas.Bool.{cases_eq, cases_lt, cond_both, cond-true, and_parts, eqb-true, eq-eqb, ltb-true}
+use Rattle.std.proofs.Common.{◌≡◌, ℕ, ◌+◌, ◌-◌, ◌<◌, ◌≤◌, eqb, nat_lt, Bool, true, false, true≢false, List, [], ◌∷◌, ◌++◌, length, take, Option, Some, None, inl, inr, refl, sym, ◌∙◌, ap, subst, arith}
+use Rattle.std.proofs.lemmas.Bool.{cases_eq, cond_both, cond-true, eq-eqb, ltb-true}
 use Rattle.std.proofs.lemmas.List.{length_push}
 use Rattle.sc_base.specs.Definitions.{Among, Each, IsRoster, is_member}
-use Rattle.sc_node_table.specs.Values.{Ballot, Command, Base, Mail, Counted, Chosen, NotYet}
+use Rattle.sc_node_table.specs.Values.{Ballot, Command, Base, Mail}
 use Rattle.sc_group_table.specs.machine.Definitions.{child_by, Group, group_of, state_after, applied}
-use Rattle.sc_words.specs.paxos.Definitions.{LeaderState, without_flight_at, counted}
+use Rattle.sc_words.specs.paxos.Definitions.{without_flight_at, counted}
 use Rattle.sc_words.proofs.PaxosProofs.Lemmas.{Each-among}
-use Rattle.sc_paxos_law.specs.Definitions.{needed, IsLog, IsLawfulHistory, Accepted}
+use Rattle.sc_paxos_law.specs.Definitions.{IsLog, IsLawfulHistory, Accepted}
 use Rattle.sc_paxos_law.proofs.Lemmas.{Among-left, Among-right, earlier, longer_log}
-use Rattle.sc_node_table.specs.Definitions.{ended, entered, learnt_to, welcomed, landed, left, looked, child_at, executed_one, next_child, next_ready, has_room, ending, all_ready, executed_ready, executed, ReplicaState, Place, Executed, childless, name_of, next, members, set_at, last_slot, learn_row, slots_ahead, with_slot, without_slot, before_of, spoken, leads, readied, vote_tallied, voted, accepted_row}
+use Rattle.sc_node_table.specs.Definitions.{ended, entered, learnt_to, welcomed, landed, left, looked, child_at, executed_one, next_child, next_ready, ending, all_ready, executed_ready, executed, ReplicaState, Place, Executed, childless, name_of, next, members, last_slot, learn_row, slots_ahead, without_slot, before_of, spoken, accepted_row}
 use Rattle.sc_meaning.specs.sound.Definitions.{Ahead}
 use Rattle.sc_law_groups.proofs.GroupProofs.Lemmas.{IsLearnt, by_own_log, Steps, rule, first, IsFlying}
 use Rattle.sc_live_steps.specs.following.Definitions.{AreAt}
 use Rattle.sc_live_steps.proofs.FollowingProofs.Lemmas.{told_state, landed_is, entered_keeps, ends, announced_keeps, spoken_same}
-use Rattle.sc_live_journals.proofs.LogsProofs.Lemmas.{at, IsAlong, is_next, by_log, next_ready_is, one_past, counted_learnt, each_with_slot}
+use Rattle.sc_live_journals.proofs.LogsProofs.Lemmas.{at, IsAlong, is_next, next_ready_is, one_past}
 use Rattle.sc_live_answers.proofs.Pumps.{pump_next}
 use Rattle.sc_live_answers.specs.Definitions.{IsBirth}
+use Rattle.sc_live_answers.proofs.VoteEntries.{past_next, vote_executes}
 
 -- the last of two lists that go on the same
 same_last : (xs : List Command) (c d : Command) → xs ++ c ∷ [] ≡ xs ++ d ∷ [] → c ≡ d
@@ -101,11 +102,8 @@ module _ (ahead : Ahead) (open_slots : ahead.slots ≡ slots_ahead) (base : Base
   step_creates c place es k mine t up rest slot child least most b member = elim (cases_eq slot (next place.0)) [
     | inl is ↦ Among-left child (next_child c place.0) (executed_ready es (executed_one true c place)).1 (born_here c place.0 k mine t child (subst (λ n. IsBirth all base n child) is b) member)
     | inr ne ↦ Among-right child (next_child c place.0) (executed_ready es (executed_one true c place)).1
-        (rest slot child (past ne) (let still = pump_next (executed_ready es (executed_one true c place)).0 in omega (arith, most, still)) b member)
+        (rest slot child (past_next slot (next place.0) (next (executed_one true c place).0) up least ne) (let still = pump_next (executed_ready es (executed_one true c place)).0 in omega (arith, most, still)) b member)
   ]
-    where
-      past : (slot ≡ next place.0 → ⊥) → next (executed_one true c place).0 ≤ slot
-      past ne = elim (cases_lt (next place.0) slot) [ inl lt ↦ omega (arith, up, lt) | inr ge ↦ absurd (ne (omega (arith, least, ge))) ]
 
   ready_creates : (es : List (ℕ × Command)) (place : Place) → Along place.0 → place.0.me ≡ me → Creates (next place.0) (executed_ready es place)
   unfolding executed_ready
@@ -151,48 +149,7 @@ module _ (ahead : Ahead) (open_slots : ahead.slots ≡ slots_ahead) (base : Base
   module _ (r : ReplicaState) (k : IsAlong ahead open_slots base roster h lawful all prefixes r) (mine : r.me ≡ me) (runs : r.running ≡ true)
       (opens : AreAt (at ahead open_slots base roster h lawful all prefixes) (next r) r.sets) (flying : Each (IsFlying ahead base h r.leader.ballot) r.leader.flights)
       (from : ℕ) (ballot : Ballot) (slot : ℕ) (d : Command) (did : Among (Accepted from ballot slot d) h) where
-    abbrev After : Executed → Type 0
-    After step = Creates (next r) step
-
-    nothing : (step : Executed) → next step.0.0 ≡ next r → After step
-    nothing step is = λ other child least most. absurd (omega (arith, least, most, is))
-
-    -- the members of its next slot
-    first_at : (sets : List (List ℕ)) (set : List ℕ) → AreAt (at ahead open_slots base roster h lawful all prefixes) (next r) sets → slice_get sets 0 ≡ Some set → at ahead open_slots base roster h lawful all prefixes (next r) ≡ set
-    first_at [] set are e = cc
-    first_at (one ∷ sets) set are e = (let is : one ≡ set = (let both : Some one ≡ Some set = e in cc) in are.0 ∙ is)
-
-    set_is : (set : List ℕ) → set_at slot r ≡ Some set → slot ≡ next r → at ahead open_slots base roster h lawful all prefixes (next r) ≡ set
-    set_is set e there = first_at r.sets set opens (by (nat_lt slot (next r)) (sym (ap (λ n. slice_get r.sets n) (omega (arith, there)))) e)
-      where
-        by : (b : Bool) → slice_get r.sets 0 ≡ slice_get r.sets (slot - next r) → cond b None (slice_get r.sets (slot - next r)) ≡ Some set → slice_get r.sets 0 ≡ Some set
-        by true i j = cc
-        by false i j = i ∙ j
-
-    -- a decided slot
-    decided : (set : List ℕ) → set_at slot r ≡ Some set → (c : Command) (leader : LeaderState Command) → counted from ballot slot set r.leader ≡ (Chosen c, leader) → After (readied slot c (record r { leader = leader }, []))
-    unfolding readied
-    decided set open_ c leader chosen =
-        let after : ReplicaState = record r { leader = leader; ready = with_slot r.ready slot c } in
-        cond_both ((eqb slot (next r)) && has_room r) (executed true c (after, [])) (childless (after, [])) After
-        (λ t. next_one (eqb-true slot (next r) (and_parts (eqb slot (next r)) (has_room r) t).0)) (λ _. nothing (childless (after, [])) refl)
-      where
-        next_one : slot ≡ next r → After (executed true c (record r { leader = leader; ready = with_slot r.ready slot c }, []))
-        next_one there =
-            let low : needed (rule ahead base) slot ≤ length k.whole = subst (λ n. needed (rule ahead base) n ≤ length k.whole) (sym (there ∙ k.next_is)) (earlier (rule ahead base) (length k.whole)) in
-            let members = sym (set_is set open_ there) ∙ (ap (at ahead open_slots base roster h lawful all prefixes) (sym there) ∙ by_log ahead open_slots base roster h lawful all prefixes k.whole k.is_log slot low) in
-            let t = counted_learnt ahead base h lawful r.leader flying k.whole k.is_log slot set members low from ballot d did c leader chosen in
-            executed_creates c (record r { leader = leader; ready = with_slot r.ready slot c }, [])
-            (record { whole = k.whole; is_log = k.is_log; next_is = k.next_is; group_is = k.group_is; ready = each_with_slot _ r.ready slot c k.ready t }) mine runs (subst (λ n. IsLearnt (rule ahead base) h n c) there t)
-
-    tallied : (set : List ℕ) → set_at slot r ≡ Some set → (p : Counted Command × LeaderState Command) → counted from ballot slot set r.leader ≡ p → After (vote_tallied slot p (r, []))
-    tallied set open_ (Chosen c, leader) is = decided set open_ c leader is
-    tallied set open_ (NotYet count, leader) is = nothing (childless (record r { leader = leader }, [])) refl
-
-    by_set : (o : Option (List ℕ)) → set_at slot r ≡ o → After (voted from ballot slot o (r, []))
-    by_set None e = nothing (childless (r, [])) refl
-    by_set (Some set) e = tallied set e (counted from ballot slot set r.leader) refl
-
     pub vote_creates : Creates (next r) (accepted_row from ballot slot (r, []))
-    unfolding accepted_row
-    vote_creates = cond_both (leads ballot r) (voted from ballot slot (set_at slot r) (r, [])) (childless (r, [])) After (λ _. by_set (set_at slot r) refl) (λ _. nothing (childless (r, [])) refl)
+    vote_creates =
+        vote_executes ahead open_slots base roster h lawful all prefixes r k opens flying from ballot slot d did (Creates (next r)) (λ step is other child least most. absurd (omega (arith, least, most, is)))
+        (λ c leader ready along t. executed_creates c (record r { leader = leader; ready = ready }, []) along mine runs t)

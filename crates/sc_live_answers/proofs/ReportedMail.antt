@@ -1,9 +1,9 @@
 -- A result that an executed entry reports stays among the mail of its row.
-use Rattle.std.proofs.Common.{◌≡◌, ◌⊎◌, ℕ, ◌+◌, ◌-◌, ◌^◌, ◌&&◌, not, nat_le, eqb, Bool, true, false, cond, List, [], ◌∷◌, ◌++◌, filter, Option, Some, None, inl, inr, refl, sym, subst}
+use Rattle.std.proofs.Common.{◌≡◌, ◌⊎◌, ℕ, ◌+◌, ◌-◌, ◌^◌, ◌&&◌, nat_le, eqb, Bool, true, cond, List, [], ◌∷◌, ◌++◌, Option, Some, None, inl, inr, refl, sym, subst}
 use Rattle.std.specs.Prelude.{is_some}
 use Rattle.std.specs.List.{list_any}
 use Rattle.std.proofs.lemmas.Bool.{cond-true}
-use Rattle.sc_base.specs.Definitions.{Among, is_member, least_of}
+use Rattle.sc_base.specs.Definitions.{is_member, least_of}
 use Rattle.sc_node_table.specs.Values.{Draw, Offer, Watch, Command, Call, Split, Begin, Prepared, RecordVote, GiveUp, Watched, RecordWatch, Core, Lock, Free, Coordinating, Promised, Watching, Effect, Link, Outcome, Abort, Past, Vote, Route, OrderResult, AnswerBody, Mail, Told, TxOutcome, Prepare, Accept, Learn, Must, Gap}
 use Rattle.sc_words.specs.commands.Definitions.{decided_in, cast_in, is_changed}
 use Rattle.sc_words.specs.declared.commands.votes.Past.TheVariants as Cast
@@ -14,10 +14,9 @@ use Rattle.sc_words.specs.paxos.Definitions.{must}
 use Rattle.sc_paxos_law.proofs.Lemmas.{Among-left, Among-right}
 use Rattle.sc_group_table.specs.policy.Definitions.{is_reported}
 use Rattle.sc_group_table.specs.machine.Definitions.{Group, applied}
-use Rattle.sc_node_table.specs.Definitions.{elected, ended, stopped, open_nodes, entered, answer_of, answered_or_put_back, order_result, effect_reported, announced, learnt_to, welcomed, landed, left_gone, left, is_among, looked_for, looked, executed_one, executed, install_to, asked_to_promise, welcomed_all, sent, answered_all, sent_others, order_number, result_sent, order_reported, Found, is_act, from_backlog, from_acts, from_queues, found_by, found_for, offered, pumped_from, pumped, ReplicaState, Place, name_of, next, members, settled, may_offer, taken_at, under_way, is_idle, last_slot, before_of, asked_first, begun_result, spoken_number, result_reported, begun_reported, asked_on, vote_sent, watch_sent, aborted_to, aborted_watcher, given_up_by, vote_answered, released_to, watch_answered_by, went_on, spoken_mails, spoken}
+use Rattle.sc_node_table.specs.Definitions.{elected, ended, stopped, open_nodes, entered, answer_of, answered_or_put_back, order_result, effect_reported, announced, learnt_to, welcomed, landed, left_gone, left, is_among, looked_for, looked, executed_one, executed, install_to, asked_to_promise, welcomed_all, answered_all, sent_others, order_number, result_sent, order_reported, Found, is_act, from_backlog, from_acts, from_queues, found_by, found_for, offered, pumped_from, pumped, ReplicaState, Place, name_of, next, members, settled, may_offer, taken_at, under_way, is_idle, last_slot, before_of, asked_first, begun_result, spoken_number, result_reported, begun_reported, asked_on, vote_sent, watch_sent, aborted_to, aborted_watcher, given_up_by, vote_answered, released_to, watch_answered_by, went_on, spoken_mails, spoken}
 use Rattle.sc_node_table.specs.declared.Before.{Before}
-use Rattle.sc_law_walks.proofs.Lemmas.{either_way, executed_place, welcomed_place, next_found}
-use Rattle.sc_law_walks.proofs.PlaceWalks.{Talk, grows}
+use Rattle.sc_law_walks.proofs.Lemmas.{either_way, executed_place, welcomed_place, next_found, Talk, grows}
 use Rattle.sc_law_walks.proofs.Talks.{all_sent, others_sent, client_reported, desk_reported, one_answered, all_answered, all_dismissed, vote_reported, watch_reported, spoken_said}
 use Rattle.sc_live_answers.specs.Definitions.{IsTold}
 

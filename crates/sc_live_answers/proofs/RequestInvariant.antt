@@ -1,5 +1,5 @@
 -- Clients ask alone since a quiet prefix: it begins so, and goes on so.
-use Rattle.std.proofs.Common.{◌≡◌, ℕ, Bool, false, cond, ◌+◌, ◌≤◌, ◌^◌, true, List, [], ◌∷◌, ◌++◌, length, Option, Some, None, ◌⊎◌, inl, inr, refl, sym, ◌∙◌, ap, subst, arith, append-nil, append_assoc, length-append}
+use Rattle.std.proofs.Common.{◌≡◌, ℕ, Bool, false, cond, ◌+◌, ◌≤◌, ◌^◌, true, List, [], ◌∷◌, ◌++◌, length, Option, Some, None, inl, inr, refl, sym, ◌∙◌, ap, subst, arith, append-nil, append_assoc, length-append}
 use Rattle.std.proofs.lemmas.Option.{none-some}
 use Rattle.sc_base.proofs.Lemmas.{draw_is}
 use Rattle.sc_base.specs.Definitions.{Among, Each, same_draw}
@@ -7,6 +7,7 @@ use Rattle.sc_node_table.specs.Values.{Draw, Op, Base, OrderLine, Mail, MailBody
 use Rattle.sc_actor.specs.Definitions.{System, row_of}
 use Rattle.sc_live_orderly.specs.Definitions.{IsInOrder, IsOrderly, IsTidy, rest, AreInTime}
 use Rattle.sc_live_orderly.proofs.Lemmas.{in_time_tidy}
+use Rattle.sc_live_orderly.proofs.RowsInTime.{snoc_parts}
 use Rattle.sc_node_table.specs.Definitions.{ReplicaState, last_slot, listed, slots_ahead}
 use Rattle.sc_scenario.specs.declared.scenario.scenarios.Scenario.{Scenario}
 use Rattle.sc_scenario.specs.scenario.Definitions.{ValidScenariosAreBounded}
@@ -21,19 +22,6 @@ use Rattle.sc_live_journals.specs.scenes.Definitions.{IsNowhere}
 use Rattle.sc_live_plain.specs.Definitions.{IsAsking, AreFarFromLast, RequestsGoOn, AreRequests, NobodyWaits, replicas_after, setting_at, QuietJournalsAsk, replica_at, next_in, IsLinkedSetting, Setting, IsSetting, IsAsideBody, IsCalmMail, Frame, IsBegun, IsPlainBody}
 use Rattle.sc_live_answers.proofs.OrderDeliveries.{there_or}
 use Rattle.sc_live_answers.proofs.Setting as quiet_of
-
-snoc_parts : {X : Type 0} (xs : List X) (last : X) (before : List X) (x : X) (after : List X) → xs ++ last ∷ [] ≡ before ++ x ∷ after → ((before ≡ xs) × (x ≡ last)) ⊎ ((rest : List X) × (xs ≡ before ++ x ∷ rest))
-snoc_parts [] last [] x after e = inl (refl, cc)
-snoc_parts [] last (b ∷ []) x after e = cc
-snoc_parts [] last (b ∷ c ∷ before) x after e = cc
-snoc_parts (y ∷ xs) last [] x after e = inr (xs, cc)
-snoc_parts (y ∷ xs) last (b ∷ before) x after e =
-    let head : y ≡ b = cc in
-    let tail : xs ++ last ∷ [] ≡ before ++ x ∷ after = cc in
-    elim (snoc_parts xs last before x after tail) [
-      | inl p ↦ inl (ap (λ t. b ∷ t) p.0 ∙ ap (λ h. h ∷ xs) (sym head), p.1)
-      | inr q ↦ inr (q.0, ap (λ t. y ∷ t) q.1 ∙ ap (λ h. h ∷ (before ++ x ∷ q.0)) head)
-    ]
 
 none_behind : {X : Type 0} (prefix : List X) (x : X) (back : List X) → [] ≡ prefix ++ x ∷ back → ⊥
 none_behind [] x back e = cc

@@ -13,10 +13,10 @@ use Rattle.sc_scenario.specs.declared.scenario.scenarios.Asks.{Asks}
 use Rattle.sc_scenario.specs.declared.scenario.scenarios.Scenario.{Scenario}
 use Rattle.sc_meaning.specs.sound.Definitions.{Player, player_table, node_seat, client_seat, route_of, births, system_of, as_nodes}
 use Rattle.sc_live_orderly.specs.Definitions.{IsTidy, IsOrderly, IsInOrder, rest, is_born, mail_for, taken}
-use Rattle.sc_live_orderly.proofs.Lemmas.{is_born-from, rest-row, seat_found}
+use Rattle.sc_live_orderly.proofs.Lemmas.{rest-row}
 use Rattle.sc_live_plain.specs.Definitions.{IsAsking, AreFarFromLast, AreRequests, AreSeated, Other, mark, mark_of, IsLinkedSetting, IsCalmClient, Setting, IsSetting, IsAsideBody, IsCalmMail, Frame, IsFrame, waiting_ones, IsBegun, begun_of, Requests, IsPlainBody}
 use Rattle.sc_live_plain.proofs.RequestPhaseClients as clients_of
-use Rattle.sc_live_plain.proofs.Lemmas.{aside_mark, takes_only, go_only, IsStage, node_born, node_number, client_number, value_others, gone_others, started_still, Journal, of_player, unasked, stays_by, IsFor, for_node}
+use Rattle.sc_live_plain.proofs.Lemmas.{aside_mark, takes_only, go_only, IsStage, node_number, client_number, value_others, gone_others, started_still, Journal, of_player, unasked, stays_by, IsFor, for_node, is_node_born as node_is_born}
 use Rattle.sc_live_plain.proofs.RequestPhaseNodes as turns_of
 use Rattle.sc_law_entries.proofs.NamesProofs.Lemmas.{Each-drop}
 
@@ -69,13 +69,10 @@ module _ (words : ℕ → ℕ → ℕ × ℕ) (scenario : Scenario) (begins : Is
   abbrev cseat : Asks → Seat Player
   cseat asks = client_seat (route_of begins.first) asks
 
-  node_is_born : (node : ℕ) → 1 ≤ node → node ≤ scenario.nodes → is_born (system_of as_nodes words scenario) node ≡ true
-  node_is_born node one most = is_born-from sys node (nseat node) (seat_found (births as_nodes scenario) (nseat node) begins.seats_apart (node_born words scenario begins node one most))
-
   calm_nothing : (begun : Requests) (who : ℕ) → is_born (system_of as_nodes words scenario) who ≡ false → (mail : Mail) → IsCalmMail begun set mail → mail.to ≡ who → IsNothing mail
   calm_nothing begun who away mail (inl p) to name =
       nothing_to begun p.frame (is.are p.frame p.is_frame) mail.from mail.to name
-      (λ slot m. (let at = seated.voters p.frame slot mail.to p.is_frame m in both_ways (is_born sys who) away (ap (is_born sys) (sym to) ∙ node_is_born mail.to at.0 at.1))) mail.body p.says
+      (λ slot m. (let at = seated.voters p.frame slot mail.to p.is_frame m in both_ways (is_born sys who) away (ap (is_born sys) (sym to) ∙ node_is_born words scenario begins mail.to at.0 at.1))) mail.body p.says
   calm_nothing begun who away mail (inr s) to name = aside_mark begun set name mail mail.body refl s
 
   -- what holds after each row: of the desk, and of clients that have not started

@@ -10,7 +10,9 @@ use Rattle.sc_node_table.specs.Definitions.{ReplicaState, Place, next, last_slot
 use Rattle.sc_live_plain.specs.Definitions.{Frame, IsFrame, Requests, IsPlainCall, IsPlainCommand, IsPlainBody, AreTaken, IsPlainLeader, IsPlainFollower, IsPlainVoter, IsPlainReplica, IsPlainAt, IsDue}
 use Rattle.sc_live_plain.proofs.Lemmas.{as_voter, learn_is, learnt_plain, learnt_follower, learnt_next, IsRun, call_is, DidRefuse, DidQueue, DidCount, following_at, none_stops, replica_row, taken_once}
 use Rattle.sc_live_answers.proofs.CallEffects.{knows, Leaves, leaves_itself, leaves_bare, request_kept, vote_goes}
-use Rattle.sc_live_answers.proofs.AcceptAndLearnRows.{takes_it, accept_takes, learn_leaves}
+use Rattle.sc_live_plain.proofs.AcceptAndLearnRows.{accepted_state}
+use Rattle.sc_live_plain.proofs.Lemmas.{accept_is}
+use Rattle.sc_live_answers.proofs.AcceptAndLearnRows.{learn_leaves}
 use Rattle.sc_live_answers.proofs.ChartSequence.{split_among}
 
 -- ---- how many slots are taken
@@ -46,6 +48,11 @@ pub record Serves (frame : Frame) (me : ℕ) (body : MailBody) (r after : Replic
 
 pub rests_itself : (r : ReplicaState) → Rests r r
 rests_itself r = record { sets_are = refl; group_is = refl; acts_are = refl; waits_are = refl; next_is = refl; floor_is = refl }
+
+-- one that may vote at a slot
+pub voter_at : (begun : Requests) (frame : Frame) (is : IsFrame frame) (me : ℕ) (r : ReplicaState) (slot : ℕ) → is_member (frame.at slot) me ≡ true → IsPlainAt begun frame me r → IsPlainVoter frame me r
+voter_at begun frame is me r slot m (inl p) = as_voter begun frame is me r p.0
+voter_at begun frame is me r slot m (inr left) = left.voter slot m
 
 module _ (begun : Requests) (frame : Frame) (is : IsFrame frame) (r : ReplicaState) (from : ℕ) (room : next r + slots_ahead ≤ last_slot) where
   -- one that takes it at the leading node
@@ -111,7 +118,8 @@ module _ (begun : Requests) (frame : Frame) (is : IsFrame frame) (r : ReplicaSta
         ]
       ]
 
-  accepted_serves : (me : ℕ) (group : Draw) (ballot : Ballot) (slot : ℕ) (command : Command) → r.hint ≡ Some frame.lead → Serves frame me (Accept group ballot slot command) r (takes_it frame r slot command)
+  accepted_serves : (me : ℕ) (group : Draw) (ballot : Ballot) (slot : ℕ) (command : Command) → r.hint ≡ Some frame.lead → Serves frame me (Accept group ballot slot command) r (accepted_state frame r slot command)
+  unfolding accepted_state
   accepted_serves me group ballot slot command hint = record {
     next_up = omega arith;
     hint_was = hint;
@@ -129,11 +137,7 @@ module _ (begun : Requests) (frame : Frame) (is : IsFrame frame) (r : ReplicaSta
   by_accept : (me : ℕ) (group : Draw) (slot : ℕ) (command : Command) → IsPlainAt begun frame me r → is_member (frame.at slot) me ≡ true → next r ≤ slot → Serves frame me (Accept group frame.ballot slot command) r (mailed from (Accept group frame.ballot slot command) (r, [])).0.0
   unfolding mailed
   by_accept me group slot command k m low =
-      subst (λ (p : Place). Serves frame me (Accept group frame.ballot slot command) r p.0) (sym (accept_takes frame is me r (voter k) from slot command low (none_stops begun frame is me r k))) (accepted_serves me group frame.ballot slot command (voter k).hint_is)
-    where
-      voter : IsPlainAt begun frame me r → IsPlainVoter frame me r
-      voter (inl p) = as_voter begun frame is me r p.0
-      voter (inr left) = left.voter slot m
+      subst (λ (p : Place). Serves frame me (Accept group frame.ballot slot command) r p.0) (sym (accept_is frame is me r (voter_at begun frame is me r slot m k) from slot command low (none_stops begun frame is me r k))) (accepted_serves me group frame.ballot slot command (voter_at begun frame is me r slot m k).hint_is)
 
   -- ---- a decided command
 

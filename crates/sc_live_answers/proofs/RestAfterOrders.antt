@@ -1,5 +1,5 @@
 -- A calm journal rests again once an order is over and it is quiet.
-use Rattle.std.proofs.Common.{◌≡◌, ℕ, ◌+◌, ◌≤◌, true, List, [], ◌∷◌, map, Some, inl, inr, refl, sym, ◌∙◌, ap, subst, arith}
+use Rattle.std.proofs.Common.{◌≡◌, ℕ, ◌+◌, ◌≤◌, true, List, [], ◌∷◌, map, Some, inl, inr, sym, ◌∙◌, ap, subst, arith}
 use Rattle.std.proofs.lemmas.Bool.{cases_Bool}
 use Rattle.sc_base.specs.Definitions.{Among, client_actor}
 use Rattle.sc_node_table.specs.Values.{Draw, Base, OrderLine, Mail, Seat, Client}
@@ -8,7 +8,7 @@ use Rattle.sc_live_orderly.specs.Definitions.{is_born, orders, AreInTime}
 use Rattle.sc_live_orderly.proofs.Lemmas.{in_time_tidy, quiet-empty, seat_found}
 use Rattle.sc_scenario.specs.declared.scenario.scenarios.Scenario.{Scenario}
 use Rattle.sc_node_table.specs.Definitions.{ReplicaState, numbers_from}
-use Rattle.sc_meaning.specs.sound.Definitions.{groups_at, Player, player_table, births, as_nodes, node_seat, client_seat, client_seats, route_of}
+use Rattle.sc_meaning.specs.sound.Definitions.{Player, player_table, births, as_nodes, node_seat, client_seat, client_seats, route_of}
 use Rattle.sc_scenario.specs.scenario.Definitions.{ValidScenariosAreBounded}
 use Rattle.sc_scenario.specs.declared.scenario.scenarios.Asks.{Asks}
 use Rattle.sc_client_table.specs.table.Definitions.{Client as ClientState}
@@ -22,11 +22,19 @@ use Rattle.sc_live_steps.specs.calm.Definitions.{players, Rows}
 use Rattle.sc_live_steps.specs.orders.Definitions.{works_in, Still, IsAt}
 use Rattle.sc_live_journals.specs.mail.Definitions.{SlotsAreLeft}
 use Rattle.sc_live_journals.specs.groups.Definitions.{ScenariosAreKeptBorn}
-use Rattle.sc_live_journals.specs.logs.Definitions.{IsGroupOf, SlotsHaveRosters, logged_sets}
-use Rattle.sc_live_answers.specs.Definitions.{over_at, slot_leaders_at, QuietLeadersHaveNothing, OrdersKeepRounds, RoundsAreSeen, IsQuietPrefix, PrefixesAreFound, NoMailForStrangers, GroupsEndInTurn, IsGoingSince, NoneWaits, FirstGroupsAreReached, AreSent, IsCalmJournal, IsPrefixOf, IsNamedGroup, RestsAt, IsUnder, QuietPrefixesRest, NodeErrandsReachPlayers, IsOrderedSince, OrdersLeaveResting}
-use Rattle.sc_live_journals.specs.scenes.Definitions.{IsThere, HasNothing, QuietScenesAreOver, scene_at}
+use Rattle.sc_live_journals.specs.logs.Definitions.{SlotsHaveRosters, logged_sets}
+use Rattle.sc_live_answers.specs.Definitions.{over_at, slot_leaders_at, QuietLeadersHaveNothing, OrdersKeepRounds, RoundsAreSeen, IsQuietPrefix, PrefixesAreFound, NoMailForStrangers, GroupsEndInTurn, IsGoingSince, NoneWaits, FirstGroupsAreReached, AreSent, IsCalmJournal, IsPrefixOf, RestsAt, IsUnder, QuietPrefixesRest, NodeErrandsReachPlayers, IsOrderedSince, OrdersLeaveResting}
+use Rattle.sc_live_journals.specs.scenes.Definitions.{HasNothing, QuietScenesAreOver, scene_at}
 use Rattle.sc_live_answers.proofs.RequestInvariant.{prefix_timely, prefix_short}
 use Rattle.sc_live_answers.proofs.GuidedGroups.{named_there}
+use Rattle.sc_live_answers.proofs.JournalGroups.{calm_group}
+
+-- no mail is under way in a quiet prefix that rests
+pub none_pending : NoMailForStrangers → (words : ℕ → ℕ → ℕ × ℕ) (scenario : Scenario) (first : Base) (journal quiet : Rows) → IsCalmJournal words scenario journal → RestsAt words scenario first journal quiet → (name : Draw) (who : ℕ) → marks_at (players words (births as_nodes scenario)) quiet name who ≡ []
+none_pending no_law words scenario first journal quiet calm rests name who = elim (cases_Bool (is_born (players words (births as_nodes scenario)) who)) [
+  | inl t ↦ ap (marks_of name) (quiet-empty (players words (births as_nodes scenario)) quiet who (in_time_tidy (players words (births as_nodes scenario)) quiet (prefix_timely words scenario journal quiet calm rests.prefix)) t rests.calm)
+  | inr f ↦ no_law.strangers words scenario journal quiet calm rests.prefix rests.sent name who f
+]
 
 module _ (all_bounded : ValidScenariosAreBounded) (few_law : SlotsAreLeft) (born_law : ScenariosAreKeptBorn) (rosters_law : SlotsHaveRosters) (over_law : QuietScenesAreOver) (nothing_law : QuietLeadersHaveNothing) (rounds_law : OrdersKeepRounds) (seen_law : RoundsAreSeen) (found_law : PrefixesAreFound) (no_law : NoMailForStrangers) (rest_law : QuietPrefixesRest) (actors_law : NodeErrandsReachPlayers) (turn_law : GroupsEndInTurn) (waits_law : NoneWaits) (reached_law : FirstGroupsAreReached)
     (words : ℕ → ℕ → ℕ × ℕ) (scenario : Scenario) (first : Base) (others : List Base) (journal quiet rows : Rows) (groups : scenario.groups ≡ first ∷ others) (calm : IsCalmJournal words scenario journal) (o : IsOrderedSince words scenario first journal quiet rows) (still : is_quiet (players words (births as_nodes scenario)) rows ≡ true) where
@@ -42,12 +50,6 @@ module _ (all_bounded : ValidScenariosAreBounded) (few_law : SlotsAreLeft) (born
   timely : AreInTime s rows
   timely = prefix_timely words scenario journal rows calm under.prefix
 
-  named : (name : Draw) → IsThere all rows name → IsNamedGroup scenario journal name
-  named = named_there found_law words scenario journal rows calm under.prefix
-
-  group : (base : Base) → Among base (groups_at as_nodes scenario.groups journal) → IsGroupOf as_nodes words scenario journal base
-  group base among = record { open_slots = refl; valid = calm.valid; lawful = calm.lawful; stands = among }
-
   -- no act waits where nothing is in flight
   none_waits : (name : Draw) (node : ℕ) (r : ReplicaState) → view_at all rows name node ≡ Some r → r.running ≡ true → r.leader.flights ≡ [] → r.acts ≡ []
   none_waits = waits_law.over words scenario journal rows calm under.prefix under.sent still o.waits
@@ -55,35 +57,28 @@ module _ (all_bounded : ValidScenariosAreBounded) (few_law : SlotsAreLeft) (born
   -- nothing is left at a leader
   nothing : (name : Draw) (node : ℕ) (r : ReplicaState) → view_at all rows name node ≡ Some r → r.running ≡ true → HasNothing r
   nothing name node r e runs =
-      let g = named name (node, r, e) in
+      let g = named_there found_law words scenario journal rows calm under.prefix name (node, r, e) in
       let t = under.sent g.0 g.1 in
       let here : view_at all rows g.0.core.id node ≡ Some r = ap (λ n. view_at all rows n node) g.2 ∙ e in
       let left = few_law words scenario rows name node r timely (prefix_short words scenario journal rows calm under.prefix) e in
       let low = left.0 in
-      nothing_law (logged_sets as_nodes g.0 journal) (over_at as_nodes g.0 journal) (slot_leaders_at as_nodes scenario g.0 journal) words all rows g.0 t.course node r (born_law scenario) (rosters_law.rosters as_nodes words scenario journal g.0 (group g.0 g.1)) timely still
+      nothing_law (logged_sets as_nodes g.0 journal) (over_at as_nodes g.0 journal) (slot_leaders_at as_nodes scenario g.0 journal) words all rows g.0 t.course node r (born_law scenario) (rosters_law.rosters as_nodes words scenario journal g.0 (calm_group words scenario journal calm g.0 g.1)) timely still
       (no_law.strangers words scenario journal rows calm under.prefix under.sent g.0.core.id) t.led here runs (omega (arith, low))
       (λ none. (ap works_in (none_waits name node r e runs none), ap works_in (o.work.replicas name node r e).backlog))
 
   over : IsAt Still (scene_at all rows)
   over = (over_law.over words all rows timely still (actors_law words scenario (mails rows) o.home) nothing (under.stage, under.untouched.stands)).0
 
-  -- no mail is under way
-  none_quiet : (name : Draw) (who : ℕ) → marks_at s quiet name who ≡ []
-  none_quiet name who = elim (cases_Bool (is_born s who)) [
-    | inl t ↦ ap (marks_of name) (quiet-empty s quiet who (in_time_tidy s quiet (prefix_timely words scenario journal quiet calm under.rests.prefix)) t under.rests.calm)
-    | inr f ↦ no_law.strangers words scenario journal quiet calm under.rests.prefix under.rests.sent name who f
-  ]
-
   -- rounds are few
   few_rounds : (name : Draw) (node : ℕ) (r : ReplicaState) → view_at all rows name node ≡ Some r → r.top.round ≤ orders rows + 1
   few_rounds name node r e =
-      let g = named name (node, r, e) in
+      let g = named_there found_law words scenario journal rows calm under.prefix name (node, r, e) in
       let here : view_at all rows g.0.core.id node ≡ Some r = ap (λ n. view_at all rows n node) g.2 ∙ e in
       let q = under.rests.sent g.0 g.1 in
       let t = under.sent g.0 g.1 in
       let top = seen_law.most (logged_sets as_nodes g.0 journal) (over_at as_nodes g.0 journal) (slot_leaders_at as_nodes scenario g.0 journal) words all rows g.0 t node r here in
       let more = rounds_law.few q.course under.stage g.0.core.id t.course (o.round g.0 g.1) in
-      let was = seen_law.quiet words (logged_sets as_nodes g.0 journal) (over_at as_nodes g.0 journal) (slot_leaders_at as_nodes scenario g.0 journal) scenario quiet g.0 q (none_quiet g.0.core.id) (λ there. under.rests.members g.0 g.1 there)
+      let was = seen_law.quiet words (logged_sets as_nodes g.0 journal) (over_at as_nodes g.0 journal) (slot_leaders_at as_nodes scenario g.0 journal) scenario quiet g.0 q (none_pending no_law words scenario first journal quiet calm under.rests g.0.core.id) (λ there. under.rests.members g.0 g.1 there)
       (orders quiet + 1) (omega arith) (λ n x v. (under.rests.rounds g.0.core.id n x v).1) in
       let one = o.one_order in
       omega (arith, top, more, was, one)

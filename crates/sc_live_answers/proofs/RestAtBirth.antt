@@ -1,22 +1,21 @@
 -- A calm journal rests before its first row.
-use Rattle.std.proofs.Common.{◌≡◌, ℕ, ◌+◌, ◌≤◌, Bool, cond, true, false, List, [], ◌∷◌, ◌++◌, length, Option, Some, None, inl, inr, refl, sym, ◌∙◌, ap, arith, append_assoc, length-append}
+use Rattle.std.proofs.Common.{◌≡◌, ℕ, ◌+◌, ◌≤◌, Bool, cond, true, false, List, [], ◌∷◌, Option, Some, None, inl, inr, refl, sym, ◌∙◌, ap, arith}
 use Rattle.std.specs.Prelude.{is_some, ◌&&◌}
 use Rattle.std.proofs.lemmas.Option.{none-some}
 use Rattle.sc_base.specs.Definitions.{Among, same_draw}
 use Rattle.sc_node_table.specs.Values.{Draw, Base, Route}
-use Rattle.sc_live_orderly.specs.Definitions.{AreInTime}
 use Rattle.sc_scenario.specs.scenario.Definitions.{ValidScenariosAreBounded}
 use Rattle.sc_scenario.specs.declared.scenario.scenarios.Scenario.{Scenario}
 use Rattle.sc_node_table.specs.Definitions.{ReplicaState, name_of, born_replica, slots_ahead}
 use Rattle.sc_meaning.specs.sound.Definitions.{groups_at, births, as_nodes}
-use Rattle.sc_live_steps.specs.calm.Definitions.{players, Rows}
+use Rattle.sc_live_steps.specs.calm.Definitions.{Rows}
 use Rattle.sc_live_journals.specs.rows.Definitions.{view_at}
 use Rattle.sc_live_journals.specs.mail.Definitions.{SlotsAreLeft}
-use Rattle.sc_live_journals.specs.logs.Definitions.{IsGroupOf}
-use Rattle.sc_live_answers.specs.Definitions.{GroupsBeginStanding, AreFew, LawfulReplicasAreNamedOnce, GroupsBeginSent, GroupsAreBornAsBegun, QuietJournalsBegin, GroupsBeginRising, IsQuietPrefix, PrefixesAreFound, IsCalmJournal, IsPrefixOf, AreSent, IsNamedGroup, ViewsAgree, QuietJournalsRest, JournalsBeginResting}
+use Rattle.sc_live_answers.specs.Definitions.{GroupsBeginStanding, LawfulReplicasAreNamedOnce, GroupsBeginSent, GroupsAreBornAsBegun, QuietJournalsBegin, GroupsBeginRising, IsQuietPrefix, PrefixesAreFound, IsCalmJournal, IsPrefixOf, AreSent, IsNamedGroup, ViewsAgree, QuietJournalsRest, JournalsBeginResting}
 use Rattle.sc_live_journals.specs.charts.Definitions.{names_at, all_replicas, went_in, GoInTurn}
 use Rattle.sc_live_answers.proofs.GuidedGroups.{named_there}
 use Rattle.sc_live_answers.proofs.PlayerReplicas.{place_of}
+use Rattle.sc_live_answers.proofs.JournalGroups.{calm_group, calm_slots}
 
 step : (b : Bool) (gone later : Option Route) (into : Route) → gone ≡ None → (later ≡ Some into → ⊥) → cond b gone later ≡ Some into → ⊥
 step true went later into none rest e = none-some into (sym none ∙ e)
@@ -32,21 +31,8 @@ module _ (all_bounded : ValidScenariosAreBounded) (few_law : SlotsAreLeft) (stan
   prefix : IsPrefixOf journal []
   prefix = record { more = journal; is = refl }
 
-  group : (base : Base) → Among base (groups_at as_nodes scenario.groups journal) → IsGroupOf as_nodes words scenario journal base
-  group base among = record { open_slots = refl; valid = calm.valid; lawful = calm.lawful; stands = among }
-
-  few : (base : Base) → AreFew as_nodes scenario journal base
-  few base before more who r e view =
-      let timely : AreInTime (players words (births as_nodes scenario)) before = λ b row a same. calm.timely b row (a ++ more) (e ∙ (ap (λ l. l ++ more) same ∙ append_assoc b (row ∷ a) more)) in
-      let long = ap length e in
-      let sum = length-append before more in
-      let short = calm.short in
-      let left = few_law words scenario before base.core.id who r timely (omega (arith, long, sum, short)) view in
-      let low = left.0 in
-      (omega (arith, low), left.1)
-
   sent : AreSent words scenario journal []
-  sent base among = sent_law words scenario journal base (group base among) calm.timely (few base)
+  sent base among = sent_law words scenario journal base (calm_group words scenario journal calm base among) calm.timely (calm_slots words scenario journal calm few_law base)
 
   q : IsQuietPrefix words scenario journal []
   q = record { calm = calm; begins = prefix; quiet = refl; sent = sent }
@@ -56,7 +42,7 @@ module _ (all_bounded : ValidScenariosAreBounded) (few_law : SlotsAreLeft) (stan
   as_begun name node r e =
       let g : IsNamedGroup scenario journal name = named_there found_law words scenario journal [] calm prefix name (node, r, e) in
       let here : view_at (births as_nodes scenario) [] g.0.core.id node ≡ Some r = ap (λ n. view_at (births as_nodes scenario) [] n node) g.2 ∙ e in
-      elim (born_law words scenario journal g.0 (group g.0 g.1) node) [
+      elim (born_law words scenario journal g.0 (calm_group words scenario journal calm g.0 g.1) node) [
         | inl none ↦ absurd (none-some r (sym none ∙ here))
         | inr born ↦ (let same : Some r ≡ Some (born_replica slots_ahead node g.0) = sym here ∙ born.0 in (g.0, g.1, (let one : r ≡ born_replica slots_ahead node g.0 = cc in one)))
       ]
@@ -69,7 +55,7 @@ module _ (all_bounded : ValidScenariosAreBounded) (few_law : SlotsAreLeft) (stan
       let f = found_law words scenario journal [] calm prefix in
       let p = place_of all_bounded once_law agree_law words scenario [] calm.valid f.lawful f.homes r a in
       let is = as_begun (name_of r) p.0 r p.1 in
-      ap (λ (x : ReplicaState). x.group.core.gone) is.2 ∙ stand_law.stands as_nodes words scenario journal is.0 (group is.0 is.1)
+      ap (λ (x : ReplicaState). x.group.core.gone) is.2 ∙ stand_law.stands as_nodes words scenario journal is.0 (calm_group words scenario journal calm is.0 is.1)
 
   turns : GoInTurn (names_at (births as_nodes scenario) []) (all_replicas (births as_nodes scenario) []) (λ name. 0)
   turns name into went = absurd (none_went name into (all_replicas (births as_nodes scenario) []) none_gone went)

@@ -23,10 +23,11 @@ use Rattle.sc_live_journals.proofs.ChartsProofs.Lemmas.{names_grow, more_names}
 use Rattle.sc_live_plain.specs.Definitions.{replicas_after}
 use Rattle.sc_live_plain.proofs.Lemmas.{stage}
 use Rattle.sc_live_answers.specs.Definitions.{LawfulReplicasAreNamedOnce, IsCalmJournal, PrefixesAreFound, RestsAt, ViewsAgree}
-use Rattle.sc_live_answers.proofs.OrderDeliveries.{in_all, led_there, gone_leads}
+use Rattle.sc_live_answers.proofs.OrderDeliveries.{led_there, gone_leads}
 use Rattle.sc_live_answers.proofs.LeadersElsewhere.{any_found}
 use Rattle.sc_live_answers.proofs.Nodes.{node_replays}
 use Rattle.sc_live_answers.proofs.PlayerReplicas.{place_of}
+use Rattle.sc_live_answers.proofs.AllReplicas.{into_seats}
 
 -- ---- who was led
 
@@ -120,7 +121,7 @@ module _ (all_bounded : ValidScenariosAreBounded) (found_law : PrefixesAreFound)
   node_rests seat a node is =
       let f = found_law words scenario journal rows calm rests.prefix in
       Each-from IsAtRest node.replicas (λ r here. (
-      let p = place_of all_bounded once_law agree_law words scenario rows calm.valid f.lawful f.homes r (in_all all rows (name_of r) all seat r a (subst (λ (x : Player). Among r (chart_replicas x)) (sym is) here)) in
+      let p = place_of all_bounded once_law agree_law words scenario rows calm.valid f.lawful f.homes r (into_seats rows all seat r a (subst (λ (x : Player). Among r (chart_replicas x)) (sym is) here)) in
       rests.is.quiet.at_rest (name_of r) p.0 r (views (name_of r) p.0 ∙ p.1)))
 
   waits_none : (b : Bool) (client : ClientState) → IsAnswered b (route_of first) client → client.waiting ≡ None

@@ -1,5 +1,5 @@
 -- No row of a replica raises tokens while clients ask.
-use Rattle.std.proofs.Common.{◌≡◌, ℕ, ◌+◌, ◌≤◌, ◌&&◌, eqb, Bool, true, false, cond, List, [], ◌∷◌, ◌++◌, length, sum_by, Option, Some, None, inl, inr, refl, sym, ◌∙◌, ap, subst, arith}
+use Rattle.std.proofs.Common.{◌≡◌, ℕ, ◌+◌, ◌≤◌, ◌&&◌, eqb, Bool, true, false, cond, List, [], ◌∷◌, ◌++◌, length, sum_by, Option, Some, None, refl, sym, ◌∙◌, ap, subst, arith}
 use Rattle.std.proofs.lemmas.Bool.{eqb-true, and_parts}
 use Rattle.sc_base.specs.Definitions.{Each, client_actor, same_ballot, is_majority, is_member}
 use Rattle.sc_node_table.specs.Values.{Ballot, Draw, Op, Command, Call, Core, AnswerBody, Mail, MailBody, Request, Answer, Accept, Accepted, Learn, Chosen, NotYet, Flight}
@@ -8,12 +8,14 @@ use Rattle.sc_words.proofs.PaxosProofs.Lemmas.{Each-among, find_found}
 use Rattle.sc_group_table.specs.machine.Definitions.{applied}
 use Rattle.sc_node_table.specs.Definitions.{entered, executed_one, has_room, next_child, next_ready, ending, executed_ready, executed, pumped, ReplicaState, Place, Executed, childless, name_of, next, members, set_at, last_slot, forgotten, mailed, at_slot, with_slot, slots_ahead, leads, readied, vote_tallied, voted, accepted_row}
 use Rattle.sc_law_walks.proofs.Lemmas.{entered_next, cleared, either_way}
-use Rattle.sc_live_plain.specs.Definitions.{Frame, IsFrame, Requests, IsPlainCommand, IsPlainCall, IsPlainBody, IsPlainFlight, IsPlainReplica, IsPlainFollower, IsPlainVoter, IsPlainLeader, IsPlainAt, IsDue}
-use Rattle.sc_live_plain.proofs.Lemmas.{as_voter, learn_is, learnt_plain, learnt_follower, at_found, with_at, with_each, recorded_after, counted_call, call_is, leading_at, following_at, none_stops, IsServed, call_plain}
+use Rattle.sc_live_plain.specs.Definitions.{Frame, IsFrame, Requests, IsPlainCommand, IsPlainCall, IsPlainBody, IsPlainFlight, IsPlainReplica, IsPlainFollower, IsPlainLeader, IsPlainAt, IsDue}
+use Rattle.sc_live_plain.proofs.Lemmas.{learn_is, learnt_plain, learnt_follower, at_found, with_at, with_each, recorded_after, counted_call, call_is, leading_at, following_at, none_stops, IsServed, call_plain}
 use Rattle.sc_live_answers.specs.Definitions.{command_token, body_token, flight_tokens, ready_tokens, replica_tokens, place_tokens}
 use Rattle.sc_live_answers.proofs.CallEffects.{Goes, pumps, pump_kept, entry_goes, leaves_itself}
-use Rattle.sc_live_answers.proofs.AcceptAndLearnRows.{accept_takes}
+use Rattle.sc_live_plain.proofs.Lemmas.{accept_is}
+use Rattle.sc_live_plain.proofs.AcceptAndLearnRows.{accepted_state}
 use Rattle.sc_live_answers.proofs.PumpTokens.{IsFree, sent_token, others_token, answer_token, without_flight_tokens, taken_flight_tokens, with_voters_tokens, taken_slot_tokens, with_slot_tokens, pump_tokens, request_tokens}
+use Rattle.sc_live_answers.proofs.RequestRowEffects.{voter_at}
 use Rattle.sc_live_steps.proofs.CalmProofs.Lemmas.{ready_is}
 
 module _ (c : ℕ) (begun : Requests) (frame : Frame) (is : IsFrame frame) (first : ReplicaState) (free : IsFree first) (bound : ℕ) where
@@ -188,14 +190,10 @@ module _ (c : ℕ) (begun : Requests) (frame : Frame) (is : IsFrame frame) (me f
       omega (arith, most)
 
   by_accept : (group : Draw) (slot : ℕ) (command : Command) → IsPlainAt begun frame me r → is_member (frame.at slot) me ≡ true → next r ≤ slot → Stay (Accept group frame.ballot slot command)
-  unfolding mailed
+  unfolding mailed accepted_state
   by_accept group slot command k m low =
-      let same = ap (place_tokens c) (accept_takes frame is me r (voter k) from slot command low (none_stops begun frame is me r k)) in
+      let same = ap (place_tokens c) (accept_is frame is me r (voter_at begun frame is me r slot m k) from slot command low (none_stops begun frame is me r k)) in
       omega (arith, same)
-    where
-      voter : IsPlainAt begun frame me r → IsPlainVoter frame me r
-      voter (inl p) = as_voter begun frame is me r p.0
-      voter (inr left) = left.voter slot m
 
   by_learn : (group : Draw) (slot client seq : ℕ) (op : Op) → IsPlainReplica begun frame me r → IsPlainFollower r → IsPlainCall begun frame client seq op → slot ≡ next r → Stay (Learn group slot (Call client seq op))
   unfolding mailed

@@ -42,6 +42,9 @@ all_any (report ∷ reports) = (tt, all_any reports)
 same_least : (a b : Ballot) → b ≡ a → IsAtLeast a b
 same_least a b e = subst (IsAtLeast a) (sym e) (at_least_itself a)
 
+pub topped : (scenario : Scenario) (rows : Rows) (base : Base) (who : ℕ) (r : ReplicaState) → view_at (births as_nodes scenario) rows base.core.id who ≡ Some r → IsTopKept who r
+topped scenario rows base who r e = (replicas_kept (births as_nodes scenario) rows base.core.id who r (scenarios_kept_born scenario) e).0
+
 module _ (words : ℕ → ℕ → ℕ × ℕ) (at : Sets) (over : Ends) (by : Tellers) (scenario : Scenario) (rows : Rows) (seat : Seat Player) (event : Event OrderLine) (base : Base) (course : Course) (idle : JournalsKeepIdle) (wb : AreWellBorn (births as_nodes scenario))
     (one : HasOneLog at over by (births as_nodes scenario) (with_event rows seat event) base) (so : IsSentSo (births as_nodes scenario) (with_event rows seat event) base) (timely : AreInTime (players words (births as_nodes scenario)) (with_event rows seat event))
     (born : IsSeat (births as_nodes scenario) seat) (calm : IsCalmEvent (players words (births as_nodes scenario)) rows seat.who event) (was : IsWellLed at over by words (births as_nodes scenario) rows base course) (later : Course)
@@ -52,12 +55,9 @@ module _ (words : ℕ → ℕ → ℕ × ℕ) (at : Sets) (over : Ends) (by : Te
   abbrev name : Draw
   name = base.core.id
 
-  topped : (r : ReplicaState) → view_at all rows base.core.id seat.who ≡ Some r → IsTopKept seat.who r
-  topped r e = (replicas_kept all rows name seat.who r (scenarios_kept_born scenario) e).0
-
   -- one that leads has seen its own ballot last
   led_top : (r : ReplicaState) → view_at all rows base.core.id seat.who ≡ Some r → r.running ≡ true → r.top ≡ course.ballot
-  led_top r e runs = ((topped r e).2 runs).0 ∙ (was.followed.given.gives seat.who r e runs).0.led.may.ballot
+  led_top r e runs = ((topped scenario rows base seat.who r e).2 runs).0 ∙ (was.followed.given.gives seat.who r e runs).0.led.may.ballot
 
   -- ---- a leader that runs no longer after the row
 
@@ -149,7 +149,7 @@ module _ (words : ℕ → ℕ → ℕ × ℕ) (at : Sets) (over : Ends) (by : Te
     shows : (b : MailBody) → mail.body ≡ b → Shown
     shows (Accept g ballot slot command) e =
         let f : IsFit (next r) r.acceptor.promised (Asks ballot slot) = fits (Asks ballot slot) (ap (mark_of name mail.from) (e ∙ ap (λ n. Accept n ballot slot command) (named_as g (ap group_of_mail e))) ∙ same_mark name (Asks ballot slot)) in
-        let low : below r.top ballot ≡ false = subst (IsAtLeast r.top) (sym f.2) (topped r view_r).1 in
+        let low : below r.top ballot ≡ false = subst (IsAtLeast r.top) (sym f.2) (topped scenario rows base seat.who r view_r).1 in
         let least = subst (IsAtLeast course.ballot) (sym f.2) (most words at over by scenario rows seat event base course idle wb one so timely born calm was number mail node r t) in
         ShowsNone (same_least r.top after.top (ap (λ b. (mailed mail.from b (r, [])).0.0.top) e ∙ (asked_low All_ (λ x. x ≡ r.top) mail.from g ballot slot command r (goes_on_ ballot least) low tt (stands (λ x. x ≡ r.top) refl)).1))
     shows (Prepare g ballot from_slot) e =

@@ -28,9 +28,9 @@ use Rattle.sc_live_journals.proofs.MailProofs.Lemmas.{replicas_last}
 use Rattle.sc_live_answers.specs.Definitions.{top_in, IsSeen, AsksSeen, RefusesSeen}
 use Rattle.sc_live_answers.specs.SeenBallots.{AreSeen}
 use Rattle.sc_live_answers.proofs.Lists.{pledged_rises}
-use Rattle.sc_live_answers.proofs.RefusalMail.{IsRefusal, AreSaid}
+use Rattle.sc_live_answers.proofs.Refusals.{IsRefusal, AreSaid}
 use Rattle.sc_live_answers.proofs.PlayerRefusals.{MayRefuse, input_said}
-use Rattle.sc_live_answers.proofs.RefusalsInRows.{Refuses}
+use Rattle.sc_live_journals.proofs.RowsProofs.OwnGroupMail.{Refuses}
 use Rattle.std.proofs.lemmas.Option.{same_Some}
 
 -- a refusal that an event delivers to a replica of the group names no later ballot than that saw

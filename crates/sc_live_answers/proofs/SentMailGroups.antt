@@ -1,7 +1,7 @@
 -- What is sent by a delivery while an order is under way is of groups of the journal.
 use Rattle.std.proofs.Common.{◌≡◌, ◌⊎◌, ℕ, zero, suc, Bool, true, false, eqb, List, [], drop, Option, Some, None, inl, inr, refl, sym, ◌∙◌, ap, subst}
 use Rattle.std.specs.Option.{option_map}
-use Rattle.std.proofs.lemmas.Bool.{cases_Bool, cond-true, cond-false}
+use Rattle.std.proofs.lemmas.Bool.{cases_Bool, cond-false}
 use Rattle.std.proofs.lemmas.Option.{none-some}
 use Rattle.sc_base.specs.Definitions.{Among, Each, same_draw}
 use Rattle.sc_node_table.specs.Values.{Draw, OrderLine, Refused, Mail, Node, Client, Seat, Deliver, Got, Row}
@@ -15,7 +15,7 @@ use Rattle.sc_live_orderly.proofs.Lemmas.{in_time_before, in_time_tidy, last_in_
 use Rattle.sc_words.proofs.PaxosProofs.Lemmas.{Each-among, Each-append, Each-from}
 use Rattle.sc_law_entries.proofs.NamesProofs.Lemmas.{Each-drop}
 use Rattle.sc_scenario.specs.declared.scenario.scenarios.Scenario.{Scenario}
-use Rattle.sc_node_table.specs.Definitions.{NodeState, replica_of, with_replica, with_children, group_of_mail, may_come, unknown, taken_by, routed, on_mail, group_of_order, ordered_of, ReplicaState, Executed, name_of, result_sent, ordered_row, mailed}
+use Rattle.sc_node_table.specs.Definitions.{NodeState, replica_of, with_replica, with_children, group_of_mail, may_come, unknown, routed, on_mail, group_of_order, ordered_of, ReplicaState, Executed, name_of, result_sent, ordered_row, mailed}
 use Rattle.sc_law_walks.proofs.Lemmas.{either_way}
 use Rattle.sc_meaning.specs.sound.Definitions.{Player, player_table, births, as_nodes}
 use Rattle.sc_live_steps.specs.calm.Definitions.{players, Rows}
@@ -27,6 +27,7 @@ use Rattle.sc_live_journals.proofs.ScenesProofs.Lemmas.{client_leaves, got_nothi
 use Rattle.sc_live_answers.specs.Definitions.{IsNamedGroup, IsUnanswered, IsOfJournal}
 use Rattle.sc_live_answers.proofs.OrderDeliveries.{there_or}
 use Rattle.sc_live_answers.proofs.YoungGroupRows.{IsNoneFor, sends_none}
+use Rattle.sc_live_answers.proofs.TakenMail.{mail_taken}
 pub use Rattle.sc_live_journals.proofs.ScenesProofs.UntouchedGroups.{each_filter}
 
 -- ---- what is sent of other groups
@@ -56,17 +57,12 @@ module _ (words : ℕ → ℕ → ℕ × ℕ) (births : List (Seat Player)) (row
         ne : name ≡ group → ⊥
         ne i = other (named ∙ ap Some (sym i))
 
-        takes_by : (o : Option ReplicaState) → replica_of group node.replicas ≡ o → on_mail mail.from mail.body node ≡ taken_by o group mail.from mail.body node
-        takes_by o here =
-            cond-true (may_come mail.from mail.body) (routed (group_of_mail mail.body) mail.from mail.body node) (node, []) comes
-            ∙ (ap (λ g. routed g mail.from mail.body node) named ∙ ap (λ x. taken_by x group mail.from mail.body node) here)
-
         by_replica : (o : Option ReplicaState) → replica_of group node.replicas ≡ o → Silent
-        by_replica None here = says (unknown mail.from mail.body node) (takes_by None here) (unknown_apart name group ne node mail.from mail.body named).1
+        by_replica None here = says (unknown mail.from mail.body node) (mail_taken mail.from mail.body node group named comes None here) (unknown_apart name group ne node mail.from mail.body named).1
         by_replica (Some r) here =
             let own : name_of r ≡ group = found_name group node.replicas r here in
             let made : Executed = mailed mail.from mail.body (r, []) in
-            says (with_children made.1 (record node { replicas = with_replica group made.0.0 node.replicas }), made.0.1) (takes_by (Some r) here)
+            says (with_children made.1 (record node { replicas = with_replica group made.0.0 node.replicas }), made.0.1) (mail_taken mail.from mail.body node group named comes (Some r) here)
             (quiet_errands (name_of r) name made.0.1 (λ i. ne (sym i ∙ own)) (mailed_keeps (name_of r) mail.from mail.body (r, []) (refl, tt)).1)
 
       by_mail : (b : Bool) → may_come mail.from mail.body ≡ b → (o : Option Draw) → group_of_mail mail.body ≡ o → Silent

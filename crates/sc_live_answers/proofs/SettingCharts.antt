@@ -1,27 +1,24 @@
 -- The chart of some rows counts as the setting does that the last quiet journal before them gives.
-use Rattle.std.proofs.Common.{◌≡◌, ℕ, zero, suc, ◌+◌, ◌≤◌, cond, true, false, true≢false, Bool, List, [], ◌∷◌, ◌-◌, length, map, take, min, Option, Some, None, inl, inr, refl, sym, ◌∙◌, ap, subst, arith}
-use Rattle.std.specs.Prelude.{filter, is_some, ◌&&◌, ◌||◌, not}
-use Rattle.std.proofs.lemmas.Bool.{cases_Bool}
+use Rattle.std.proofs.Common.{◌≡◌, ℕ, zero, suc, ◌+◌, ◌≤◌, cond, true, false, true≢false, Bool, List, ◌∷◌, ◌-◌, length, take, min, Option, Some, None, inl, inr, refl, sym, ◌∙◌, ap, subst, arith}
+use Rattle.std.specs.Prelude.{filter, is_some, ◌||◌, not}
 use Rattle.std.proofs.lemmas.List.{take_all}
-use Rattle.sc_base.proofs.Lemmas.{draw_is, same_name}
-use Rattle.sc_base.specs.Definitions.{Among, Each, same_draw}
-use Rattle.sc_node_table.specs.Values.{Draw, Base, Route, OrderLine, Mail, Client, Seat, Row}
+use Rattle.sc_base.specs.Definitions.{Among, Each}
+use Rattle.sc_node_table.specs.Values.{Draw, Base, Route, OrderLine, Mail, Seat, Row}
 use Rattle.sc_actor.specs.Definitions.{value, is_quiet}
-use Rattle.sc_node_table.specs.Definitions.{replica_of, ReplicaState, name_of, numbers_from}
-use Rattle.sc_paxos_law.proofs.Lemmas.{Among-left, from_map}
+use Rattle.sc_node_table.specs.Definitions.{replica_of, ReplicaState, name_of}
 use Rattle.sc_words.proofs.PaxosProofs.Lemmas.{Among-filter, Each-among, Each-from, Each-passes}
 use Rattle.sc_scenario.specs.declared.scenario.scenarios.Scenario.{Scenario}
 use Rattle.sc_scenario.specs.scenario.Definitions.{IsValid, ValidScenariosAreBounded}
-use Rattle.sc_meaning.specs.sound.Definitions.{Player, player_table, node_seat, client_seat, client_seats, route_of, as_nodes, births, Lawful}
+use Rattle.sc_meaning.specs.sound.Definitions.{Player, player_table, node_seat, as_nodes, births, Lawful}
 use Rattle.sc_live_steps.specs.calm.Definitions.{players, HasReplica, StandsQuiet, leads, is_leading, is_led}
-use Rattle.sc_live_journals.specs.charts.Definitions.{replicas_of as chart_replicas, all_replicas, went_in, ends_by, way_by, names_at, chart_at, reach_in, GoInTurn, EndsFall, LedStandOnce, quiet_upto, quiet_prefix}
+use Rattle.sc_live_journals.specs.charts.Definitions.{all_replicas, went_in, ends_by, way_by, names_at, chart_at, reach_in, GoInTurn, EndsFall, LedStandOnce, quiet_upto, quiet_prefix}
 use Rattle.sc_live_journals.proofs.ChartsProofs.Lemmas.{led_by}
 use Rattle.sc_live_plain.specs.Definitions.{replicas_after, setting_at, AreFramesOf, IsQuietJournal, replicas_of, HasGoneTo, Frame}
-use Rattle.sc_live_plain.proofs.Lemmas.{in_numbers, to_numbers, map_among, among_last}
 use Rattle.sc_live_answers.specs.Definitions.{CountsAs, LawfulReplicasAreNamedOnce, GoneAgree, QuietChartsCount, AreAtNodes, AreReachable}
-use Rattle.sc_live_answers.proofs.Frames.{nodes_numbered, seen, view}
-use Rattle.sc_live_answers.proofs.ChartSequence.{split_among}
-use Rattle.sc_live_answers.proofs.GoneGroupsInPrefixes.{once_among, went_none}
+use Rattle.sc_live_answers.proofs.Frames.{nodes_numbered}
+use Rattle.sc_live_answers.proofs.GoneGroupsInPrefixes.{once_among, went_none, went_found, went_some}
+use Rattle.sc_live_answers.proofs.OrderDeliveries.{gone_leads}
+use Rattle.sc_live_answers.proofs.QuietViews.{node_there, all_seen, seen_all}
 
 -- ---- lists
 
@@ -32,26 +29,13 @@ left_out test group names none = Each-from (λ other. other ≡ group → ⊥) (
     passed : (xs : List Draw) (x : Draw) → Among x (filter test xs) → test x ≡ true
     passed xs x a = Each-among (λ y. test y ≡ true) (filter test xs) x (Each-passes test xs) a
 
-both : (x y : Bool) → (x && y) ≡ true → (x ≡ true) × (y ≡ true)
-both true y e = (refl, e)
-both false y e = absurd (true≢false (sym e))
-
 -- one went where each of its replicas that is gone says
-went_some : (group : Draw) (into : Route) (rs : List ReplicaState) (r : ReplicaState) → Among r rs → name_of r ≡ group → r.group.core.gone ≡ Some into
+went_all : (group : Draw) (into : Route) (rs : List ReplicaState) (r : ReplicaState) → Among r rs → name_of r ≡ group → r.group.core.gone ≡ Some into
     → ((x : ReplicaState) (elsewhere : Route) → Among x rs → name_of x ≡ group → x.group.core.gone ≡ Some elsewhere → elsewhere ≡ into) → went_in group rs ≡ Some into
-went_some group into [] r a named went agree = absurd a
-went_some group into (x ∷ rs) r a named went agree = elim (cases_Bool (same_draw (name_of x) group && is_some x.group.core.gone)) [
-  | inl is ↦ ap (λ b. cond b x.group.core.gone (went_in group rs)) is ∙ (let b = both (same_draw (name_of x) group) (is_some x.group.core.gone) is in by b.0 (x.group.core.gone) refl b.1)
-  | inr other ↦ ap (λ b. cond b x.group.core.gone (went_in group rs)) other ∙ went_some group into rs r (there a other) named went (λ y elsewhere b. agree y elsewhere (inr b))
-]
-  where
-    by : same_draw (name_of x) group ≡ true → (o : Option Route) → x.group.core.gone ≡ o → is_some x.group.core.gone ≡ true → x.group.core.gone ≡ Some into
-    by same None e some = absurd (true≢false (sym some ∙ ap is_some e))
-    by same (Some elsewhere) e some = e ∙ ap Some (agree x elsewhere (inl refl) (draw_is (name_of x) group same) e)
-
-    there : Among r (x ∷ rs) → (same_draw (name_of x) group && is_some x.group.core.gone) ≡ false → Among r rs
-    there (inr more) other = more
-    there (inl e) other = absurd (true≢false (sym (ap (λ b. b && is_some x.group.core.gone) (same_name (name_of x) group (ap name_of e ∙ named)) ∙ ap is_some (ap (λ (y : ReplicaState). y.group.core.gone) e ∙ went)) ∙ other))
+went_all group into rs r a named went agree =
+    let some = went_some group into rs r a named went in
+    let f = went_found group some.0 rs some.1 in
+    some.1 ∙ ap Some (agree f.0 some.0 f.1 f.2 f.3)
 
 -- ---- the longest way, and no ends
 
@@ -86,56 +70,7 @@ module _ (all_bounded : ValidScenariosAreBounded) (named : LawfulReplicasAreName
   abbrev seat_of : ℕ → Seat Player
   seat_of me = node_seat as_nodes scenario.groups scenario.policy me
 
-  node_there : (me : ℕ) → 1 ≤ me → me ≤ scenario.nodes → Among (seat_of me) seats
-  node_there me low high = Among-left (seat_of me) (map seat_of (numbers_from 1 scenario.nodes)) (client_seats scenario.groups scenario.clients) (map_among seat_of (numbers_from 1 scenario.nodes) me (to_numbers 1 scenario.nodes me low (omega (arith, high))))
-
   -- ---- replicas, seat by seat
-
-  from_seats : (ss : List (Seat Player)) (r : ReplicaState) → Among r (all_replicas ss rows) → (seat : Seat Player) × Among seat ss × Among r (chart_replicas (value player_table seat rows))
-  from_seats [] r a = absurd a
-  from_seats (seat ∷ ss) r a = elim (split_among (chart_replicas (value player_table seat rows)) (all_replicas ss rows) r a) [
-    | inl here ↦ (seat, inl refl, here)
-    | inr more ↦ (let f = from_seats ss r more in (f.0, inr f.1, f.2))
-  ]
-
-  into_seats : (ss : List (Seat Player)) (seat : Seat Player) (r : ReplicaState) → Among seat ss → Among r (chart_replicas (value player_table seat rows)) → Among r (all_replicas ss rows)
-  into_seats [] seat r a here = absurd a
-  into_seats (s ∷ ss) seat r (inl e) here = Among-left r (chart_replicas (value player_table s rows)) (all_replicas ss rows) (subst (λ x. Among r (chart_replicas (value player_table x rows))) (sym e) here)
-  into_seats (s ∷ ss) seat r (inr more) here = among_last (chart_replicas (value player_table s rows)) (all_replicas ss rows) r (into_seats ss seat r more here)
-
-  -- a client has none
-  no_client : (r : ReplicaState) (bases : List Base) → bases ≡ first ∷ others → (seat : Seat Player) → Among seat (client_seats bases scenario.clients) → Among r (chart_replicas (value player_table seat rows)) → ⊥
-  no_client r [] e seat a here = cc
-  no_client r (base ∷ bases) e seat a here =
-      let same : base ≡ first = cc in
-      let f = from_map (client_seat (route_of base)) scenario.clients seat a in
-      let p = quiet.players f.0 f.1 in
-      let is : value player_table seat rows ≡ Client p.0 = ap (λ x. value player_table x rows) (sym f.2) ∙ (ap (λ (x : Base). value player_table (client_seat (route_of x) f.0) rows) same ∙ p.1) in
-      subst (λ player. Among r (chart_replicas player)) is here
-
-  -- each replica is one that is seen of its group
-  all_seen : (r : ReplicaState) → Among r all → (me : ℕ) × (at (name_of r) me ≡ Some r)
-  all_seen r a =
-      let f = from_seats seats r a in
-      elim (split_among (map seat_of (numbers_from 1 scenario.nodes)) (client_seats scenario.groups scenario.clients) f.0 f.1) [
-        | inl node ↦ (
-            let m = from_map seat_of (numbers_from 1 scenario.nodes) f.0 node in
-            let within = in_numbers 1 scenario.nodes m.0 m.1 in
-            let low = within.0 in
-            let high = within.1 in
-            let n = quiet.nodes m.0 low (omega (arith, high)) in
-            let here = subst (λ player. Among r (chart_replicas player)) (ap (λ x. value player_table x rows) (sym m.2) ∙ n.1) f.2 in
-            (m.0, view named words scenario first rows (nodes_numbered all_bounded scenario valid) valid lawful quiet homes m.0 r low (omega (arith, high)) (subst (λ player. Among r (replicas_of player)) (sym n.1) here)))
-        | inr client ↦ absurd (no_client r scenario.groups groups f.0 client f.2)
-      ]
-
-  -- each replica that is seen is among all
-  seen_all : (group : Draw) (me : ℕ) (r : ReplicaState) → at group me ≡ Some r → Among r all
-  seen_all group me r e =
-      let home = homes group me (r, e) in
-      let n = quiet.nodes me home.0 home.1 in
-      let here = subst (λ player. Among r (replicas_of player)) n.1 (seen named words scenario first rows (nodes_numbered all_bounded scenario valid) valid lawful quiet homes group me r e) in
-      into_seats seats (seat_of me) r (node_there me home.0 home.1) (subst (λ player. Among r (chart_replicas player)) (sym n.1) here)
 
   -- ---- who leads
 
@@ -144,17 +79,13 @@ module _ (all_bounded : ValidScenariosAreBounded) (named : LawfulReplicasAreName
       let home = homes group me (r, e) in
       let n = quiet.nodes me home.0 home.1 in
       let found : replica_of group (replicas_of (value player_table (seat_of me) rows)) ≡ Some r = sym (ap (λ b. cond b (replica_of group (replicas_of (value player_table (seat_of me) rows))) None) (nodes_numbered all_bounded scenario valid me home.0 home.1)) ∙ e in
-      led_by seats rows group (seat_of me) (node_there me home.0 home.1) (ap (leads group) n.1 ∙ (ap is_leading (sym (ap (λ player. replica_of group (replicas_of player)) n.1) ∙ found) ∙ leading))
+      led_by seats rows group (seat_of me) (node_there all_bounded named words scenario first others rows valid groups lawful quiet homes me home.0 home.1) (ap (leads group) n.1 ∙ (ap is_leading (sym (ap (λ player. replica_of group (replicas_of player)) n.1) ∙ found) ∙ leading))
 
   led : (group : Draw) (node : ℕ) → HasReplica at group node → is_led seats rows group ≡ true
   led group node has = elim (quiet.quiet.groups group node has) [
     | inl q ↦ led_at group q.lead.me q.lead q.newest.is_there (ap (λ b. b || is_some q.lead.group.core.gone) q.leads.running)
     | inr g ↦ led_at group g.last.me g.last g.newest.is_there (gone_leads g.last.running g.last.group.core.gone g.into g.went)
   ]
-    where
-      gone_leads : (b : Bool) (o : Option Route) (into : Route) → o ≡ Some into → (b || is_some o) ≡ true
-      gone_leads true o into e = refl
-      gone_leads false o into e = ap is_some e
 
   upto_low : (n : ℕ) → quiet_upto (players words seats) later n ≤ n
   upto_low zero = omega arith
@@ -170,7 +101,7 @@ module _ (all_bounded : ValidScenariosAreBounded) (named : LawfulReplicasAreName
   frame_named frame a = (let f = are.are frame a in (f.0, f.1, ap (λ (x : Frame). x.core.id) (sym f.2) ∙ (quiet.kept f.0 f.1.lead.me f.1.lead f.1.newest.is_there).name_is))
 
   stands_none : (group : Draw) (q : StandsQuiet at group) → went_in group all ≡ None
-  stands_none group q = went_none group all (λ r a same. (let v = all_seen r a in reach.stand group q v.0 r (subst (λ n. at n v.0 ≡ Some r) same v.1)))
+  stands_none group q = went_none group all (λ r a same. (let v = all_seen all_bounded named words scenario first others rows valid groups lawful quiet homes r a in reach.stand group q v.0 r (subst (λ n. at n v.0 ≡ Some r) same v.1)))
 
   here_named : (group : Draw) (node : ℕ) → HasReplica at group node → Among group names
   here_named group node has =
@@ -178,8 +109,8 @@ module _ (all_bounded : ValidScenariosAreBounded) (named : LawfulReplicasAreName
 
   went_is : (group : Draw) (into : Route) → HasGoneTo (setting_at at frames (chart_at far sent (players words seats) later).ways) group into → went_in group all ≡ Some into
   went_is group into went =
-      went_some group into all went.r (seen_all group went.node went.r went.is_there) (quiet.kept group went.node went.r went.is_there).name_is went.went
-      (λ x elsewhere a same e. (let v = all_seen x a in agree group v.0 went.node x went.r elsewhere into (subst (λ n. at n v.0 ≡ Some x) same v.1) went.is_there e went.went))
+      went_all group into all went.r (seen_all all_bounded named words scenario first others rows valid groups lawful quiet homes group went.node went.r went.is_there) (quiet.kept group went.node went.r went.is_there).name_is went.went
+      (λ x elsewhere a same e. (let v = all_seen all_bounded named words scenario first others rows valid groups lawful quiet homes x a in agree group v.0 went.node x went.r elsewhere into (subst (λ n. at n v.0 ≡ Some x) same v.1) went.is_there e went.went))
 
   counts : CountsAs (setting_at at frames (chart_at far sent (players words seats) later).ways) (chart_at far sent (players words seats) later)
   counts = record {

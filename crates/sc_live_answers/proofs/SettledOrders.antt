@@ -1,20 +1,18 @@
 -- In a whole calm journal in which no line was cut off the result of each order is reported.
-use Rattle.std.proofs.Common.{◌≡◌, ℕ, ◌+◌, ◌^◌, ◌≤◌, false, List, [], ◌∷◌, ◌++◌, length, map, inl, inr, refl, sym, ◌∙◌, ap, subst, arith, length-append}
+use Rattle.std.proofs.Common.{◌≡◌, false, List, [], ◌∷◌, ◌++◌, length, map, inl, inr, refl, sym, ◌∙◌, ap, subst, arith, length-append}
 use Rattle.std.proofs.lemmas.List.{map-append}
-use Rattle.sc_base.specs.Definitions.{Among, Each}
-use Rattle.sc_node_table.specs.Values.{OrderLine, Mail, Seat, Row, Line}
+use Rattle.sc_base.specs.Definitions.{Among}
+use Rattle.sc_node_table.specs.Values.{OrderLine, Mail}
 use Rattle.sc_actor.specs.declared.schedules.Line.TheVariants as line
 use Rattle.sc_actor.specs.Definitions.{has_crashed, System, IsLawful, unsettled}
 use Rattle.sc_actor.proofs.Lemmas.{lawful-prefix}
 use Rattle.sc_words.proofs.PaxosProofs.Lemmas.{Each-among, Each-from_All}
 use Rattle.sc_live_orderly.proofs.Lemmas.{in_time_tidy, settled_in_time, uncut_before}
 use Rattle.sc_scenario.specs.scenario.Definitions.{ValidScenariosAreBounded, IsBoundedLine}
-use Rattle.sc_scenario.specs.declared.scenario.scenarios.Scenario.{Scenario}
 use Rattle.sc_scenario.specs.declared.scenario.scenarios.SchedLine.{SchedLine}
 use Rattle.sc_scenario.specs.declared.scenario.scenarios.SchedLine.TheVariants.{Told}
 use Rattle.sc_meaning.specs.sound.Definitions.{Player, node_seat, births, line_of, schedule, system_of, as_nodes}
 use Rattle.sc_live_steps.specs.calm.Definitions.{Rows}
-use Rattle.sc_live_plain.specs.Definitions.{CalmLinesAreSpaced}
 use Rattle.sc_live_plain.proofs.Lemmas.{first_delivery, many_line, calm_lines_are_spaced}
 use Rattle.sc_live_answers.specs.Definitions.{IsReported, SettledJournalsReport, SettledOrdersAreReported}
 use Rattle.sc_live_answers.proofs.ErrandReceivers.{node_seated}

@@ -13,6 +13,10 @@ use Rattle.sc_live_journals.specs.logs.Definitions.{logged_sets, IsGroupOf, HasR
 use Rattle.sc_live_journals.specs.groups.Definitions.{Ends, IsOfLog, RestsBy, IsLogsState, IsLogOf, IsRowOf, Delivers}
 use Rattle.sc_live_answers.specs.Definitions.{over_at, GroupsBeginStanding, EndsAreLogged, ChildrenAreBegun, MembersMoveOneWay, HasLeaders, LedLogsAreOne}
 
+-- a prefix of a prefix is one of the whole
+pub whole_split : (journal prefix rest : Rows) → journal ≡ prefix ++ rest → (rows more : Rows) → prefix ≡ rows ++ more → journal ≡ rows ++ (more ++ rest)
+whole_split journal prefix rest split rows more e = split ∙ (ap (λ rs. rs ++ rest) e ∙ append_assoc rows more rest)
+
 module _ (rosters : SlotsHaveRosters) (views : ViewsAreReplicas) (logged : ReplicasAreLogged) (commands : CommandsComeNext) (states : StatesAreLogged) (nodes : MembersAreNodes) (begin : GroupsBeginStanding) (ends : EndsAreLogged) (children : ChildrenAreBegun) (moves : MembersMoveOneWay) where
   module _ (ahead : Ahead) (words : ℕ → ℕ → ℕ × ℕ) (by : Tellers) (scenario : Scenario) (journal prefix rest : Rows) (base : Base) (group : IsGroupOf ahead words scenario journal base) (split : journal ≡ prefix ++ rest) (has : HasLeaders ahead by scenario journal prefix base) where
     abbrev at : Sets
@@ -21,13 +25,9 @@ module _ (rosters : SlotsHaveRosters) (views : ViewsAreReplicas) (logged : Repli
     abbrev over : Ends
     over = over_at ahead base journal
 
-    -- what begins the first rows begins the journal
-    whole : (rows more : Rows) → prefix ≡ rows ++ more → journal ≡ rows ++ (more ++ rest)
-    whole rows more e = split ∙ (ap (λ rs. rs ++ rest) e ∙ append_assoc rows more rest)
-
     -- so does what is before a row of them
     before : (rows : Rows) (seat : Seat Player) (event : Event OrderLine) → (row : IsRowOf prefix rows seat event) → journal ≡ rows ++ ((row_of player_table seat rows event ∷ row.more) ++ rest)
-    before rows seat event row = whole rows (row_of player_table seat rows event ∷ row.more) (row.is ∙ append_assoc rows (row_of player_table seat rows event ∷ []) row.more)
+    before rows seat event row = whole_split journal prefix rest split rows (row_of player_table seat rows event ∷ row.more) (row.is ∙ append_assoc rows (row_of player_table seat rows event ∷ []) row.more)
 
     -- a replica that is seen is one of a node
     record Seen (rows : Rows) (r : ReplicaState) : Type 0 where
@@ -47,7 +47,7 @@ module _ (rosters : SlotsHaveRosters) (views : ViewsAreReplicas) (logged : Repli
 
     state_is : (rows more : Rows) (who : ℕ) (r : ReplicaState) → prefix ≡ rows ++ more → view_at (births ahead scenario) rows base.core.id who ≡ Some r → IsOfLog at over r
     state_is rows more who r e view =
-        let s = seen rows (more ++ rest) who r (whole rows more e) view in
+        let s = seen rows (more ++ rest) who r (whole_split journal prefix rest split rows more e) view in
         let k = logged ahead words scenario journal base group rows s.seat s.node r s.is in
         record { members_are = k.members; opens = k.opens; many = k.many; ends = ends.replicas ahead words scenario journal base group rows s.seat s.node r s.is }
 

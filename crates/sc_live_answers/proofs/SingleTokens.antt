@@ -5,7 +5,7 @@ use Rattle.std.proofs.lemmas.List.Sums.{sum_by-append, sum_by-cons}
 use Rattle.sc_base.specs.Definitions.{Among, client_actor, same_draw, is_member}
 use Rattle.sc_node_table.specs.Values.{Draw, Op, Command, Call, Base, OrderLine, AnswerBody, Mail, MailBody, Request, Answer, Prepare, Accept, Accepted, Learn, Node, Client, Flight, Seat, Row}
 use Rattle.sc_words.proofs.PaxosProofs.Lemmas.{find_found}
-use Rattle.sc_actor.specs.Definitions.{mails, copies, numbered, value, System, has_started, waiting, kth}
+use Rattle.sc_actor.specs.Definitions.{mails, copies, numbered, value, System, waiting, kth}
 use Rattle.sc_client_table.specs.table.Definitions.{Client as ClientState}
 use Rattle.sc_node_table.specs.Definitions.{replica_of, is_node, ReplicaState, name_of, numbers_from, slots_ahead}
 use Rattle.sc_scenario.specs.declared.scenario.scenarios.Asks.{Asks}
@@ -15,10 +15,10 @@ use Rattle.sc_meaning.specs.sound.Definitions.{Player, player_table, node_seat, 
 use Rattle.sc_live_orderly.specs.Definitions.{IsTidy, IsOrderly, rest, mail_with, is_born, under_way, owed}
 use Rattle.sc_live_orderly.proofs.Lemmas.{TakesFirst, is_born-from, seat_found}
 use Rattle.sc_paxos_law.proofs.Lemmas.{Among-right}
-use Rattle.sc_live_plain.specs.Definitions.{Frame, Requests, IsPlainBody, IsAsking, AreFarFromLast, AreSeated, NobodyWaits, IsLinkedSetting, IsCalmClient, Setting, IsSetting, IsAsideBody, IsCalmMail, IsWaiting, IsBegun}
+use Rattle.sc_live_plain.specs.Definitions.{Frame, Requests, IsPlainBody, IsAsking, AreFarFromLast, AreSeated, NobodyWaits, IsLinkedSetting, Setting, IsSetting, IsAsideBody, IsCalmMail, IsWaiting, IsBegun}
 use Rattle.sc_live_steps.specs.calm.Definitions.{waiting_one}
 use Rattle.sc_live_plain.proofs.RequestPhaseClients as clients_of
-use Rattle.sc_live_plain.proofs.Lemmas.{AreSought, IsSought, sought_row, IsStage, stage, node_born, node_number, client_number, one_of_sum, Journal, replica_is, waiting_home, asking, IsHeld, some_is, map_among, client_is, mail_of}
+use Rattle.sc_live_plain.proofs.Lemmas.{AreSought, IsSought, sought_row, IsStage, stage, node_born, node_number, client_number, one_of_sum, Journal, replica_is, asking, IsHeld, some_is, map_among, client_is, mail_of, asked_node}
 use Rattle.sc_live_answers.specs.Definitions.{IsAnswerTo, AnswersAreExpected, command_token, body_token, mail_token, replica_tokens, player_token, token_owing}
 use Rattle.sc_live_answers.proofs.RequestLineClients.{line_keeps}
 use Rattle.sc_live_answers.proofs.JournalTokens.{falls}
@@ -71,14 +71,6 @@ module _ (words : ℕ → ℕ → ℕ × ℕ) (scenario : Scenario) (begins : Is
   abbrev nseat : ℕ → Seat Player
   nseat me = node_seat as_nodes scenario.groups scenario.policy me
 
-  -- a node that was asked is one
-  asked_node : (rows : Journal) → IsAsking words scenario set begins.first rows → (asks : Asks) (client : ClientState) → Among asks scenario.clients → value player_table (client_seat (route_of begins.first) asks) rows ≡ Client client → (w : IsWaiting client)
-      → (1 ≤ w.target) × (w.target ≤ scenario.nodes)
-  asked_node rows j asks client a e w =
-      let c = j.clients asks a in
-      let same : c.client ≡ client = client_is (sym c.is ∙ e) in
-      seated.homes w.group w.target (waiting_home set asks (has_started rows (client_actor asks.client)) client (subst (λ (x : ClientState). IsCalmClient set asks (has_started rows (client_actor asks.client)) x) same c.calm) w)
-
   abbrev Keeps : ℕ → Journal → Type 0
   Keeps who rows = AreSought words scenario begins set is linked rows × (owed (system_of as_nodes words scenario) (token_owing who) rows ≤ 1)
 
@@ -86,7 +78,7 @@ module _ (words : ℕ → ℕ → ℕ × ℕ) (scenario : Scenario) (begins : Is
       → AreSought words scenario begins set is linked rows → AreSought words scenario begins set is linked (rows ++ row ∷ [])
   sought_on rows t j room row o h =
       let then_ = clients_of.asking_row words scenario begins set is linked rows t j room row o in
-      sought_row words scenario begins set is linked rows t j h room row o (λ asks client a v w. (let n = asked_node (rows ++ row ∷ []) then_ asks client a v w in node_number words scenario begins w.target n.0 n.1))
+      sought_row words scenario begins set is linked rows t j h room row o (λ asks client a v w. (let n = asked_node words scenario begins set is linked seated (rows ++ row ∷ []) then_ asks client a v w in node_number words scenario begins w.target n.0 n.1))
 
   keeps : (who : ℕ) (rows : Journal) (t : IsTidy rows) (j : IsAsking words scenario set begins.first rows) (room : AreFarFromLast scenario set rows) (row : Row Mail OrderLine) → IsOrderly (system_of as_nodes words scenario) rows row → Keeps who rows → Keeps who (rows ++ row ∷ [])
   keeps who rows t j room row o h =
@@ -182,7 +174,7 @@ module _ (words : ℕ → ℕ → ℕ × ℕ) (scenario : Scenario) (begins : Is
 
     by_sought : (client : ClientState) → value player_table (client_seat (route_of begins.first) asks) rows ≡ Client client → client.me ≡ asks.client → (w : IsWaiting client) → IsSought words scenario begins set is linked rows client w.group w.target w.seq → IsAnswerTo client first.mail
     by_sought client v me w (inl x) =
-        let n = asked_node rows j asks client a v w in
+        let n = asked_node words scenario begins set is linked seated rows j asks client a v w in
         let request : Mail = asking client.me w.target w.group w.seq x.0 in
         let token : mail_token asks.client request ≡ 1 = cond-true (eqb client.me asks.client) 1 0 (eq-eqb client.me asks.client me) in
         let there = one_of_sum (mail_token asks.client) (rest sys rows w.target) request x.1 in
@@ -201,7 +193,7 @@ module _ (words : ℕ → ℕ → ℕ × ℕ) (scenario : Scenario) (begins : Is
               absurd (omega (arith, there, token, mail, one, few)))
         ]
     by_sought client v me w (inr (inr h)) =
-        let n = asked_node rows j asks client a v w in
+        let n = asked_node words scenario begins set is linked seated rows j asks client a v w in
         let node = j.nodes w.target n.0 n.1 in
         let found : replica_of w.group node.node.replicas ≡ Some h.r = sym (replica_is words scenario rows w.group w.target (Node node.node) (node_number words scenario begins w.target n.0 n.1) node.is) ∙ h.there in
         let among = (find_found (λ (x : ReplicaState). same_draw (name_of x) w.group) node.node.replicas h.r found).0 in

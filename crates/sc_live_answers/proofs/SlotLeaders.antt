@@ -78,6 +78,10 @@ answers_none node promise _ who slot a = absurd a
 pub offers_none : (at : Sets) (course : Course) (from who slot : ℕ) (marks : List Mark) → Each (IsOffer at course from who) marks → Among (Installs slot) marks → ⊥
 offers_none at course from who slot marks each a = Each-among (IsOffer at course from who) marks (Installs slot) each a
 
+-- no state is sent where a leader asks for promises again
+pub none_installs : (course : Course) (slot : ℕ) → Among (Installs slot) (cond course.is_first [] (Prepares course.ballot ∷ [])) → ⊥
+none_installs course slot = cond_both course.is_first [] (Prepares course.ballot ∷ []) (λ l. Among (Installs slot) l → ⊥) (λ _ a. absurd a) (λ _ a. elim a [ inl e ↦ cc | inr n ↦ absurd n ])
+
 -- the states that it sends are of the slots that it executes
 welcomes_one : (at : Sets) (course : Course) (from who slot : ℕ) → Among (Installs slot) (reported_of at course from who) → slot ≡ from
 welcomes_one at course from who slot =
@@ -91,12 +95,9 @@ welcomes_one at course from who slot =
     same : Installs from ≡ Installs slot → slot ≡ from
     same e = cc
 
-    behind : Among (Installs slot) (cond course.is_first [] (Prepares course.ballot ∷ [])) → ⊥
-    behind = cond_both course.is_first [] (Prepares course.ballot ∷ []) (λ l. Among (Installs slot) l → ⊥) (λ _ a. absurd a) (λ _ a. elim a [ inl e ↦ cc | inr n ↦ absurd n ])
-
     comes : Among (Installs slot) (welcome course from) → slot ≡ from
     comes (inl e) = same e
-    comes (inr a) = absurd (behind a)
+    comes (inr a) = absurd (none_installs course slot a)
 
 pub tells_within : (at : Sets) (course : Course) (more from who slot : ℕ) → Among (Installs slot) (told_from at course from more who) → (from ≤ slot) × (slot < from + more)
 tells_within at course zero from who slot a = absurd a

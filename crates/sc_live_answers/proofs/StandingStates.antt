@@ -1,5 +1,5 @@
 -- No state of a group that is gone is sent: nobody comes to it by the entry by which it goes.
-use Rattle.std.proofs.Common.{◌≡◌, ℕ, zero, suc, ◌+◌, ◌-◌, eqb, true, false, true≢false, cond, take, List, [], ◌∷◌, ◌++◌, inl, inr, sym, ◌∙◌, ap, subst, arith, append_assoc}
+use Rattle.std.proofs.Common.{◌≡◌, ℕ, zero, suc, ◌+◌, ◌-◌, eqb, true, false, true≢false, take, List, [], ◌∷◌, ◌++◌, inl, inr, sym, ◌∙◌, ap, subst, arith, append_assoc}
 use Rattle.std.specs.Prelude.{is_some}
 use Rattle.std.proofs.lemmas.Bool.{cases_Bool, cond_both}
 use Rattle.sc_base.specs.Definitions.{Among, Each, is_member}
@@ -21,7 +21,7 @@ use Rattle.sc_live_journals.specs.logs.Definitions.{logged_sets, IsGroupOf}
 use Rattle.sc_live_journals.specs.groups.Definitions.{IsGroupRow, RowPasses, RowRests, RowTakes, RowMakes, RowLeads, RowElects, Ends, IsRowOf, Delivers, IsSentSo}
 use Rattle.sc_live_journals.proofs.GroupsProofs.Lemmas.{each_among, among_marks}
 use Rattle.sc_live_answers.specs.Definitions.{over_at, slot_leaders_at, AreFew, LedRowsGoOn, StatesStand}
-use Rattle.sc_live_answers.proofs.SlotLeaders.{answers_none, offers_none, tells_within}
+use Rattle.sc_live_answers.proofs.SlotLeaders.{answers_none, offers_none, tells_within, none_installs}
 use Rattle.sc_live_answers.proofs.EndingCommands.{next_ends}
 
 -- ---- the log
@@ -66,12 +66,9 @@ welcomes_new at course from who slot =
     same : Installs from ≡ Installs slot → from ≡ slot
     same e = cc
 
-    behind : Among (Installs slot) (cond course.is_first [] (Prepares course.ballot ∷ [])) → ⊥
-    behind = cond_both course.is_first [] (Prepares course.ballot ∷ []) (λ l. Among (Installs slot) l → ⊥) (λ _ a. absurd a) (λ _ a. elim a [ inl e ↦ cc | inr n ↦ absurd n ])
-
     comes : ComesAt at who from → Among (Installs slot) (welcome course from) → ComesAt at who slot
     comes k (inl e) = subst (ComesAt at who) (same e) k
-    comes k (inr a) = absurd (behind a)
+    comes k (inr a) = absurd (none_installs course slot a)
 
 tells_new : (at : Sets) (course : Course) (more from who slot : ℕ) → Among (Installs slot) (told_from at course from more who) → ComesAt at who slot
 tells_new at course zero from who slot a = absurd a

@@ -1,6 +1,6 @@
 -- Mail that is delivered to a node is for it, and what came of an order is for the desk, which is no node.
 use Rattle.std.proofs.Common.{◌≡◌, ℕ, eqb, List, [], find, Some, None, refl, sym, ◌∙◌, ap, subst}
-use Rattle.sc_node_table.specs.Values.{Draw, OrderLine, OrderResult, Mail, MailBody, Request, Answer, Prepare, Promise, Accept, Accepted, Nack, Learn, Ask, Install, TxPrepare, TxVote, TxOutcome, TxElsewhere, TxWatch, TxWatched, Told as ToldMail, Node, Client, Seat, Event, Deliver, Row}
+use Rattle.sc_node_table.specs.Values.{Draw, OrderLine, OrderResult, Mail, MailBody, Told as ToldMail, Node, Client, Seat, Event, Deliver, Row}
 use Rattle.sc_actor.specs.Definitions.{mails, numbered, value, row_of}
 use Rattle.sc_live_orderly.specs.Definitions.{IsCalmEvent, AreInTime}
 use Rattle.sc_live_orderly.proofs.Lemmas.{in_time_before, in_time_tidy, last_in_time, takes_first, is_born-from}
@@ -65,22 +65,7 @@ module _ (words : ℕ → ℕ → ℕ × ℕ) (scenario : Scenario) (rows : Rows
 
     pub strays : (b : MailBody) → mail.body ≡ b → Calm
     strays (ToldMail order result) e = absurd (told_none order result e)
-    strays (Request g client seq op) e = delivered (Request g client seq op) e tt
-    strays (Answer g seq answer) e = delivered (Answer g seq answer) e tt
-    strays (Prepare g ballot from_slot) e = delivered (Prepare g ballot from_slot) e tt
-    strays (Promise g ballot reports) e = delivered (Promise g ballot reports) e tt
-    strays (Accept g ballot slot command) e = delivered (Accept g ballot slot command) e tt
-    strays (Accepted g ballot slot) e = delivered (Accepted g ballot slot) e tt
-    strays (Nack g promised) e = delivered (Nack g promised) e tt
-    strays (Learn g slot command) e = delivered (Learn g slot command) e tt
-    strays (Ask g from_slot) e = delivered (Ask g from_slot) e tt
-    strays (Install g slot state sets) e = delivered (Install g slot state sets) e tt
-    strays (TxPrepare tx offer) e = delivered (TxPrepare tx offer) e tt
-    strays (TxVote tx coord part vote) e = delivered (TxVote tx coord part vote) e tt
-    strays (TxOutcome tx part outcome) e = delivered (TxOutcome tx part outcome) e tt
-    strays (TxElsewhere tx coord hint) e = delivered (TxElsewhere tx coord hint) e tt
-    strays (TxWatch tx watch) e = delivered (TxWatch tx watch) e tt
-    strays (TxWatched tx coord part vote) e = delivered (TxWatched tx coord part vote) e tt
+    strays body e = delivered body e tt
 
   pub for_node : (node : NodeState) → value player_table seat rows ≡ Node node → mail.to ≡ node.me
   for_node node is =

@@ -13,9 +13,9 @@ use Rattle.sc_scenario.specs.declared.scenario.scenarios.Scenario.{Scenario}
 use Rattle.sc_meaning.specs.sound.Definitions.{as_nodes, births, world_at, Lawful, Player, schedule, system_of, IsOneMap}
 use Rattle.sc_law_entries.specs.names.Definitions.{CoreNames, IsUsed, NamesAreDrawn}
 use Rattle.sc_live_steps.specs.calm.Definitions.{Rows, StandsQuiet}
-use Rattle.sc_live_steps.specs.orders.Definitions.{IsBegun, turn_of, work_by, Answers, Asking, Ends, First, Here, Lone, Next, Opens, Records, Turn, Work, is_watch, Deal, IsAt, IsOrder, Stage, Weighs, heard, heard_lead}
+use Rattle.sc_live_steps.specs.orders.Definitions.{IsBegun, work_by, Answers, Asking, Ends, First, Here, Lone, Next, Opens, Records, Turn, Work, is_watch, Deal, IsAt, IsOrder, Stage, Weighs, heard, heard_lead}
 use Rattle.sc_live_journals.specs.scenes.Definitions.{StaysIn, IsThere, scene_at}
-use Rattle.sc_live_answers.specs.Definitions.{IsTrueEntry, Doer, HasDone, Promising, doer, heard_doer, opened, IsAskedOrCast, LeadsSince, VotesAreTrue, IsAllowedBy, LockIsRecorded, ReplicasAreRecorded, IsTrueSince}
+use Rattle.sc_live_answers.specs.Definitions.{IsTrueEntry, HasDone, Promising, doer, heard_doer, opened, IsAskedOrCast, LeadsSince, VotesAreTrue, IsAllowedBy, LockIsRecorded, ReplicasAreRecorded, IsTrueSince}
 use Rattle.sc_actor.proofs.Lemmas.{lawful-prefix}
 use Rattle.sc_live_plain.specs.Definitions.{replicas_after}
 use Rattle.sc_live_journals.specs.rows.Definitions.{view_at}
@@ -28,10 +28,11 @@ use Rattle.sc_live_answers.proofs.LeaderWork.{IsWorkAt, OfOrder, OfOutcome, OfQu
 use Rattle.sc_live_answers.proofs.Names.{has_not_voted, used_in}
 use Rattle.sc_live_answers.proofs.OpenedTransactions.{IsOpened}
 use Rattle.sc_live_answers.proofs.Parties.{Coordinates}
-use Rattle.sc_live_answers.proofs.QuietRing.{pred_is}
 use Rattle.sc_live_answers.proofs.PartiesSinceQuiet.{both, coords, flights_at, free_first, led_first, locks_at, next_is, shared_begins, there_of, tx_is}
 use Rattle.std.proofs.lemmas.Option.{same_Some}
 use Rattle.sc_live_answers.proofs.QuestionHints.{no_deeds}
+use Rattle.sc_live_answers.proofs.TransactionTurns.{lone_split}
+use Rattle.sc_live_answers.proofs.RecordedVotes.{pred_at, own_id}
 
 -- ---- a leader that stays
 
@@ -104,12 +105,6 @@ same_watch scenario journal tx one other watch again a b =
     let is : unsigned_watch watch ≡ unsigned_watch again = cc in
     ap (λ (w : Watch). w.old) is
 
-lone_split : (core : Core) (body : Body) → Lone ≡ turn_of core body None → (at : ℕ) × (child : Draw) × (body ≡ At.Split at child)
-lone_split core (At.Split at child) e = (at, child, refl)
-lone_split core At.Merge e = absurd cc
-lone_split core (At.Repart at) e = absurd cc
-lone_split core (At.Migrate node) e = absurd cc
-
 watch_none : (core : Core) (watch : Watch) → core.gone ≡ None → core.lock ≡ Free → core.pred.group ≡ watch.old → watch_vote_of core watch ≡ None
 watch_none core watch gone free pred =
     ap (λ g. no_of g (locked_in core.lock) (watch_no core watch)) gone ∙ (ap (λ l. no_of None (locked_in l) (watch_no core watch)) free ∙ cond-true (same_draw core.pred.group watch.old) None (Some Apart) (same_name core.pred.group watch.old pred))
@@ -133,16 +128,8 @@ module _ (tells : ReplicasAreRecorded) (sound : ValidJournalsAreSound) (logs : V
   pub the_logs : AreItsLogs as_nodes scenario.groups quiet
   the_logs = logs as_nodes refl words scenario l.calm.valid quiet quiet_lawful
 
-  -- whom a successor has for its predecessor
-  pub pred_at : (who : Draw) (q : StandsQuiet (replicas_after scenario quiet) who) (behind : Draw) → behind ≡ q.lead.group.core.succ.group → (s : StandsQuiet (replicas_after scenario quiet) behind) → s.lead.group.core.pred.group ≡ who
-  pred_at who q behind e =
-      subst (λ b. (s : StandsQuiet (replicas_after scenario quiet) b) → s.lead.group.core.pred.group ≡ who) (sym e) (λ s. pred_is words scenario first quiet the_map the_logs l.rests.known l.rests.is who q s)
-
   pub used : (who : Draw) (at : ℕ) (x : ReplicaState) → view_at (births as_nodes scenario) quiet who at ≡ Some x → CoreNames (IsUsed as_nodes scenario quiet) x.group.core
   used who at x has = used_in drawn words scenario quiet (bounded scenario l.calm.valid) quiet_lawful who at x has
-
-  own_id : (it : Doer) (d : HasDone (births as_nodes scenario) quiet rows it) → d.first.group.core.id ≡ it.group
-  own_id it d = (l.rests.is.kept it.group it.host d.first (sym (l.seen it.group it.host) ∙ d.was)).name_is
 
   -- ---- one that is asked
 
@@ -180,7 +167,7 @@ module _ (tells : ReplicasAreRecorded) (sound : ValidJournalsAreSound) (logs : V
 
     -- its predecessor is whom the one before it names
     pred_of : (who : Draw) (q : StandsQuiet (replicas_after scenario quiet) who) → deal.asked ≡ q.lead.group.core.succ.group → r.group.core.pred.group ≡ who
-    pred_of who q e = ap (λ (g : Group). g.core.pred.group) group_is ∙ (ap (λ (x : ReplicaState). x.group.core.pred.group) its_stand.1 ∙ pred_at who q deal.asked e its_stand.0)
+    pred_of who q e = ap (λ (g : Group). g.core.pred.group) group_is ∙ (ap (λ (x : ReplicaState). x.group.core.pred.group) its_stand.1 ∙ pred_at tells sound logs words scenario first journal quiet rows name node r stage l who q deal.asked e its_stand.0)
 
     abbrev coord_bond : ((scene_at (births as_nodes scenario) rows).at deal.coord).bond ≡ Asking deal.tx deal.asked deal.turn
     coord_bond = ap (λ (h : Here). h.bond) stands.parties.0.0
@@ -209,7 +196,7 @@ module _ (tells : ReplicasAreRecorded) (sound : ValidJournalsAreSound) (logs : V
         let asks = watch_with core core.succ.group core.id (right_link core b.1) in
         let old = same_watch scenario journal deal.tx name asks.part watch asks a (coord_locks.asks deal.tx (At.Split b.0 b.1) o.order None lock asks refl) in
         pred_of deal.coord coord_stand.0 (o.asked_is ∙ ap (λ (x : ReplicaState). x.group.core.succ.group) coord_stand.1)
-        ∙ (sym (own_id (doer deal.coord deal.chief (opened deal.tx deal.turn)) c) ∙ (ap (λ (g : Group). g.core.id) (sym o.is) ∙ sym old))
+        ∙ (sym (own_id tells sound logs words scenario first journal quiet rows name node r stage l (doer deal.coord deal.chief (opened deal.tx deal.turn)) c) ∙ (ap (λ (g : Group). g.core.id) (sym o.is) ∙ sym old))
 
     -- of a merge
     next_pred : (part : Draw) (at : ℕ) → deal.turn ≡ Next part at → (watch : Watch) → IsAllowedBy scenario journal name (Watched deal.tx watch) → Pred watch

@@ -22,10 +22,11 @@ use Rattle.sc_law_walks.proofs.Lemmas.{either_way}
 use Rattle.sc_live_steps.specs.following.Definitions.{Installs, mark_of, IsRow, marks_for}
 use Rattle.sc_live_journals.specs.rows.Definitions.{marks_at, progress_at, mark_in, taken_mark, begun_course, IsSeat, with_event}
 use Rattle.sc_live_journals.proofs.RowsProofs.Lemmas.{none_marked, others_hear_nothing, rows_are, delivered, found_name, sent_is, view_was}
-use Rattle.sc_live_journals.specs.logs.Definitions.{logged_sets, IsGroupOf}
+use Rattle.sc_live_journals.specs.logs.Definitions.{logged_sets}
 use Rattle.sc_live_answers.specs.Definitions.{IsCalmJournal, IsPrefixOf, AreSent, PrefixesAreFound, MembersAreHome, NoMailForStrangers}
 use Rattle.sc_live_answers.proofs.QuietPrefixes.{seat_in}
 use Rattle.sc_live_answers.proofs.UnmarkedMail.{none_first}
+use Rattle.sc_live_answers.proofs.JournalGroups.{calm_group}
 
 find_nothing : {X : Type 0} (p : X → Bool) (xs : List X) (x : X) → find p xs ≡ None → Among x xs → p x ≡ false
 find_nothing p [] x e a = absurd a
@@ -40,9 +41,6 @@ module _ (finds : PrefixesAreFound) (home : MembersAreHome) (words : ℕ → ℕ
   abbrev all : List (Seat Player)
   all = births as_nodes scenario
 
-  group_of_it : (base : Base) → Among base (groups_at as_nodes scenario.groups journal) → IsGroupOf as_nodes words scenario journal base
-  group_of_it base a = record { open_slots = refl; valid = calm.valid; lawful = calm.lawful; stands = a }
-
   -- a node of the scenario is an actor
   node_born : (who : ℕ) → (1 ≤ who) × (who ≤ scenario.nodes) → is_born (players words (births as_nodes scenario)) who ≡ true
   node_born who h =
@@ -52,7 +50,7 @@ module _ (finds : PrefixesAreFound) (home : MembersAreHome) (words : ℕ → ℕ
       (seat_in scenario.groups scenario.policy scenario.nodes 1 who (client_seats scenario.groups scenario.clients) low (omega (arith, high)))
 
   first_born : (base : Base) → Among base (groups_at as_nodes scenario.groups journal) → (who : ℕ) → is_member base.core.members who ≡ true → is_born (players words (births as_nodes scenario)) who ≡ true
-  first_born base a who m = node_born who (home.first as_nodes words scenario journal base (group_of_it base a) who m)
+  first_born base a who m = node_born who (home.first as_nodes words scenario journal base (calm_group words scenario journal calm base a) who m)
 
   module _ (prefix : Rows) (is : IsPrefixOf journal prefix) where
     -- ---- a group of the journal
@@ -63,7 +61,7 @@ module _ (finds : PrefixesAreFound) (home : MembersAreHome) (words : ℕ → ℕ
       where
         never : (slot : ℕ) → is_member (logged_sets as_nodes base journal slot) who ≡ false
         never slot = elim (cases_Bool (is_member (logged_sets as_nodes base journal slot) who)) [
-          | inl t ↦ absurd (true≢false (sym (node_born who (home.slots as_nodes words scenario journal base (group_of_it base a) slot who t)) ∙ unborn))
+          | inl t ↦ absurd (true≢false (sym (node_born who (home.slots as_nodes words scenario journal base (calm_group words scenario journal calm base a) slot who t)) ∙ unborn))
           | inr f ↦ f
         ]
 

@@ -9,7 +9,7 @@ use Rattle.sc_node_table.specs.Definitions.{NodeState, ReplicaState, gone_vote, 
 use Rattle.sc_scenario.specs.scenario.Definitions.{ValidScenariosAreBounded}
 use Rattle.sc_scenario.specs.declared.scenario.scenarios.Scenario.{Scenario}
 use Rattle.sc_meaning.specs.sound.Definitions.{Lawful, Player, as_nodes, births, schedule, system_of}
-use Rattle.sc_law_entries.specs.names.Definitions.{IsUsed, NamesAreDrawn, CoreNames}
+use Rattle.sc_law_entries.specs.names.Definitions.{IsUsed, NamesAreDrawn}
 use Rattle.sc_live_steps.specs.calm.Definitions.{Rows}
 use Rattle.sc_live_steps.specs.orders.Definitions.{bond_of, errand_by, is_cast_yes, is_yes, Asking, Errand, Here, Question, Reply, Asks, Deal, Replied, Stage}
 use Rattle.sc_live_journals.specs.rows.Definitions.{view_at}
@@ -30,9 +30,6 @@ module _ (bounded : ValidScenariosAreBounded) (drawn : NamesAreDrawn) (words : �
 
   lawful : Lawful as_nodes words scenario quiet
   lawful = lawful-prefix (system_of as_nodes words scenario) (schedule scenario) quiet t.rests.prefix.more (subst (Lawful as_nodes words scenario) t.rests.prefix.is t.calm.lawful)
-
-  used : (name : Draw) (who : ℕ) (x : ReplicaState) → view_at (births as_nodes scenario) quiet name who ≡ Some x → CoreNames (IsUsed as_nodes scenario quiet) x.group.core
-  used name who x has = used_in drawn words scenario quiet (bounded scenario t.calm.valid) lawful name who x has
 
   view : view_at (births as_nodes scenario) rows group seat.who ≡ Some r
   view = view_was all rows seat (Deliver number) group t.taking.seated (Node node) t.taking.is_node ∙ t.here
@@ -55,7 +52,7 @@ module _ (bounded : ValidScenariosAreBounded) (drawn : NamesAreDrawn) (words : �
 
     asked_unvoted : standing_vote r.group.core deal.tx ≡ None
     asked_unvoted =
-        ap (λ v. standing_by v (is_locked_in (locked_in r.group.core.lock) deal.tx) r.group.core.gone) (unvoted (IsUsed as_nodes scenario quiet) deal.tx since.new.0 r.group.core (used deal.asked seat.who r was))
+        ap (λ v. standing_by v (is_locked_in (locked_in r.group.core.lock) deal.tx) r.group.core.gone) (unvoted (IsUsed as_nodes scenario quiet) deal.tx since.new.0 r.group.core (used_in drawn words scenario quiet (bounded scenario t.calm.valid) lawful deal.asked seat.who r was))
         ∙ ap gone_vote (t.rests.reach.stand deal.asked since.asked.0 seat.who r (sym (t.seen deal.asked seat.who) ∙ was))
 
   same_question : (tx tx2 coord coord2 : Draw) (w w2 : Bool) (by by2 to to2 : ℕ) → Question tx coord w by to ≡ Question tx2 coord2 w2 by2 to2 → tx ≡ tx2
@@ -98,7 +95,7 @@ module _ (bounded : ValidScenariosAreBounded) (drawn : NamesAreDrawn) (words : �
     coord_undecided : noted_outcome r.group.core deal.tx ≡ None
     coord_undecided =
         ap (λ (xs : List (Draw × Outcome)). option_map (λ (noted : Draw × Outcome). noted.1) (find (λ (noted : Draw × Outcome). same_draw noted.0 deal.tx) xs)) same_decided
-        ∙ undecided (IsUsed as_nodes scenario quiet) deal.tx truly.new.0 d.first.group.core (used deal.coord deal.chief d.first d.was)
+        ∙ undecided (IsUsed as_nodes scenario quiet) deal.tx truly.new.0 d.first.group.core (used_in drawn words scenario quiet (bounded scenario t.calm.valid) lawful deal.coord deal.chief d.first d.was)
 
   same_reply : (tx tx2 : Draw) (w w2 a a2 : Bool) (by by2 to to2 : ℕ) → Reply tx w a by to ≡ Reply tx2 w2 a2 by2 to2 → (tx ≡ tx2) × (to ≡ to2)
   same_reply tx tx2 w w2 a a2 by by2 to to2 e = (cc, cc)
@@ -111,24 +108,21 @@ module _ (bounded : ValidScenariosAreBounded) (drawn : NamesAreDrawn) (words : �
       let mine : a.deal.chief ≡ seat.who = both.1 ∙ goes_to words all rows seat number mail t.taking.timely t.taking.sent in
       subst (λ x. noted_outcome r.group.core x ≡ None) both.0 (coord_undecided a.deal a.agreed a.host a.is a.group_is mine)
 
-  some_draw : (one other : Draw) → Some one ≡ Some other → one ≡ other
-  some_draw one other e = cc
-
   named_so : (body : MailBody) → mail.body ≡ body → Rattle.sc_node_table.specs.Node.group_of_mail body ≡ Some group
   named_so body e = ap Rattle.sc_node_table.specs.Node.group_of_mail (sym e) ∙ t.taking.named
 
   by_body : (body : MailBody) → mail.body ≡ body → ((tx coord : Draw) (hint : Option ℕ) → body ≡ TxElsewhere tx coord hint → ⊥) → IsUnsettled r body
   by_body (TxPrepare tx offer) e none =
-      let own : offer.part ≡ group = some_draw offer.part group (named_so (TxPrepare tx offer) e) in
+      let own : offer.part ≡ group = same_Some offer.part group (named_so (TxPrepare tx offer) e) in
       asks (offer.part, Question tx offer.coord false offer.by mail.to) tx offer.coord false offer.by mail.to (ap (λ n. (n, Question tx offer.coord false offer.by mail.to)) own) (ap (errand_by mail.from mail.to) e)
   by_body (TxWatch tx watch) e none =
-      let own : watch.part ≡ group = some_draw watch.part group (named_so (TxWatch tx watch) e) in
+      let own : watch.part ≡ group = same_Some watch.part group (named_so (TxWatch tx watch) e) in
       asks (watch.part, Question tx watch.coord true watch.by mail.to) tx watch.coord true watch.by mail.to (ap (λ n. (n, Question tx watch.coord true watch.by mail.to)) own) (ap (errand_by mail.from mail.to) e)
   by_body (TxVote tx coord part vote) e none =
-      let own : coord ≡ group = some_draw coord group (named_so (TxVote tx coord part vote) e) in
+      let own : coord ≡ group = same_Some coord group (named_so (TxVote tx coord part vote) e) in
       replies tx false (is_yes vote) (ap (errand_by mail.from mail.to) e ∙ ap (λ n. Some (n, Reply tx false (is_yes vote) mail.from mail.to)) own)
   by_body (TxWatched tx coord part vote) e none =
-      let own : coord ≡ group = some_draw coord group (named_so (TxWatched tx coord part vote) e) in
+      let own : coord ≡ group = same_Some coord group (named_so (TxWatched tx coord part vote) e) in
       replies tx true (is_cast_yes vote) (ap (errand_by mail.from mail.to) e ∙ ap (λ n. Some (n, Reply tx true (is_cast_yes vote) mail.from mail.to)) own)
   by_body (TxElsewhere tx coord hint) e none = absurd (none tx coord hint refl)
   by_body _ e none = tt

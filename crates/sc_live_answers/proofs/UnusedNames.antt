@@ -1,8 +1,6 @@
 -- A name that is in no use is that of no child, decision or lock of a group.
-use Rattle.std.proofs.Common.{◌≡◌, ℕ, ◌||◌, Bool, true, false, true≢false, eqb, List, [], ◌∷◌, Option, Some, None, inl, inr, refl, sym, ◌∙◌, ap, subst}
+use Rattle.std.proofs.Common.{◌≡◌, ℕ, ◌||◌, false, eqb, List, [], ◌∷◌, Option, Some, None, refl, sym, ◌∙◌, ap, subst}
 use Rattle.std.specs.List.{find, list_any}
-use Rattle.std.proofs.lemmas.Bool.{cases_Bool}
-use Rattle.sc_base.proofs.Lemmas.{draw_is}
 use Rattle.sc_base.specs.Definitions.{Each, same_draw}
 use Rattle.sc_node_table.specs.Values.{Draw, Command, Core, Lock, Free, Coordinating, Promised, Watching, Outcome, Node, Client, Seat}
 use Rattle.sc_actor.specs.Definitions.{value}
@@ -19,20 +17,18 @@ use Rattle.sc_live_steps.specs.orders.Definitions.{Stage, Ordered, Opens}
 use Rattle.sc_live_journals.specs.rows.Definitions.{view_at, replicas_of, replica_in}
 use Rattle.sc_live_answers.specs.Definitions.{AreDeeds, HasDone, doer, doers_of, IsUnused, tx_of, IsTrueSince}
 use Rattle.sc_live_answers.proofs.DrawnNames.{begin_undrawn}
+use Rattle.sc_live_answers.proofs.Names.{not_it}
 
 module _ (K : Draw → Type 0) (tx : Draw) (unused : K tx → ⊥) where
-  apart : (name : Draw) → K name → same_draw name tx ≡ false
-  apart name k = elim (cases_Bool (same_draw name tx)) [ inl t ↦ absurd (unused (subst K (draw_is name tx t) k)) | inr f ↦ f ]
-
   none_is : {X : Type 0} (f : X → Draw) (xs : List X) → Each (λ x. K (f x)) xs → list_any (λ x. same_draw (f x) tx) xs ≡ false
   none_is f [] k = refl
-  none_is f (x ∷ xs) k = ap (λ b. b || list_any (λ y. same_draw (f y) tx) xs) (apart (f x) k.0) ∙ none_is f xs k.1
+  none_is f (x ∷ xs) k = ap (λ b. b || list_any (λ y. same_draw (f y) tx) xs) (not_it K tx unused (f x) k.0) ∙ none_is f xs k.1
 
   not_locked : (lock : Lock) → LockNames K lock → is_locked_in (locked_in lock) tx ≡ false
   not_locked Free k = refl
-  not_locked (Coordinating t body order heard) k = apart t k.0
-  not_locked (Promised t offer) k = apart t k.0
-  not_locked (Watching t watch) k = apart t k.0
+  not_locked (Coordinating t body order heard) k = not_it K tx unused t k.0
+  not_locked (Promised t offer) k = not_it K tx unused t k.0
+  not_locked (Watching t watch) k = not_it K tx unused t k.0
 
   not_named : (core : Core) → CoreNames K core → has_named core tx ≡ false
   not_named core k =

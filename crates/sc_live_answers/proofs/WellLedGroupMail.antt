@@ -2,8 +2,9 @@
 use Rattle.std.proofs.Common.{◌≡◌, ℕ, true, true≢false, List, [], ◌++◌, Option, Some, None, inl, inr, refl, sym, ◌∙◌, ap, subst, append-nil, arith}
 use Rattle.std.specs.Option.{option_map}
 use Rattle.std.proofs.lemmas.Bool.{cases_Bool}
+use Rattle.std.proofs.lemmas.Option.{same_Some}
 use Rattle.sc_base.specs.Definitions.{same_draw}
-use Rattle.sc_node_table.specs.Values.{Ballot, Draw, Base, OrderLine, Mail, MailBody, Request, Answer, Prepare, Promise, Accept, Accepted, Nack, Learn, Ask, Install, TxPrepare, TxVote, TxOutcome, TxElsewhere, TxWatch, TxWatched, Told as ToldMail, Node, Client, Seat, Event, Deliver, Tick, Go, Crash, Drop, Again, Got}
+use Rattle.sc_node_table.specs.Values.{Ballot, Draw, Base, OrderLine, Mail, MailBody, Prepare, Promise, Accept, Nack, Learn, Node, Client, Seat, Event, Deliver, Tick, Go, Crash, Drop, Again, Got}
 use Rattle.sc_base.proofs.Lemmas.{draw_is, same_name}
 use Rattle.sc_actor.specs.declared.rows.Event.TheVariants.{Told}
 use Rattle.sc_actor.specs.declared.rows.Input.TheVariants.{Go as GoInput, Told as ToldInput}
@@ -82,9 +83,6 @@ module _ (words : ℕ → ℕ → ℕ × ℕ) (at : Sets) (over : Ends) (by : Te
       says : SaysWell base.core.id course.ballot mail.body
       says = Each-among (λ (m : Mail). SaysWell base.core.id course.ballot m.body) (mails rows) mail sent.says (number_among (mails rows) number mail sent_at)
 
-      some_is : (one_ other : Draw) → Some one_ ≡ Some other → one_ ≡ other
-      some_is one_ other e = cc
-
       -- one of this group, for its replica
       module _ (r : ReplicaState) (here : replica_of base.core.id node.replicas ≡ Some r) (group : group_of_mail mail.body ≡ Some base.core.id) (comes : may_come mail.from mail.body ≡ true) where
         takes : TakesMail words all rows seat number mail
@@ -110,7 +108,7 @@ module _ (words : ℕ → ℕ → ℕ × ℕ) (at : Sets) (over : Ends) (by : Te
 
         by_body : (b : MailBody) → mail.body ≡ b → Well (mailed mail.from mail.body (r, [])).0.1
         by_body (Prepare g ballot from_slot) e =
-            let same : g ≡ name = some_is g name (sym (ap group_of_mail e) ∙ group) in
+            let same : g ≡ name = same_Some g name (sym (ap group_of_mail e) ∙ group) in
             let body : mail.body ≡ Prepare name ballot from_slot = e ∙ ap (λ n. Prepare n ballot from_slot) same in
             let marked : mark_of name mail.from mail.body ≡ Some (Prepares ballot) = ap (mark_of name mail.from) body ∙ same_mark name (Prepares ballot) in
             let least : IsAtLeast course.ballot ballot = known at words all rows seat node base course (scene at over by words all rows seat node base course s) number mail takes (Prepares ballot) marked in
@@ -121,28 +119,17 @@ module _ (words : ℕ → ℕ → ℕ × ℕ) (at : Sets) (over : Ends) (by : Te
             subst (λ b. Well (mailed mail.from b (r, [])).0.1) (sym (body ∙ ap (λ n. Prepare n ballot from_slot) (sym named_is)))
             (prepare_says base.core.id course.ballot mail.from ballot from_slot r goes low (nothing number mail ballot from_slot r is_event sent_at body (view_of name (Some r) here)) most)
         by_body (Accept g ballot slot command) e =
-            let body : mail.body ≡ Accept name ballot slot command = e ∙ ap (λ n. Accept n ballot slot command) (some_is g name (sym (ap group_of_mail e) ∙ group)) in
+            let body : mail.body ≡ Accept name ballot slot command = e ∙ ap (λ n. Accept n ballot slot command) (same_Some g name (sym (ap group_of_mail e) ∙ group)) in
             let f = fitting (Asks ballot slot) (ap (mark_of name mail.from) body ∙ same_mark name (Asks ballot slot)) in
             plainly (Accept g ballot slot command) e (subst (IsAtLeast course.ballot) (sym f.2) most)
         by_body (Learn g slot command) e =
-            let body : mail.body ≡ Learn name slot command = e ∙ ap (λ n. Learn n slot command) (some_is g name (sym (ap group_of_mail e) ∙ group)) in
+            let body : mail.body ≡ Learn name slot command = e ∙ ap (λ n. Learn n slot command) (same_Some g name (sym (ap group_of_mail e) ∙ group)) in
             let f = fitting (Tells slot) (ap (mark_of name mail.from) body ∙ same_mark name (Tells slot)) in
             let low = f.1 in
             plainly (Learn g slot command) e (omega (arith, low))
-        by_body (Promise g ballot reports) e = plainly (Promise g ballot reports) e (subst (SaysWell base.core.id course.ballot) e says (some_is g name (sym (ap group_of_mail e) ∙ group)))
-        by_body (Nack g promised) e = plainly (Nack g promised) e (subst (SaysWell base.core.id course.ballot) e says (some_is g name (sym (ap group_of_mail e) ∙ group)))
-        by_body (Install g slot state sets) e = plainly (Install g slot state sets) e tt
-        by_body (Accepted g ballot slot) e = plainly (Accepted g ballot slot) e tt
-        by_body (Ask g from_slot) e = plainly (Ask g from_slot) e tt
-        by_body (Request g client seq op) e = plainly (Request g client seq op) e tt
-        by_body (TxPrepare tx offer) e = plainly (TxPrepare tx offer) e tt
-        by_body (TxVote tx coord part vote) e = plainly (TxVote tx coord part vote) e tt
-        by_body (TxOutcome tx part outcome) e = plainly (TxOutcome tx part outcome) e tt
-        by_body (TxElsewhere tx coord hint) e = plainly (TxElsewhere tx coord hint) e tt
-        by_body (TxWatch tx watch) e = plainly (TxWatch tx watch) e tt
-        by_body (TxWatched tx coord part vote) e = plainly (TxWatched tx coord part vote) e tt
-        by_body (Answer g seq answer) e = plainly (Answer g seq answer) e tt
-        by_body (ToldMail order result) e = plainly (ToldMail order result) e tt
+        by_body (Promise g ballot reports) e = plainly (Promise g ballot reports) e (subst (SaysWell base.core.id course.ballot) e says (same_Some g name (sym (ap group_of_mail e) ∙ group)))
+        by_body (Nack g promised) e = plainly (Nack g promised) e (subst (SaysWell base.core.id course.ballot) e says (same_Some g name (sym (ap group_of_mail e) ∙ group)))
+        by_body body e = plainly body e tt
 
       -- whatever replica it is for
       comes_so : may_come mail.from mail.body ≡ true

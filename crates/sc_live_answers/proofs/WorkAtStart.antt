@@ -12,7 +12,7 @@ use Rattle.sc_live_orderly.specs.Definitions.{AreInTime}
 use Rattle.sc_live_orderly.proofs.Lemmas.{in_time_before, in_time_tidy, quiet-empty}
 use Rattle.sc_scenario.specs.scenario.Definitions.{IsBounded, ValidScenariosAreBounded}
 use Rattle.sc_scenario.specs.declared.scenario.scenarios.Scenario.{Scenario}
-use Rattle.sc_node_table.specs.Definitions.{result_sent, NodeState, replica_of, group_of_order, ordered_of, takes_name, untaken, queued_or_refused, ordered_command, ordered_row, ReplicaState, Place, name_of, next, last_slot}
+use Rattle.sc_node_table.specs.Definitions.{result_sent, NodeState, replica_of, group_of_order, ordered_of, takes_name, untaken, ordered_row, ReplicaState, Place, name_of, next, last_slot}
 use Rattle.sc_meaning.specs.sound.Definitions.{Player, player_table, births, as_nodes, Lawful}
 use Rattle.sc_live_steps.specs.calm.Definitions.{players, IsAtRest, Rows}
 use Rattle.sc_live_steps.proofs.CalmProofs.Lemmas.{put_others}
@@ -31,6 +31,7 @@ use Rattle.sc_live_answers.proofs.WorkInPrefixes.{AreHeld, goes_on, held_work}
 use Rattle.sc_live_answers.proofs.DrawnNames.{drawn_nowhere, drawn_unknown}
 use Rattle.std.proofs.lemmas.Option.{same_Some}
 use Rattle.sc_live_answers.proofs.WellPlayers.{plays_of}
+use Rattle.sc_live_answers.proofs.HeldOrdersAtStart.{order_refused}
 
 -- who is born as a client stays one
 IsClient : Player → Type 0
@@ -155,13 +156,9 @@ module _ (well : ScenariosAreWellBorn) (words : ℕ → ℕ → ℕ × ℕ) (sce
         good = subst (AreGood a) (sym row.sends_all) m;
       }
 
-      refused : (why : OrderRefusal) → untaken node.draws line r ≡ Some why → ordered_row node.draws line (r, []) ≡ (r, result_sent r.me line.number (Refused why) [])
-      unfolding ordered_row
-      refused why e = ap (λ (x : Option OrderRefusal). queued_or_refused x line.number (ordered_command (next_name node.draws) line.number line.order) (r, [])) e
-
       by_taken : (o : Option OrderRefusal) → untaken node.draws line r ≡ o → Done
       by_taken (Some why) e =
-          let is_ : after ≡ (r, result_sent r.me line.number (Refused why) []) = refused why e in
+          let is_ : after ≡ (r, result_sent r.me line.number (Refused why) []) = order_refused node.draws line r why e in
           nothing (begins (affair_of line.number false group group) (begins_free line.number false group group) (subst (λ (p : Place). HeldSo (affair_of line.number false group group) group p.0) (sym is_) (rest_so (affair_of line.number false group group) (begins_free line.number false group group) group r rest.0))
           (subst (λ (p : Place). AreGood (affair_of line.number false group group) p.1) (sym is_) (tt, tt)))
       by_taken None e =

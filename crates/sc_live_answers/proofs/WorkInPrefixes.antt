@@ -1,6 +1,6 @@
 -- What stands at groups is kept from the order on, prefix by prefix.
-use Rattle.std.proofs.Common.{◌≡◌, ◌⊎◌, ℕ, eqb, Bool, true, false, List, [], drop, Some, inl, inr, refl, sym, ◌∙◌, ap, subst}
-use Rattle.std.proofs.lemmas.Bool.{cases_Bool, eq-eqb, eqb-true}
+use Rattle.std.proofs.Common.{◌≡◌, ℕ, eqb, Bool, true, false, List, [], drop, Some, inl, inr, refl, sym, ◌∙◌, ap, subst}
+use Rattle.std.proofs.lemmas.Bool.{cases_eq}
 use Rattle.sc_base.specs.Definitions.{Each}
 use Rattle.sc_node_table.specs.Values.{Draw, Command, Noop, Call, Base, OrderLine, Mail, MailBody, Request, Answer, Prepare, Promise, Accept, Accepted, Nack, Learn, Ask, Install, TxPrepare, TxVote, TxOutcome, TxElsewhere, TxWatch, TxWatched, Told as ToldMail, Seat, Event, Deliver, Row}
 use Rattle.sc_actor.specs.Definitions.{mails, numbered, System, row_of}
@@ -39,13 +39,10 @@ module _ (a : Affair) (words : ℕ → ℕ → ℕ × ℕ) (births : List (Seat 
   abbrev row : Row Mail OrderLine
   row = row_of player_table seat rows event
 
-  who_or : (node : ℕ) → (node ≡ seat.who) ⊎ (node ≡ seat.who → ⊥)
-  who_or node = elim (cases_Bool (eqb node seat.who)) [ inl t ↦ inl (eqb-true node seat.who t) | inr f ↦ inr (λ e. (let g : true ≡ false = sym (eq-eqb node seat.who e) ∙ f in absurd cc)) ]
-
   -- a prefix goes on by what its row leaves and sends
   pub goes_on : RowHolds a words births rows seat event → AreHeld a words births rows → AreHeld a words births (with_event rows seat event)
   goes_on h k = record {
-    replicas = λ name who r v. elim (who_or who) [
+    replicas = λ name who r v. elim (cases_eq who seat.who) [
       | inl is ↦ h.views name r (ap (view_at births (with_event rows seat event) name) (sym is) ∙ v)
       | inr ne ↦ k.replicas name who r (sym (view_others births rows (row_of player_table seat rows event) name who ne) ∙ v)
     ];

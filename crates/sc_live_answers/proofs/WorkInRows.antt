@@ -1,13 +1,13 @@
 -- What an order makes of groups is kept by each delivery to a player.
 use Rattle.std.proofs.Common.{◌≡◌, ℕ, Bool, true, false, List, [], ◌++◌, Option, Some, None, inl, inr, refl, sym, ◌∙◌, ap, subst, append-nil, arith, ◌<◌}
 use Rattle.std.specs.Option.{option_map}
-use Rattle.std.proofs.lemmas.Bool.{cond-true, cond-false}
+use Rattle.std.proofs.lemmas.Bool.{cond-false}
 use Rattle.sc_base.specs.Definitions.{Each}
-use Rattle.sc_node_table.specs.Values.{Ballot, Draw, Command, Base, OrderLine, AnswerBody, Mail, MailBody, Request, Answer, Prepare, Promise, Accept, Accepted, Nack, Learn, Ask, Install, TxPrepare, TxVote, TxOutcome, TxElsewhere, TxWatch, TxWatched, Told as ToldMail, Node, Client, Seat, Event, Deliver, Go, Got}
+use Rattle.sc_node_table.specs.Values.{Ballot, Draw, Command, Base, OrderLine, AnswerBody, Mail, MailBody, Request, Answer, Prepare, Promise, Accept, Accepted, Nack, Learn, Ask, Install, TxPrepare, TxVote, TxWatch, Node, Client, Seat, Event, Deliver, Go, Got}
 use Rattle.sc_actor.specs.Definitions.{mails, numbered, value, row_of}
 use Rattle.sc_client_table.specs.table.Definitions.{Client as ClientState}
 use Rattle.sc_live_orderly.specs.Definitions.{AreInTime}
-use Rattle.sc_node_table.specs.Definitions.{NodeState, replica_of, with_replica, with_children, group_of_mail, may_come, unknown, taken_by, routed, on_mail, absent, ReplicaState, Executed, name_of, next, born_replica, mailed, made_by, slots_ahead, listed}
+use Rattle.sc_node_table.specs.Definitions.{NodeState, replica_of, with_replica, with_children, group_of_mail, may_come, unknown, routed, on_mail, absent, ReplicaState, Executed, name_of, next, born_replica, mailed, made_by, slots_ahead, listed}
 use Rattle.sc_law_walks.proofs.Lemmas.{either_way}
 use Rattle.sc_scenario.specs.declared.scenario.scenarios.Scenario.{Scenario}
 use Rattle.sc_meaning.specs.sound.Definitions.{Player, player_table, births, as_nodes}
@@ -30,6 +30,7 @@ use Rattle.sc_live_answers.proofs.UnknownChildren.{IsUnborn, made_unborn}
 use Rattle.sc_live_answers.proofs.AffairRows.{Hears, mailed_fine, mailed_kids, made_fine}
 use Rattle.std.proofs.lemmas.Option.{same_Some}
 use Rattle.sc_live_answers.proofs.WellPlayers.{plays_of}
+use Rattle.sc_live_answers.proofs.TakenMail.{mail_taken}
 
 -- what holds of a replica at a prefix, but its name and what its leader counted
 abbrev pub HeldSo : Affair → Draw → ReplicaState → Type 0
@@ -87,11 +88,6 @@ module _ (well : ScenariosAreWellBorn) (a : Affair) (begins : BeginsFree a) (wor
     had name r here = has name r (view_of name (Some r) here)
 
     module _ (group : Draw) (t : IsTaking words (births as_nodes scenario) rows seat number mail group node) where
-      takes_by : (o : Option ReplicaState) → replica_of group node.replicas ≡ o → on_mail mail.from mail.body node ≡ taken_by o group mail.from mail.body node
-      takes_by o here =
-          cond-true (may_come mail.from mail.body) (routed (group_of_mail mail.body) mail.from mail.body node) (node, []) t.comes
-          ∙ (ap (λ g. routed g mail.from mail.body node) t.named ∙ ap (λ x. taken_by x group mail.from mail.body node) here)
-
       -- ---- a replica takes it
 
       module _ (r : ReplicaState) (here : replica_of group node.replicas ≡ Some r) (guide : IsNamedGuide words (births as_nodes scenario) rows seat (Deliver number) group) where
@@ -214,7 +210,7 @@ module _ (well : ScenariosAreWellBorn) (a : Affair) (begins : BeginsFree a) (wor
           views = λ name x v. elim (cases-draw name group) [
             | inl i ↦ subst (HeldSo a name) (same_Some made.0.0 x (sym row.is ∙ (ap (λ n. view_at all (with_event rows seat (Deliver number)) n seat.who) (sym i) ∙ v))) (subst (λ n. HeldSo a n made.0.0) (sym i) (held_so a group made.0.0 fine.0))
             | inr ne ↦ other_view name ne x
-                (sym (now_is all rows seat (Deliver number) node born is (with_children made.1 put, made.0.1) (Some (Got mail)) (ap (option_map Got) at) (ap (λ (s : NodeState × List Mail). (Node s.0, s.1)) (takes_by (Some r) here)) name) ∙ v)
+                (sym (now_is all rows seat (Deliver number) node born is (with_children made.1 put, made.0.1) (Some (Got mail)) (ap (option_map Got) at) (ap (λ (s : NodeState × List Mail). (Node s.0, s.1)) (mail_taken mail.from mail.body node group t.named t.comes (Some r) here)) name) ∙ v)
           ];
           good = subst (AreGood a) (sym row.sends_all) fine.1;
         }
@@ -223,7 +219,7 @@ module _ (well : ScenariosAreWellBorn) (a : Affair) (begins : BeginsFree a) (wor
 
       missed : (b : MailBody) → mail.body ≡ b → replica_of group node.replicas ≡ None → Says a b → unknown mail.from b node ≡ (node, absent node.me mail.from b) → Done
       missed b e here q step =
-          response (node, absent node.me mail.from b) (takes_by None here ∙ (ap (λ x. unknown mail.from x node) e ∙ step)) had (absent_good a node.me mail.from b q)
+          response (node, absent node.me mail.from b) (mail_taken mail.from mail.body node group t.named t.comes None here ∙ (ap (λ x. unknown mail.from x node) e ∙ step)) had (absent_good a node.me mail.from b q)
 
       installs : (n : Draw) (slot : ℕ) (state : Base) (sets : List (List ℕ)) → mail.body ≡ Install n slot state sets → replica_of group node.replicas ≡ None → a.Is n state.core → Done
       installs n slot state sets e here s =
@@ -238,7 +234,7 @@ module _ (well : ScenariosAreWellBorn) (a : Affair) (begins : BeginsFree a) (wor
                   (subst (λ k. HeldSo a k (made_by node.me mail.from group slot state sets).0) (sym i) (held_so a group (made_by node.me mail.from group slot state sets).0 fine.0))
               | inr ne ↦ had name x
                   (sym (unknown_apart name group ne node mail.from mail.body t.named).0
-                  ∙ (sym (now_is all rows seat (Deliver number) node born is (unknown mail.from mail.body node) (Some (Got mail)) (ap (option_map Got) at) (ap (λ (k : NodeState × List Mail). (Node k.0, k.1)) (takes_by None here)) name) ∙ v))
+                  ∙ (sym (now_is all rows seat (Deliver number) node born is (unknown mail.from mail.body node) (Some (Got mail)) (ap (option_map Got) at) (ap (λ (k : NodeState × List Mail). (Node k.0, k.1)) (mail_taken mail.from mail.body node group t.named t.comes None here)) name) ∙ v))
             ];
             good = subst (AreGood a) (sym row.sends_all) fine.1;
           }
@@ -247,20 +243,7 @@ module _ (well : ScenariosAreWellBorn) (a : Affair) (begins : BeginsFree a) (wor
       none_takes (Install n slot state sets) e here q = installs n slot state sets e here q.1
       none_takes (Request n client seq op) e here q = absurd q
       none_takes (Answer n seq answer) e here q = absurd q
-      none_takes (Prepare n ballot from_slot) e here q = missed (Prepare n ballot from_slot) e here q refl
-      none_takes (Promise n ballot reports) e here q = missed (Promise n ballot reports) e here q refl
-      none_takes (Accept n ballot slot command) e here q = missed (Accept n ballot slot command) e here q refl
-      none_takes (Accepted n ballot slot) e here q = missed (Accepted n ballot slot) e here q refl
-      none_takes (Nack n promised) e here q = missed (Nack n promised) e here q refl
-      none_takes (Learn n slot command) e here q = missed (Learn n slot command) e here q refl
-      none_takes (Ask n from_slot) e here q = missed (Ask n from_slot) e here q refl
-      none_takes (TxPrepare tx offer) e here q = missed (TxPrepare tx offer) e here q refl
-      none_takes (TxVote tx coord part vote) e here q = missed (TxVote tx coord part vote) e here q refl
-      none_takes (TxOutcome tx part outcome) e here q = missed (TxOutcome tx part outcome) e here q refl
-      none_takes (TxElsewhere tx coord hint) e here q = missed (TxElsewhere tx coord hint) e here q refl
-      none_takes (TxWatch tx watch) e here q = missed (TxWatch tx watch) e here q refl
-      none_takes (TxWatched tx coord part vote) e here q = missed (TxWatched tx coord part vote) e here q refl
-      none_takes (ToldMail order result) e here q = missed (ToldMail order result) e here q refl
+      none_takes body e here q = missed body e here q refl
 
       taken_so : (o : Option ReplicaState) → replica_of group node.replicas ≡ o → Done
       taken_so None here = none_takes mail.body refl here good

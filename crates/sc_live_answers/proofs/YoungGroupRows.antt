@@ -1,8 +1,7 @@
 -- A group that was nowhere in a quiet journal stays as it begins, row by row.
 use Rattle.std.proofs.Common.{◌≡◌, ◌⊎◌, ℕ, Bool, true, false, eqb, List, [], ◌∷◌, ◌++◌, append_assoc, drop, Option, Some, None, inl, inr, refl, sym, ◌∙◌, ap, subst}
 use Rattle.std.specs.Option.{option_map}
-use Rattle.std.specs.List.{filter}
-use Rattle.std.proofs.lemmas.Bool.{cases_Bool, cond-true, cond-false, eq-eqb, eqb-true}
+use Rattle.std.proofs.lemmas.Bool.{cond-true, cond-false, cases_eq}
 use Rattle.sc_base.specs.Definitions.{Each, same_draw}
 use Rattle.sc_node_table.specs.Values.{Draw, Base, OrderLine, Refused, Mail, MailBody, TxPrepare, TxVote, TxOutcome, TxElsewhere, TxWatch, TxWatched, Node, Client, Seat, Event, Deliver, Go, Input, Got, Row}
 use Rattle.sc_base.proofs.Lemmas.{same_name}
@@ -14,14 +13,16 @@ use Rattle.sc_client_table.specs.table.Definitions.{Client as ClientState, table
 use Rattle.sc_live_orderly.specs.Definitions.{IsCalmRow, IsTidy, rest, mail_for, taken, AreInTime}
 use Rattle.sc_live_orderly.proofs.Lemmas.{in_time_before, in_time_tidy, last_in_time, TakesFirst, quiet-empty, is_born-from, takes_first, rest-calm}
 use Rattle.sc_words.proofs.PaxosProofs.Lemmas.{Each-among, Each-append, Each-weaker}
+use Rattle.sc_words.proofs.PaxosProofs.ListLemmas.{Each-filter as each_filter}
 use Rattle.sc_law_entries.proofs.NamesProofs.Lemmas.{Each-drop}
 use Rattle.sc_scenario.specs.declared.scenario.scenarios.Scenario.{Scenario}
-use Rattle.sc_node_table.specs.Definitions.{result_sent, NodeState, replica_of, with_replica, with_children, group_of_mail, may_come, unknown, taken_by, routed, on_mail, group_of_order, ordered_of, ordered_row, ReplicaState, Executed, name_of, born_replica, mailed, slots_ahead}
+use Rattle.sc_node_table.specs.Definitions.{result_sent, NodeState, replica_of, with_replica, with_children, group_of_mail, may_come, unknown, routed, on_mail, group_of_order, ordered_of, ordered_row, ReplicaState, Executed, name_of, born_replica, mailed, slots_ahead}
 use Rattle.sc_law_walks.proofs.Lemmas.{either_way}
 use Rattle.sc_meaning.specs.sound.Definitions.{Player, player_table, births, as_nodes}
 use Rattle.sc_live_steps.specs.calm.Definitions.{players, Rows}
 use Rattle.sc_live_steps.proofs.CalmProofs.Lemmas.{put_others}
 use Rattle.sc_live_steps.specs.orders.Definitions.{errand_by, errand_for, errands_for, Errand, Here, IsNone, Stage, parties_of}
+use Rattle.sc_live_steps.proofs.OrdersProofs.Lemmas.{right_none as behind}
 use Rattle.sc_live_journals.specs.rows.Definitions.{view_at, IsSeat, with_event, IsBornOr, AreAsBegun, made_children}
 use Rattle.sc_live_journals.proofs.RowsProofs.Lemmas.{names_stay, mailed_keeps, order_keeps, found_name, view_others, view_was, Plays, replay_well, none_some}
 use Rattle.sc_live_journals.specs.groups.Definitions.{ScenariosAreWellBorn}
@@ -30,6 +31,8 @@ use Rattle.sc_live_answers.specs.Definitions.{ChildrenAreBegun, IsYoungAt, IsUna
 use Rattle.sc_live_journals.specs.scenes.Definitions.{IsNowhere, IsErrandFor, AreUntouched}
 use Rattle.sc_live_journals.proofs.ScenesProofs.Lemmas.{client_leaves, got_nothing, quiet_errands, unknown_apart, errands-append, left_by, left_row, OneOf, all_children, all_sent, now_is, was_is, calm_is}
 use Rattle.sc_live_answers.proofs.WellPlayers.{plays_of}
+use Rattle.sc_live_answers.proofs.QuestionTargets.{no_append as split_none}
+use Rattle.sc_live_answers.proofs.TakenMail.{mail_taken}
 
 -- a node has the number of its seat
 pub node_number : ScenariosAreWellBorn → (scenario : Scenario) (rows : Rows) (seat : Seat Player) (node : NodeState) → IsSeat (births as_nodes scenario) seat → value player_table seat rows ≡ Node node → node.me ≡ seat.who
@@ -64,10 +67,6 @@ silent_none name (mail ∷ mails) none e = ((λ is. head is), silent_none name m
   where
     own : List Errand
     own = errand_for name (errand_by mail.from mail.to mail.body)
-
-    split_none : {X : Type 0} (xs ys : List X) → xs ++ ys ≡ [] → (xs ≡ []) × (ys ≡ [])
-    split_none [] ys e = (refl, e)
-    split_none (x ∷ xs) ys e = absurd cc
 
     rest_none : errands_for name (mail ∷ mails) ≡ [] → errands_for name mails ≡ []
     rest_none n = (split_none (errand_for name (errand_by mail.from mail.to mail.body)) (errands_for name mails) n).1
@@ -106,10 +105,6 @@ module _ (words : ℕ → ℕ → ℕ × ℕ) (births : List (Seat Player)) (qui
       row : Row Mail OrderLine
       row = row_of player_table seat rows event
 
-      behind : {X : Type 0} (xs ys : List X) → xs ++ ys ≡ [] → ys ≡ []
-      behind [] ys e = e
-      behind (x ∷ xs) ys e = absurd cc
-
       all : errands_for name (left_by words births rows event) ++ errands_for name row.sent ≡ []
       all =
           sym (errands-append name (left_by words births rows event) row.sent)
@@ -117,7 +112,7 @@ module _ (words : ℕ → ℕ → ℕ × ℕ) (births : List (Seat Player)) (qui
 
   passes_young : (base : Base) → IsNowhere births quiet base.core.id → AreUntouched words births quiet (with_event rows seat event) later → Passes base → IsYoungAt words births rows base → IsYoungAt words births (with_event rows seat event) base
   passes_young base nowhere u p y = record {
-    born = λ who. elim (who_or who) [
+    born = λ who. elim (cases_eq who seat.who) [
       | inl is ↦ subst (λ n. Young n (view_at births (with_event rows seat event) base.core.id n)) (sym is) (own p.view (y.born seat.who))
       | inr ne ↦ subst (Young who) (sym (view_others births rows (row_of player_table seat rows event) base.core.id who ne)) (y.born who)
     ];
@@ -142,13 +137,6 @@ module _ (words : ℕ → ℕ → ℕ × ℕ) (births : List (Seat Player)) (qui
       own : IsBornOr base seat.who (view_at births (with_event rows seat event) base.core.id seat.who) (view_at births rows base.core.id seat.who) → Young seat.who (view_at births rows base.core.id seat.who) → Young seat.who (view_at births (with_event rows seat event) base.core.id seat.who)
       own (inl e) k = subst (Young seat.who) (sym e) k
       own (inr makes) k = inr makes.1
-
-      who_or : (node : ℕ) → (node ≡ seat.who) ⊎ (node ≡ seat.who → ⊥)
-      who_or node = elim (cases_Bool (eqb node seat.who)) [ inl t ↦ inl (eqb-true node seat.who t) | inr f ↦ inr (λ e. (let g : true ≡ false = sym (eq-eqb node seat.who e) ∙ f in absurd cc)) ]
-
-      each_filter : {X : Type 0} (P : X → Type 0) (test : X → Bool) (xs : List X) → Each P xs → Each P (filter test xs)
-      each_filter P test [] e = tt
-      each_filter P test (x ∷ xs) e = either_way (Each P) (test x) (x ∷ filter test xs) (filter test xs) (e.0, each_filter P test xs e.1) (each_filter P test xs e.1)
 
   -- a client that sends nothing
   client_passes : (base : Base) (client : ClientState) → value player_table seat rows ≡ Client client → (input : Input Mail OrderLine) → input_of (mails rows) event ≡ Some input → (table client input).1 ≡ [] → Passes base
@@ -196,13 +184,8 @@ module _ (words : ℕ → ℕ → ℕ × ℕ) (births : List (Seat Player)) (qui
       ne : name ≡ group → ⊥
       ne i = not_own (named ∙ ap Some (sym i))
 
-      takes_by : (o : Option ReplicaState) → replica_of group node.replicas ≡ o → on_mail mail.from mail.body node ≡ taken_by o group mail.from mail.body node
-      takes_by o here =
-          cond-true (may_come mail.from mail.body) (routed (group_of_mail mail.body) mail.from mail.body node) (node, []) comes
-          ∙ (ap (λ g. routed g mail.from mail.body node) named ∙ ap (λ x. taken_by x group mail.from mail.body node) here)
-
       none_passes : replica_of group node.replicas ≡ None → Passed
-      none_passes here = (let apart = unknown_apart name group ne node mail.from mail.body named in makes (unknown mail.from mail.body node) (takes_by None here) (inl apart.0) apart.1)
+      none_passes here = (let apart = unknown_apart name group ne node mail.from mail.body named in makes (unknown mail.from mail.body node) (mail_taken mail.from mail.body node group named comes None here) (inl apart.0) apart.1)
 
       module _ (r : ReplicaState) (here : replica_of group node.replicas ≡ Some r) where
         abbrev made : Executed
@@ -228,7 +211,7 @@ module _ (words : ℕ → ℕ → ℕ × ℕ) (births : List (Seat Player)) (qui
 
         some_passes : Passed
         some_passes =
-            makes (with_children made.1 put, made.0.1) (takes_by (Some r) here) (by (all_children seat.who name made.1 put (me node is)))
+            makes (with_children made.1 put, made.0.1) (mail_taken mail.from mail.body node group named comes (Some r) here) (by (all_children seat.who name made.1 put (me node is)))
             (quiet_errands (name_of r) name made.0.1 (λ i. ne (sym i ∙ own)) (mailed_keeps (name_of r) mail.from mail.body (r, []) (refl, tt)).1)
 
       taken_so : (o : Option ReplicaState) → replica_of group node.replicas ≡ o → Passed

@@ -1,8 +1,7 @@
 -- In the next quiet journal each group that has a replica has one at each of its first members.
-use Rattle.std.proofs.Common.{◌≡◌, ◌==◌, ℕ, zero, suc, ◌+◌, ◌-◌, ◌≤◌, ◌<◌, ◌||◌, length, Bool, true, false, true≢false, cond, List, [], ◌∷◌, ◌++◌, take, drop, Option, Some, None, inl, inr, refl, sym, ◌∙◌, ap, subst, arith}
+use Rattle.std.proofs.Common.{◌≡◌, ◌==◌, ℕ, zero, suc, ◌+◌, ◌-◌, ◌≤◌, ◌<◌, ◌||◌, Bool, true, false, true≢false, cond, List, [], ◌∷◌, ◌++◌, take, drop, Option, Some, None, inl, inr, refl, sym, ◌∙◌, ap, subst, arith}
 use Rattle.std.specs.List.{list_any}
 use Rattle.std.proofs.lemmas.Bool.{cases_Bool}
-use Rattle.std.proofs.lemmas.List.{length-append}
 use Rattle.sc_base.specs.Definitions.{Among, is_member}
 use Rattle.sc_node_table.specs.Values.{Draw, Base, OrderLine, Seat}
 use Rattle.sc_actor.specs.Definitions.{is_quiet}
@@ -18,7 +17,7 @@ use Rattle.sc_live_journals.specs.mail.Definitions.{SlotsAreLeft, ReplicasLast}
 use Rattle.sc_live_journals.specs.rows.Definitions.{view_at, next_in, marks_at, progress_at}
 use Rattle.sc_live_journals.specs.groups.Definitions.{IsTaughtOn, ScenariosAreWellBorn}
 use Rattle.sc_live_journals.specs.logs.Definitions.{logged_sets}
-use Rattle.sc_live_answers.specs.Definitions.{over_at, ChildrenAreBegun, GroupsAreTaught, slot_leaders_at, AreFew, Task, IsTaskOf, DeliveriesKeepWork, IsCalmJournal, IsUnder, Knows, AreCreatedByOrder, AreOfGroups, ChildrenAreCreated}
+use Rattle.sc_live_answers.specs.Definitions.{over_at, ChildrenAreBegun, GroupsAreTaught, slot_leaders_at, Task, IsTaskOf, DeliveriesKeepWork, IsCalmJournal, IsUnder, Knows, AreCreatedByOrder, AreOfGroups, ChildrenAreCreated}
 use Rattle.sc_live_journals.specs.scenes.Definitions.{IsThere}
 use Rattle.sc_live_answers.proofs.KnownChildren.{HasCreated}
 use Rattle.sc_live_answers.proofs.CreatedGroups.{are_young}
@@ -26,7 +25,8 @@ use Rattle.sc_live_answers.proofs.NewGroupDeliveries.{created_still}
 use Rattle.sc_live_answers.proofs.ChildrenAtStart.{created_first}
 use Rattle.sc_live_answers.proofs.ChildrenUnderOrders.{there_or, prefix_in_time}
 use Rattle.sc_live_answers.proofs.Lineage.{log_stays}
-use Rattle.sc_live_answers.proofs.ChildrenInLogs.{OfJournals, all_found, group_is, state_of, state_stays, first_known}
+use Rattle.sc_live_answers.proofs.ChildrenInLogs.{OfJournals, all_found, state_of, state_stays, first_known}
+use Rattle.sc_live_answers.proofs.JournalGroups.{calm_slots, calm_group}
 
 -- who goes was a member
 any_behind : {X : Type 0} (p : X → Bool) (n : ℕ) (xs : List X) → list_any p (drop n xs) ≡ true → list_any p xs ≡ true
@@ -60,18 +60,9 @@ module _ (laws : OfJournals) (more_laws : OfMembers) (words : ℕ → ℕ → �
       let later = more_laws.last words scenario quiet more name who had.0 (subst (AreInTime (players words (births as_nodes scenario))) at timely) had.1 in
       (later.0, ap (λ r. view_at (births as_nodes scenario) r name who) at ∙ later.1)
 
-  few : (base : Base) → AreFew as_nodes scenario journal base
-  few base prefix behind who r e v =
-      let in_time = prefix_in_time words (births as_nodes scenario) journal prefix behind e calm.timely in
-      let parts = ap length e ∙ length-append prefix behind in
-      let short = calm.short in
-      let left = more_laws.left words scenario prefix base.core.id who r in_time (omega (arith, parts, short)) v in
-      let slots = left.0 in
-      (omega (arith, slots), left.1)
-
   module _ (p : Base) (stands : Among p (groups_at as_nodes scenario.groups journal)) where
     taught : IsTaughtOn (logged_sets as_nodes p journal) (over_at as_nodes p journal) (slot_leaders_at as_nodes scenario p journal) words (births as_nodes scenario) rows p
-    taught = (more_laws.taught words scenario journal rows under.prefix.more p (group_is laws words scenario journal calm p stands) calm.timely (few p) under.prefix.is (under.sent p stands).so).0
+    taught = (more_laws.taught words scenario journal rows under.prefix.more p (calm_group words scenario journal calm p stands) calm.timely (calm_slots words scenario journal calm more_laws.left p) under.prefix.is (under.sent p stands).so).0
 
     no_marks : (who : ℕ) → marks_at (players words (births as_nodes scenario)) rows p.core.id who ≡ []
     no_marks who = elim (cases_Bool (is_born (players words (births as_nodes scenario)) who)) [

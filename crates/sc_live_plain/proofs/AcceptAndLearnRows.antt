@@ -20,7 +20,7 @@ use Rattle.sc_live_plain.proofs.ExecutedCalls.{IsServed, call_plain}
 -- ---- Accept
 
 -- a replica that accepts: it has seen the ballot, and has promised it
-pub accepted_state : Frame → ReplicaState → ℕ → Command → ReplicaState
+unfoldable pub accepted_state : Frame → ReplicaState → ℕ → Command → ReplicaState
 accepted_state frame r slot command = record r {
   hint = Some frame.lead;
   top = cond (below r.top frame.ballot) frame.ballot r.top;
@@ -168,7 +168,7 @@ module _ (begun : Requests) (frame : Frame) (is : IsFrame frame) (me : ℕ) (r :
     serves : IsServed begun frame client seq op (applied r.group (Call client seq op))
     serves = call_plain begun frame is client seq op r.group call p.group
 
-    pub learnt_state : ReplicaState
+    unfoldable pub learnt_state : ReplicaState
     learnt_state = (cleared (next r) (entered (Call client seq op) r, [])).0
 
     core_after : (entered (Call client seq op) r).group.core ≡ frame.core

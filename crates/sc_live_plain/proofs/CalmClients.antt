@@ -7,7 +7,7 @@ use Rattle.std.proofs.lemmas.Bool.{cond_both, cond-true, cond-false, cases_Bool,
 use Rattle.std.proofs.lemmas.List.{length_push, length-map, length-take-le}
 use Rattle.std.proofs.lemmas.Option.{slice_get-get_or, slice_get_within}
 use Rattle.sc_base.specs.Definitions.{Among, Each, Arc, end_of, client_actor, key_of, same_draw, pos_of}
-use Rattle.sc_node_table.specs.Values.{Draw, Op, Get, Reply, Got, Link, Route, AnswerBody, Value, NotLeader, NotMine, Gone, Stale, Mail, MailBody, Request, Answer, Prepare, Promise, Accept, Accepted, Nack, Learn, Ask, Install, TxPrepare, TxVote, TxOutcome, TxElsewhere, TxWatch, TxWatched, Told}
+use Rattle.sc_node_table.specs.Values.{Draw, Op, Get, Reply, Got, Link, Route, AnswerBody, Value, NotLeader, NotMine, Gone, Stale, Mail, MailBody, Answer}
 use Rattle.sc_base.proofs.Lemmas.{draw_is, same_name}
 use Rattle.sc_words.specs.ideal.Definitions.{holds_key}
 use Rattle.sc_actor.specs.declared.rows.Input.TheVariants.{Go}
@@ -435,22 +435,7 @@ module _ (set : Setting) where
 
       takes_by : (body : MailBody) → mail.body ≡ body → Keeps (got mail.from body client)
       takes_by (Answer group seq answer) e = answered_by group seq answer e k.state
-      takes_by (Request group to_ seq op) e = no_answer (Request group to_ seq op) e (λ g n a x. cc)
-      takes_by (Prepare group ballot from_slot) e = no_answer (Prepare group ballot from_slot) e (λ g n a x. cc)
-      takes_by (Promise group ballot reports) e = no_answer (Promise group ballot reports) e (λ g n a x. cc)
-      takes_by (Accept group ballot slot command) e = no_answer (Accept group ballot slot command) e (λ g n a x. cc)
-      takes_by (Accepted group ballot slot) e = no_answer (Accepted group ballot slot) e (λ g n a x. cc)
-      takes_by (Nack group promised) e = no_answer (Nack group promised) e (λ g n a x. cc)
-      takes_by (Learn group slot command) e = no_answer (Learn group slot command) e (λ g n a x. cc)
-      takes_by (Ask group from_slot) e = no_answer (Ask group from_slot) e (λ g n a x. cc)
-      takes_by (Install group slot base sets) e = no_answer (Install group slot base sets) e (λ g n a x. cc)
-      takes_by (TxPrepare tx offer) e = no_answer (TxPrepare tx offer) e (λ g n a x. cc)
-      takes_by (TxVote tx coord part vote) e = no_answer (TxVote tx coord part vote) e (λ g n a x. cc)
-      takes_by (TxOutcome tx part outcome) e = no_answer (TxOutcome tx part outcome) e (λ g n a x. cc)
-      takes_by (TxElsewhere tx coord hint) e = no_answer (TxElsewhere tx coord hint) e (λ g n a x. cc)
-      takes_by (TxWatch tx watch) e = no_answer (TxWatch tx watch) e (λ g n a x. cc)
-      takes_by (TxWatched tx coord part vote) e = no_answer (TxWatched tx coord part vote) e (λ g n a x. cc)
-      takes_by (Told order result) e = no_answer (Told order result) e (λ g n a x. cc)
+      takes_by body e = no_answer body e (λ g n a x. cc)
 
       pub takes_calm : StaysCalm later set asks gone (table client (Got mail)) × (Seeks (table client (Got mail)) ⊎ Ignores client mail (table client (Got mail)))
       takes_calm = takes_by mail.body refl

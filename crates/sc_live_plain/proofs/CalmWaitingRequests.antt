@@ -87,9 +87,6 @@ module _ (words : ℕ → ℕ → ℕ × ℕ) (scenario : Scenario) (begins : Is
     -- ---- rows of nodes
 
     module _ (room : AreFarFromLast scenario set rows) (me : ℕ) (one : 1 ≤ me) (most : me ≤ scenario.nodes) (born : find (λ (other : Seat Player). eqb other.who me) (births as_nodes scenario) ≡ Some (node_seat as_nodes scenario.groups scenario.policy me)) where
-      away : (asks : Asks) → Among asks scenario.clients → client_actor asks.client ≡ me → ⊥
-      away asks a e = turns_of.no_client words scenario begins set is rows t j room me one most born asks a e
-
       module _ (event : Event OrderLine) (fine : IsInOrder (system_of as_nodes words scenario) rows me event) where
         after : (who : ℕ) → rest (system_of as_nodes words scenario) (rows ++ row_of player_table (node_seat as_nodes scenario.groups scenario.policy me) rows event ∷ []) who
             ≡ drop (taken who (row_of player_table (node_seat as_nodes scenario.groups scenario.policy me) rows event)) (rest (system_of as_nodes words scenario) rows who) ++ mail_for (system_of as_nodes words scenario) who (row_of player_table (node_seat as_nodes scenario.groups scenario.policy me) rows event).sent
@@ -98,7 +95,7 @@ module _ (words : ℕ → ℕ → ℕ × ℕ) (scenario : Scenario) (begins : Is
         -- a client is what it was
         was_client : (asks : Asks) (client : ClientState) → Among asks scenario.clients → value player_table (client_seat (route_of begins.first) asks) (rows ++ row_of player_table (node_seat as_nodes scenario.groups scenario.policy me) rows event ∷ []) ≡ Client client
             → value player_table (client_seat (route_of begins.first) asks) rows ≡ Client client
-        was_client asks client a e = sym (value_others words scenario begins rows (row_of player_table (nseat me) rows event) (cseat asks) (λ x. away asks a x)) ∙ e
+        was_client asks client a e = sym (value_others words scenario begins rows (row_of player_table (nseat me) rows event) (cseat asks) (λ x. turns_of.no_client words scenario begins set is rows t j room me one most born asks a x)) ∙ e
 
         -- where the node that was asked does not act
         elsewhere : (client : ClientState) (group : Draw) (target seq : ℕ) → (client_actor client.me ≡ me → ⊥) → (target ≡ me → ⊥) → IsSought rows client group target seq → IsSought (rows ++ row_of player_table (node_seat as_nodes scenario.groups scenario.policy me) rows event ∷ []) client group target seq
@@ -122,6 +119,13 @@ module _ (words : ℕ → ℕ → ℕ × ℕ) (scenario : Scenario) (begins : Is
         abbrev Later : Type 0
         Later = IsSought (rows ++ row_of player_table (node_seat as_nodes scenario.groups scenario.policy me) rows (Deliver number) ∷ []) client w.group w.target w.seq
 
+        -- what becomes of its request where that is taken, and where it is queued
+        abbrev Took : Type 0
+        Took = (op : Op) → first.mail ≡ asking client.me w.target w.group w.seq op → Later
+
+        abbrev Held : Type 0
+        Held = IsHeldAt rows client w.group w.target w.seq → Later
+
         number_is : is_node me ≡ true
         number_is = node_number words scenario begins me one most
 
@@ -129,7 +133,7 @@ module _ (words : ℕ → ℕ → ℕ × ℕ) (scenario : Scenario) (begins : Is
         who = me_of asks client a was
 
         no_client : client_actor client.me ≡ me → ⊥
-        no_client e = away asks a (ap client_actor (sym who) ∙ e)
+        no_client e = turns_of.no_client words scenario begins set is rows t j room me one most born asks a (ap client_actor (sym who) ∙ e)
 
         -- the replicas before and after
         before_is : (group : Draw) → replica_at scenario rows group me ≡ replica_of group n.node.replicas
@@ -182,7 +186,7 @@ module _ (words : ℕ → ℕ → ℕ × ℕ) (scenario : Scenario) (begins : Is
                 }))
 
             -- the request comes to it
-            took : (op : Op) → first.mail ≡ asking client.me w.target w.group w.seq op → Later
+            took : Took
             took op same =
                 let response = subst (λ (m : Mail). Does (IsBegun scenario rows) k.frame (is.are k.frame k.is_frame) n.node.me k.r m.from m.body k.place) same k.row.response in
                 elim (response.1) [
@@ -200,12 +204,12 @@ module _ (words : ℕ → ℕ → ℕ × ℕ) (scenario : Scenario) (begins : Is
                   | inr x ↦ told x
                 ]
 
-          took_by : (op : Op) → first.mail ≡ asking client.me w.target w.group w.seq op → Later
+          took_by : Took
           took_by op same =
               let b = subst (λ (m : Mail). IsPlainBody (IsBegun scenario rows) k.frame m.from m.to m.body) same k.says in
               took (sym b.0) b.1.to_is op same
 
-          held_by : IsHeldAt rows client w.group w.target w.seq → Later
+          held_by : Held
           held_by h = elim (cases_Bool (same_draw w.group k.frame.core.id)) [
             | inl yes_ ↦ (
                 let name : k.frame.core.id ≡ w.group = sym (draw_is w.group k.frame.core.id yes_) in
@@ -228,7 +232,7 @@ module _ (words : ℕ → ℕ → ℕ × ℕ) (scenario : Scenario) (begins : Is
 
         -- by one that steps aside: the node stays, and answers
         module _ (group : Draw) (c seq : ℕ) (op_ : Op) (body_is : first.mail.body ≡ Request group c seq op_) (answer : AnswerBody) (ends : EndsWait answer) (step_is_ : step ≡ (n.node, mail_of me (client_actor c) (Answer group seq answer) ∷ [])) where
-          took_aside : (op : Op) → first.mail ≡ asking client.me w.target w.group w.seq op → Later
+          took_aside : Took
           took_aside op same =
               let body : Request group c seq op_ ≡ Request w.group client.me w.seq op = sym body_is ∙ ap (λ (m : Mail). m.body) same in
               let g : group ≡ w.group = cc in
@@ -239,7 +243,7 @@ module _ (words : ℕ → ℕ → ℕ × ℕ) (scenario : Scenario) (begins : Is
               ∙ (ap (λ x. mail_of w.target (client_actor x) (Answer group seq answer)) who_ ∙ (ap (λ d. mail_of w.target (client_actor client.me) (Answer d seq answer)) g ∙ ap (λ m. mail_of w.target (client_actor client.me) (Answer w.group m answer)) seq_)) in
               told_later answer ends (subst (Among (mail_of w.target (client_actor client.me) (Answer w.group w.seq answer))) (sym (ap (λ (x : NodeState × List Mail). x.1) step_is_)) (inl mail))
 
-          held_aside : IsHeldAt rows client w.group w.target w.seq → Later
+          held_aside : Held
           held_aside h =
               inr (inr (record {
                 frame = h.frame;
@@ -255,8 +259,8 @@ module _ (words : ℕ → ℕ → ℕ × ℕ) (scenario : Scenario) (begins : Is
 
         -- whoever takes it
         record Takes : Type 0 where
-          took_it : (op : Op) → first.mail ≡ asking client.me w.target w.group w.seq op → Later
-          held_it : IsHeldAt rows client w.group w.target w.seq → Later
+          took_it : Took
+          held_it : Held
 
         sought_here : Takes → IsSought rows client w.group w.target w.seq → Later
         sought_here takes (inl asked) =
@@ -312,7 +316,7 @@ module _ (words : ℕ → ℕ → ℕ × ℕ) (scenario : Scenario) (begins : Is
             let s = sought asks client a was w in
             elim (cases_eq w.target me) [
               | inl here ↦ sought_here number fine at first_ step_ became_ sends_ asks client a was w here (takes_by asks client a was w here (turns_of.turn words scenario begins set is rows t j room me one most born number fine)) s
-              | inr ne ↦ elsewhere (Deliver number) fine client w.group w.target w.seq (λ e. away asks a (ap client_actor (sym (me_of asks client a was)) ∙ e)) ne s
+              | inr ne ↦ elsewhere (Deliver number) fine client w.group w.target w.seq (λ e. turns_of.no_client words scenario begins set is rows t j room me one most born asks a (ap client_actor (sym (me_of asks client a was)) ∙ e)) ne s
             ]
 
       node_go : (fine : has_started rows me ≡ false) → AreSought (rows ++ row_of player_table (node_seat as_nodes scenario.groups scenario.policy me) rows Go ∷ [])
@@ -320,7 +324,7 @@ module _ (words : ℕ → ℕ → ℕ × ℕ) (scenario : Scenario) (begins : Is
           let r = row_of player_table (nseat me) rows Go in
           let was = was_client Go fine asks client a now_is in
           let n = turns_of.n words scenario begins set is rows t j room me one most born in
-          let ne : client_actor client.me ≡ me → ⊥ = λ e. away asks a (ap client_actor (sym (me_of asks client a was)) ∙ e) in
+          let ne : client_actor client.me ≡ me → ⊥ = λ e. turns_of.no_client words scenario begins set is rows t j room me one most born asks a (ap client_actor (sym (me_of asks client a was)) ∙ e) in
           let acted_go : acted player_table (value player_table (nseat me) rows) (input_of {O = OrderLine} (mails rows) Go) ≡ (Node n.node, []) = ap (λ p. acted player_table p (Some GoInput)) n.is in
           let same : value player_table (nseat me) (rows ++ r ∷ []) ≡ Node n.node = turns_of.value_own words scenario begins set is rows t j (nseat me) Go ∙ ap (λ (p : Player × List Mail). p.0) acted_go in
           elim (cases_eq w.target me) [

@@ -16,7 +16,6 @@ use Rattle.sc_actor.specs.declared.rows.Row.{Row}
 use Rattle.sc_actor.specs.declared.rows.Event.TheVariants.{Told as Ordered}
 use Rattle.sc_actor.specs.Replay.{value}
 use Rattle.sc_words.proofs.PaxosProofs.ListLemmas.{Each-among}
-use Rattle.sc_paxos_law.proofs.Among.{member-among}
 use Rattle.sc_client_table.specs.table.Client.{born_client}
 use Rattle.sc_node_table.specs.Node.{replica_of}
 use Rattle.sc_node_table.specs.Ordering.{ordered_row}
@@ -27,6 +26,7 @@ use Rattle.sc_meaning.specs.sound.Players.{player_table, node_seat, as_nodes, ro
 use Rattle.sc_live_steps.specs.calm.QuietJournals.{IsQuiet, StandsQuiet, IsNewest, IsAtRest, IsBelow, MayVote, IsUpToDate}
 use Rattle.sc_live_plain.specs.LeaderMailInJournals.{replicas_of}
 use Rattle.sc_live_plain.proofs.ExampleBudget.{leave_it}
+use Rattle.sc_paxos_law.proofs.Lemmas.{member-among}
 
 -- the journal: the order is refused at once
 rows : List (Row Mail OrderLine)

@@ -11,7 +11,8 @@ use Rattle.sc_paxos_law.proofs.Lemmas.{member-among}
 use Rattle.sc_live_plain.proofs.SlotCounts.{one_yes, one_no, count-cons}
 use Rattle.sc_live_plain.proofs.LeadingReplicas.{flights_at}
 use Rattle.sc_live_plain.proofs.Lists.{some_is}
-use Rattle.sc_live_steps.proofs.FollowingProofs.CountedVotes.{with_own, with_kept}
+use Rattle.sc_live_steps.proofs.FollowingProofs.CountedVotes.{with_own}
+use Rattle.sc_live_steps.proofs.FollowingProofs.Lemmas.{with_kept}
 
 -- ---- the flights
 

@@ -58,7 +58,7 @@ abbrev StartsAs : Option Way → Way → Type 0
 StartsAs None way = Unit {0}
 StartsAs (Some here) way = here.lo ≡ way.lo
 
-set_names : (test : Draw → Bool) (known : KnownGroups) (way : Way) → map name_in (set_value test known way) ≡ map name_in known
+pub set_names : (test : Draw → Bool) (known : KnownGroups) (way : Way) → map name_in (set_value test known way) ≡ map name_in known
 set_names test [] way = refl
 set_names test (k ∷ ks) way = cond_both (test k.0) ((k.0, way) ∷ ks) (k ∷ set_value test ks way) (λ l. map name_in l ≡ k.0 ∷ map name_in ks) (λ _. refl) (λ _. ap (λ l. k.0 ∷ l) (set_names test ks way))
 
@@ -74,7 +74,7 @@ set_starts test (k ∷ ks) way e =
           ap (map start_known) (cond-false (test k.0) ((k.0, way) ∷ ks) (k ∷ set_value test ks way) f) ∙ ap (λ l. start_known k ∷ l) (set_starts test ks way rest))
     ]
 
-started_names : (group : Draw) (lo : ℕ) (known : KnownGroups) → map name_in (starting group lo known) ≡ map name_in known
+pub started_names : (group : Draw) (lo : ℕ) (known : KnownGroups) → map name_in (starting group lo known) ≡ map name_in known
 started_names group lo known = by (way_to group known)
   where
     by : (o : Option Way) → map name_in (changed (λ way. record way { lo = lo }) group known o) ≡ map name_in known

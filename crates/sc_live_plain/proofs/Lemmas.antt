@@ -17,7 +17,7 @@ pub use Rattle.sc_live_plain.proofs.RepeatedMail.{mail_of}
 pub use Rattle.sc_live_plain.proofs.LeadingReplicas.{in_range, range_yes, IsHeld, range_behind}
 pub use Rattle.sc_live_plain.proofs.Pumps.{call_is}
 pub use Rattle.sc_live_plain.proofs.LeaderExecutions.{IsRun}
-pub use Rattle.sc_live_plain.proofs.AcceptAndLearnRows.{as_voter, learn_is, learnt_plain, learnt_follower, learnt_next}
+pub use Rattle.sc_live_plain.proofs.AcceptAndLearnRows.{as_voter, learn_is, learnt_plain, learnt_follower, learnt_next, accept_is}
 pub use Rattle.sc_live_plain.proofs.Replicas.{put_found}
 pub use Rattle.sc_live_plain.proofs.ReplicaRows.{leading_at, replica_row, DidRefuse, DidQueue, DidCount, following_at, none_stops, Does}
 pub use Rattle.sc_live_plain.proofs.NodeRows.{IsFor, for_node, NodeRow, mail_is, others_after}
@@ -28,7 +28,7 @@ pub use Rattle.sc_live_plain.proofs.InductionBase.{born_plain, born_found, few_c
 pub use Rattle.sc_live_plain.proofs.ExampleBudget.{calm_at_budget}
 unfoldable pub use Rattle.sc_live_plain.proofs.ExampleBudget.{asks, lines_of, ordered}
 pub use Rattle.sc_live_plain.proofs.QuietFrames.{quiet_stand_plain as quiet_groups_stand_plain}
-pub use Rattle.sc_live_plain.proofs.KnownGroups.{learn_in_turn as clients_learn_in_turn, name_in, id_of, learn_in_turn, gap, near_behind}
+pub use Rattle.sc_live_plain.proofs.KnownGroups.{learn_in_turn as clients_learn_in_turn, name_in, id_of, learn_in_turn, gap, near_behind, set_names, started_names}
 pub use Rattle.sc_live_plain.proofs.CalmRows.{may_pump, serves_all, runs, follows}
 pub use Rattle.sc_live_plain.proofs.CalmNodes.{nodes_calm as nodes_stay_calm, stays_by, Turns, step_is, StepsAside, aside_step, turns, aside_is, aside_answer}
 pub use Rattle.sc_live_plain.proofs.CalmClients.{clients_calm as clients_stay_calm, unasked, waiting_home}
@@ -36,7 +36,8 @@ pub use Rattle.sc_live_plain.proofs.MoreCalmRequests.{aside_mark, takes_only, go
 pub use Rattle.sc_live_plain.proofs.RequestPhaseClients.{asking_row}
 pub use Rattle.sc_live_plain.proofs.RequestsAfterQuiet.{quiet_ask}
 pub use Rattle.sc_live_plain.proofs.CalmWaitingRequests.{AreSought, IsSought, sought_row}
-pub use Rattle.sc_live_plain.proofs.RequestLines.{lines_answered}
+pub use Rattle.sc_live_plain.proofs.RequestLines.{lines_answered, asked_node}
 pub use Rattle.sc_live_plain.proofs.Laws.{plain_lines_end_quiet, requests_go_on, quiet_journals_ask}
 pub use Rattle.sc_live_plain.proofs.LastLineEnds.{all_plain, last_lines_quiet}
 pub use Rattle.sc_live_plain.proofs.QuietLineEnds.{lines_plain}
+pub use Rattle.sc_live_plain.proofs.LightJournals.{is_node_born}

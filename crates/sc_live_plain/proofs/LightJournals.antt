@@ -44,7 +44,7 @@ born_among (x ∷ seats) seat (inl same) = or_left (eqb x.who seat.who) _ (eq-eq
 born_among (x ∷ seats) seat (inr a) = or_right (eqb x.who seat.who) _ (born_among seats seat a)
 
 module _ (words : ℕ → ℕ → ℕ × ℕ) (scenario : Scenario) (stage : IsStage scenario) where
-  is_node_born : (me : ℕ) → 1 ≤ me → me ≤ scenario.nodes → is_born (system_of as_nodes words scenario) me ≡ true
+  pub is_node_born : (me : ℕ) → 1 ≤ me → me ≤ scenario.nodes → is_born (system_of as_nodes words scenario) me ≡ true
   is_node_born me one most = born_among (births as_nodes scenario) (node_seat as_nodes scenario.groups scenario.policy me) (node_born words scenario stage me one most)
 
   is_client_born : (asks : Asks) → Among asks scenario.clients → is_born (system_of as_nodes words scenario) (client_actor asks.client) ≡ true

@@ -14,7 +14,7 @@ use Rattle.sc_meaning.specs.sound.Definitions.{node_seat, client_seat, client_se
 use Rattle.sc_law_groups.proofs.WholeProofs.Lemmas.{all_apart, bases_from, first_and_others}
 use Rattle.sc_paxos_law.proofs.Lemmas.{Among-either, from_map, member-among}
 use Rattle.sc_live_plain.specs.Definitions.{Frame, frame_of, IsFrame, AreNamedApart}
-use Rattle.sc_live_steps.proofs.FollowingProofs.LeaderRows.{least_in}
+use Rattle.sc_live_steps.proofs.FollowingProofs.Lemmas.{least_in}
 
 -- the frames of the groups of a scenario
 abbrev pub frames_of : Scenario → List Frame

@@ -43,7 +43,7 @@ module _ (words : ℕ → ℕ → ℕ × ℕ) (scenario : Scenario) (begins : Is
   Holds rows = IsAsking words scenario set begins.first rows × AreSought words scenario begins set is linked rows
 
   -- a node that was asked is one
-  asked_node : (rows : Journal) → IsAsking words scenario set begins.first rows → (asks : Asks) (client : ClientState) → Among asks scenario.clients → value player_table (client_seat (route_of begins.first) asks) rows ≡ Client client → (w : IsWaiting client)
+  pub asked_node : (rows : Journal) → IsAsking words scenario set begins.first rows → (asks : Asks) (client : ClientState) → Among asks scenario.clients → value player_table (client_seat (route_of begins.first) asks) rows ≡ Client client → (w : IsWaiting client)
       → (1 ≤ w.target) × (w.target ≤ scenario.nodes)
   asked_node rows j asks client a e w =
       let c = j.clients asks a in
