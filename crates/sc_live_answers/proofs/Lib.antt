@@ -10,6 +10,7 @@ pub mod KnownRestingPrefixes
 pub mod RequestPhases
 pub mod Ballots
 pub mod VoteEntries
+pub mod MemberWalks
 pub mod JournalGroups
 pub mod TakenMail
 pub mod ReplicaChildren

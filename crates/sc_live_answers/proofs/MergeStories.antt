@@ -13,11 +13,12 @@ use Rattle.sc_words.specs.declared.commands.votes.Past.TheVariants as Cast
 use Rattle.sc_words.specs.declared.commands.votes.Vote.TheVariants as Vows
 use Rattle.sc_meaning.specs.entries.Definitions.{named_group}
 use Rattle.sc_meaning.specs.declared.entries.LogEntry.{LogEntry}
-use Rattle.sc_group_table.specs.machine.Definitions.{Group, applied, begin_refused, refused_in, locked_in, Plan, can_migrate, can_repart, can_split, closing_group, closing_plan, giving_group, giving_plan, has_key_of, may_merge, merge_plan, merged_group, merged_route, migrate_plan, migrated_group, part_gift, repart_plan, split_plan, taken, taking_group, taking_plan, left_group, asks_watcher, committed, decided_group, granted, heard_group, is_coordinating, participant_answered, released, vote_recorded, watch_answered, watch_recorded}
+use Rattle.sc_group_table.specs.machine.Definitions.{Group, applied, begin_refused, refused_in, locked_in, Plan, can_migrate, can_repart, can_split, closing_group, closing_plan, giving_group, giving_plan, has_key_of, may_merge, merge_plan, merged_group, merged_route, migrate_plan, migrated_group, part_gift, repart_plan, split_plan, taken, taking_group, taking_plan, left_group, asks_watcher, committed, decided_group, granted, heard_group, is_coordinating, participant_answered, released, vote_recorded, watch_answered, watch_recorded, decided}
 use Rattle.sc_law_entries.specs.ring.Definitions.{AreAllowed, IsAllowed, Sources, StoryWorld, first_recorded, recorded_stories, recorded_after, recorded_next, Groups, IsCoordinating, LockOk, BeginInPlace, stories_of, Stories, Story, new_story, put, retold, stories_after, vote_in, watch_vote_in, with_answer, with_asked, with_decision, with_vote, with_watch_vote}
 use Rattle.sc_law_entries.proofs.RingProofs.Lemmas.{arcs_in, at_start, Kept, groups_in, Ring, KeptWorld, kept_on}
 use Rattle.sc_law_groups.proofs.WholeProofs.Lemmas.{comes, dull_same}
 use Rattle.sc_live_answers.proofs.FittingGroups.{none_of}
+use Rattle.sc_law_walks.proofs.Lemmas.{MachineWalk, machine_step, EndsIt, ChangesNothing}
 
 -- ---- where a decision leads
 
@@ -29,82 +30,57 @@ module _ (s : Group) where
   abbrev pub Leads : Draw → Group × Effect → Type 0
   Leads tx r = (into : Route) → decided_in r.1 ≡ Some (Is.Merged into) → (into.group ≡ s.core.id) × (body : Body) × (order : ℕ) × (heard : Option Heard) × (s.core.lock ≡ Coordinating tx body order heard)
 
-  module _ (tx : Draw) (body : Body) (order : ℕ) (heard : Option Heard) (lock : s.core.lock ≡ Coordinating tx body order heard) where
-    idle : Leads tx (s, Was.NoEffect tx)
-    idle into e = no_outcome (Is.Merged into) _ e
+  -- what a command may decide leads there
+  abbrev LeadsBy : Command → Group × Effect → Type 0
+  LeadsBy c r = (tx : Draw) → EndsIt tx c → Leads tx r
 
-    aborts : (after : Group) → Leads tx (after, Was.Decided Is.Abort)
-    aborts after into e = absurd (let bad : Some Is.Abort ≡ Some (Is.Merged into) = e in cc)
+  undecided : (c : Command) (effect : Effect) → ChangesNothing s c effect → decided_in effect ≡ None
+  undecided c (Was.Decided outcome) none = absurd none
+  undecided c _ none = refl
 
-    -- a plan leads there
-    abbrev PlanLeads : Plan → Type 0
-    PlanLeads None = Unit {0}
-    PlanLeads (Some plan) = (into : Route) → plan.1 ≡ Is.Merged into → into.group ≡ s.core.id
+  none_so : (tx : Draw) (r : Group × Effect) → decided_in r.1 ≡ None → Leads tx r
+  none_so tx r none into e = no_outcome (Is.Merged into) _ (sym none ∙ e)
 
-    plan_if : (b : Bool) (plan : Group × Outcome) → ((into : Route) → plan.1 ≡ Is.Merged into → into.group ≡ s.core.id) → PlanLeads (cond b (Some plan) None)
-    plan_if true plan k = k
-    plan_if false plan k = tt
+  other_so : (tx : Draw) (outcome : Outcome) (after : Group) → ((into : Route) → outcome ≡ Is.Merged into → ⊥) → Leads tx (decided after tx outcome)
+  other_so tx outcome after other into e = absurd (other into (same_Some outcome (Is.Merged into) e))
 
-    by_plan : (plan : Plan) → PlanLeads plan → Leads tx (committed plan s tx)
-    by_plan None k into e = no_outcome (Is.Merged into) _ e
-    by_plan (Some plan) k into e = (k into (same_Some plan.1 (Is.Merged into) e), body, order, heard, lock)
+  merge_so : (tx : Draw) (order : ℕ) (heard : Option Heard) (frozen : Frozen) (after : Group) → s.core.lock ≡ Coordinating tx At.Merge order heard → Leads tx (decided after tx (Is.Merged (merged_route s.core frozen)))
+  merge_so tx order heard frozen after lock into e =
+      let same : Is.Merged (merged_route s.core frozen) ≡ Is.Merged into = same_Some (Is.Merged (merged_route s.core frozen)) (Is.Merged into) e in
+      (by_route frozen into same, At.Merge, order, heard, lock)
+    where
+      by_route : (frozen : Frozen) (into : Route) → Is.Merged (merged_route s.core frozen) ≡ Is.Merged into → into.group ≡ s.core.id
+      by_route frozen into e = (let same : merged_route s.core frozen ≡ into = cc in ap (λ (r : Route). r.group) (sym same))
 
-    by_route : (frozen : Frozen) (into : Route) → Is.Merged (merged_route s.core frozen) ≡ Is.Merged into → into.group ≡ s.core.id
-    by_route frozen into e = (let same : merged_route s.core frozen ≡ into = cc in ap (λ (r : Route). r.group) (sym same))
+  leads_walk : MachineWalk s LeadsBy
+  leads_walk = record {
+    same = λ c effect none tx ends. none_so tx (s, effect) (undecided c effect none);
+    serves = λ client seq op tx ends. absurd ends;
+    joins = λ node order a tx ends. absurd ends;
+    leaves = λ node order a tx ends. absurd ends;
+    splits = λ at child order a new alone tx ends. absurd ends;
+    begins_split = λ at child order a new other tx ends. absurd ends;
+    begins = λ t body order a new tx ends. absurd ends;
+    offers = λ t offer new tx ends. absurd ends;
+    watches = λ t watch new tx ends. absurd ends;
+    hears = λ t order lock frozen by other tx ends. none_so tx (s, Was.Changed) refl;
+    aborts = λ c t at body order got lock tx ends. other_so tx Is.Abort s (λ into e. cc);
+    divides = λ t at child order got lock by can tx ends. other_so tx Is.Divided s (λ into e. cc);
+    merges = λ t order heard lock by may tx ends. merge_so tx order (Some heard) heard.frozen s (lock ∙ ap (λ x. Coordinating x At.Merge order (Some heard)) ends);
+    closes = λ t order lock frozen by two may tx ends. merge_so tx order None frozen s (lock ∙ ap (λ x. Coordinating x At.Merge order None) ends);
+    gives = λ t at order lock frozen by here can tx ends. other_so tx (Is.Moved at (Some (part_gift s at))) s (λ into e. cc);
+    takes = λ t at order lock frozen by there can tx ends. other_so tx (Is.Moved at None) s (λ into e. cc);
+    migrates = λ t node order lock frozen by can tx ends. other_so tx (Is.Migrated node) s (λ into e. cc);
+    stays = λ t offer lock tx ends. absurd ends;
+    goes = λ t offer lock into tx ends. absurd ends;
+    gains = λ t offer lock at gift can tx ends. absurd ends;
+    loses = λ t offer lock at can tx ends. absurd ends;
+    welcomes = λ t offer lock node few tx ends. absurd ends;
+    sees_end = λ t watch lock outcome tx ends. absurd ends;
+  }
 
-    no_move : (at : ℕ) (gift : _) (into : Route) → Is.Moved at gift ≡ Is.Merged into → into.group ≡ s.core.id
-    no_move at gift into e = absurd cc
-
-    repart_so : (at : ℕ) (frozen : Frozen) → PlanLeads (repart_plan s at frozen)
-    repart_so at frozen = cond_both (holds s.core.arc at) (giving_plan s at frozen) (taking_plan s at frozen) PlanLeads
-        (λ _. plan_if (can_repart s.core at frozen) (giving_group s at frozen, Is.Moved at (Some (part_gift s at))) (no_move at (Some (part_gift s at))))
-        (λ _. plan_if (can_repart s.core at frozen && not (has_key_of s.pairs (taken at frozen).pairs)) (taking_group s at frozen, Is.Moved at None) (no_move at None))
-
-    granted_so : (b : Body) (frozen : Frozen) (by : ℕ) → Leads tx (granted b s tx order frozen by)
-    granted_so At.Merge frozen by =
-        cond_both (same_draw frozen.succ.group s.core.id) (committed (closing_plan s frozen) s tx) (heard_group s tx At.Merge order (record { frozen = frozen; by = by }), Was.Changed) (Leads tx)
-        (λ _. by_plan (closing_plan s frozen) (plan_if (may_merge s frozen) (closing_group s frozen, Is.Merged (merged_route s.core frozen)) (by_route frozen))) (λ _ into e. no_outcome (Is.Merged into) _ e)
-    granted_so (At.Repart at) frozen by = by_plan (repart_plan s at frozen) (repart_so at frozen)
-    granted_so (At.Migrate node) frozen by = by_plan (migrate_plan s node frozen) (plan_if (can_migrate s.core node frozen) (migrated_group s node frozen, Is.Migrated node) (λ into e. absurd cc))
-    granted_so (At.Split at child) frozen by = idle
-
-    answered_so : (vote : Vote) (by : ℕ) → Leads tx (participant_answered vote body s tx order by)
-    answered_so (Vows.Yes frozen) by = granted_so body frozen by
-    answered_so (Vows.No why) by = aborts (decided_group s tx Is.Abort)
-
-    released_so : (b : Body) (h : Option Heard) → Leads tx (released b h s tx)
-    released_so At.Merge (Some h) = by_plan (merge_plan s h.frozen) (plan_if (may_merge s h.frozen) (merged_group s h.frozen, Is.Merged (merged_route s.core h.frozen)) (by_route h.frozen))
-    released_so At.Merge None = idle
-    released_so (At.Repart at) h = idle
-    released_so (At.Migrate node) h = idle
-    released_so (At.Split at child) h = by_plan (split_plan s at child) (plan_if (can_split s.core at) (left_group s at child, Is.Divided) (λ into e. absurd cc))
-
-    watched_so : (past : Past) → Leads tx (watch_answered past body heard s tx)
-    watched_so Cast.Yes = released_so body heard
-    watched_so (Cast.No why) = aborts (decided_group s tx Is.Abort)
-    watched_so Cast.Ended = aborts (decided_group s tx Is.Abort)
-
-  none_so : (tx t : Draw) → Leads tx (s, Was.NoEffect t)
-  none_so tx t into e = no_outcome (Is.Merged into) _ e
-
-  recorded_so : (tx : Draw) (vote : Vote) (by : ℕ) (l : Lock) → s.core.lock ≡ l → Leads tx (vote_recorded l s tx vote by)
-  recorded_so tx vote by Free e = none_so tx tx
-  recorded_so tx vote by (Promised t offer) e = none_so tx tx
-  recorded_so tx vote by (Watching t watch) e = none_so tx tx
-  recorded_so tx vote by (Coordinating t body order heard) e =
-      cond_both (same_draw t tx) _ _ (Leads tx)
-      (λ q. cond_both (asks_watcher body heard) _ _ (Leads tx) (λ _. none_so tx tx) (λ _. answered_so tx body order heard (e ∙ ap (λ x. Coordinating x body order heard) (draw_is t tx q)) vote by)) (λ _. none_so tx tx)
-
-  watch_so : (tx : Draw) (past : Past) (l : Lock) → s.core.lock ≡ l → Leads tx (watch_recorded l s tx past)
-  watch_so tx past Free e = none_so tx tx
-  watch_so tx past (Promised t offer) e = none_so tx tx
-  watch_so tx past (Watching t watch) e = none_so tx tx
-  watch_so tx past (Coordinating t body order heard) e =
-      cond_both (same_draw t tx) _ _ (Leads tx)
-      (λ q. cond_both (asks_watcher body heard) _ _ (Leads tx) (λ _. watched_so tx body order heard (e ∙ ap (λ x. Coordinating x body order heard) (draw_is t tx q)) past) (λ _. none_so tx tx)) (λ _. none_so tx tx)
-
-  given_so : (tx : Draw) → Leads tx (applied s (GiveUp tx))
-  given_so tx = cond_both (is_coordinating s.core.lock tx) _ _ (Leads tx) (λ _ into e. absurd (let bad : Some Is.Abort ≡ Some (Is.Merged into) = e in cc)) (λ _. none_so tx tx)
+  leads_so : (c : Command) (tx : Draw) → EndsIt tx c → Leads tx (applied s c)
+  leads_so = machine_step s LeadsBy leads_walk
 
 -- ---- who begins
 
@@ -201,7 +177,7 @@ module _ (sources : Sources) (ring : Ring) (gs : Groups) (ys : Stories) (g : Dra
   answer_home tx vote by y e =
       cond_both (is_changed (applied s (RecordVote tx vote by)).1) (with_asked s.core vote y) (with_decision (decided_in (applied s (RecordVote tx vote by)).1) y) (IsHomeStory (sources.owner tx))
       (λ _. asked_home sources.owner (sources.owner tx) s.core vote y (old tx y e))
-      (λ _. decided_home sources.owner (sources.owner tx) (decided_in (applied s (RecordVote tx vote by)).1) y (old tx y e) (decider tx y e (applied s (RecordVote tx vote by)) (recorded_so s tx vote by s.core.lock refl)))
+      (λ _. decided_home sources.owner (sources.owner tx) (decided_in (applied s (RecordVote tx vote by)).1) y (old tx y e) (decider tx y e (applied s (RecordVote tx vote by)) (leads_so s (RecordVote tx vote by) tx refl)))
 
   begun_home : (tx : Draw) (body : Body) (order : ℕ) → sources.owner tx ≡ Some g → AllHome sources.owner (stories_after s (Begin tx body order) (applied s (Begin tx body order)).1 ys)
   begun_home tx body order mine =
@@ -228,9 +204,9 @@ module _ (sources : Sources) (ring : Ring) (gs : Groups) (ys : Stories) (g : Dra
   entry_home (Watched tx watch) a = home_retold sources.owner ys tx _ (λ y e. watch_home sources.owner (sources.owner tx) (watch_vote_in (applied s (Watched tx watch)).1) y (old tx y e)) old
   entry_home (RecordVote tx vote by) a = home_retold sources.owner ys tx _ (answer_home tx vote by) old
   entry_home (RecordWatch tx vote by) a = home_retold sources.owner ys tx _
-      (λ y e. decided_home sources.owner (sources.owner tx) (decided_in (applied s (RecordWatch tx vote by)).1) y (old tx y e) (decider tx y e (applied s (RecordWatch tx vote by)) (watch_so s tx vote s.core.lock refl))) old
+      (λ y e. decided_home sources.owner (sources.owner tx) (decided_in (applied s (RecordWatch tx vote by)).1) y (old tx y e) (decider tx y e (applied s (RecordWatch tx vote by)) (leads_so s (RecordWatch tx vote by) tx refl))) old
   entry_home (GiveUp tx) a = home_retold sources.owner ys tx _
-      (λ y e. decided_home sources.owner (sources.owner tx) (decided_in (applied s (GiveUp tx)).1) y (old tx y e) (decider tx y e (applied s (GiveUp tx)) (given_so s tx))) old
+      (λ y e. decided_home sources.owner (sources.owner tx) (decided_in (applied s (GiveUp tx)).1) y (old tx y e) (decider tx y e (applied s (GiveUp tx)) (leads_so s (GiveUp tx) tx refl))) old
 
 -- ---- all entries
 
