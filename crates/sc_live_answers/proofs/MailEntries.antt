@@ -9,8 +9,9 @@ use Rattle.sc_group_table.specs.machine.Definitions.{child_by, Group, state_afte
 use Rattle.sc_words.specs.paxos.Definitions.{LeaderState, without_flight_at, counted, AcceptorState}
 use Rattle.sc_node_table.specs.Definitions.{elected, ended, stopped, entered, answer_of, answered_or_put_back, order_result, effect_reported, announced, learnt_to, welcomed, slot_lost, landed, left_gone, left, is_among, looked_for, looked, executed_one, child_at, next_child, has_room, next_ready, ending, executed_ready, executed, install_to, asked_to_promise, welcomed_all, sent, pumped, put_back, ReplicaState, Place, Executed, childless, name_of, next, members, flying, set_at, last_slot, forgotten, learn_row, mailed, with_slot, without_slot, before_of, spoken, leads, readied, vote_tallied, voted, accepted_row}
 use Rattle.sc_node_table.specs.declared.Before.{Before}
-use Rattle.sc_law_walks.proofs.Lemmas.{entered_next, either_way}
-use Rattle.sc_live_answers.proofs.Parts.{pumps, announces, speaks, teaches, welcomes, loses, leaves, looks, request_rests, prepare_rests, accept_rests, promise_rests, nack_rests, ask_rests, offer_rests, watch_rests, vote_rests, watched_rests, elsewhere_rests, outcome_rests}
+use Rattle.sc_law_walks.proofs.Lemmas.{entered_next, either_way, grows}
+use Rattle.sc_live_journals.proofs.RowsProofs.StillReplicas as beside
+use Rattle.sc_live_answers.proofs.Parts.{pumps, announces, speaks, teaches, welcomes, loses, leaves, looks, prepare_rests, accept_rests, promise_rests, nack_rests, ask_rests}
 
 -- the children that some entries make at a node, from the group before them
 abbrev pub kids_of : ℕ → Group → List Command → List Base
@@ -321,25 +322,21 @@ module _ (r : ReplicaState) (mails : List Mail) where
   here : P r
   here = (refl, refl, refl)
 
+  beside_rests : (from : ℕ) (body : MailBody) → beside.IsBeside body → P (mailed from body (r, mails)).0.0
+  beside_rests from body b =
+      beside.beside_keeps (λ place. P place.0) (pumps P any) (λ x ms acts backlog q. any x x.acceptor x.hint x.top x.running x.leader x.ready acts backlog x.waits q) (λ x. grows x.me (λ ms. P x) (λ ms m q. q)) from body (r, mails) b here
+
   pub mailed_goes : (from : ℕ) (body : MailBody) → IsStateless body → GoesOn r (mailed from body (r, mails))
   unfolding mailed
   mailed_goes from (Install group slot base sets) s = absurd s
   mailed_goes from (Accepted group ballot slot) s = accepted_goes from ballot slot r mails
   mailed_goes from (Learn group slot command) s = learn_goes from slot command r mails
-  mailed_goes from (Request group client seq op) s = rest_goes r _ (request_rests P any client seq op (r, mails) here)
   mailed_goes from (Prepare group ballot from_slot) s = rest_goes r _ (prepare_rests P any from ballot from_slot (r, mails) here)
   mailed_goes from (Promise group ballot reports) s = rest_goes r _ (promise_rests P any from ballot reports (r, mails) here)
   mailed_goes from (Accept group ballot slot command) s = rest_goes r _ (accept_rests P any from ballot slot command (r, mails) here)
   mailed_goes from (Nack group ballot) s = rest_goes r _ (nack_rests P any ballot (r, mails) here)
   mailed_goes from (Ask group from_slot) s = rest_goes r _ (ask_rests P any from from_slot (r, mails) here)
-  mailed_goes from (Answer group seq answer) s = rest_goes r _ here
-  mailed_goes from (TxPrepare tx offer) s = rest_goes r _ (offer_rests P any from tx offer (r, mails) here)
-  mailed_goes from (TxVote tx coord part vote) s = rest_goes r _ (vote_rests P any from tx part vote (r, mails) here)
-  mailed_goes from (TxOutcome tx part outcome) s = rest_goes r _ (outcome_rests P any tx outcome (r, mails) here)
-  mailed_goes from (TxElsewhere tx coord hint) s = rest_goes r _ (elsewhere_rests P any from tx hint (r, mails) here)
-  mailed_goes from (TxWatch tx watch) s = rest_goes r _ (watch_rests P any from tx watch (r, mails) here)
-  mailed_goes from (TxWatched tx coord part vote) s = rest_goes r _ (watched_rests P any from tx part vote (r, mails) here)
-  mailed_goes from (Told order result) s = rest_goes r _ here
+  mailed_goes from body s = rest_goes r _ (beside_rests from body tt)
 
   -- where nothing is executed the group stays
   pub rest_leaves : (from : ℕ) (body : MailBody) → IsRest body → (mailed from body (r, mails)).0.0.group ≡ r.group
@@ -347,17 +344,9 @@ module _ (r : ReplicaState) (mails : List Mail) where
   rest_leaves from (Accepted group ballot slot) s = absurd s
   rest_leaves from (Learn group slot command) s = absurd s
   rest_leaves from (Install group slot base sets) s = absurd s
-  rest_leaves from (Request group client seq op) s = (request_rests P any client seq op (r, mails) here).0
   rest_leaves from (Prepare group ballot from_slot) s = (prepare_rests P any from ballot from_slot (r, mails) here).0
   rest_leaves from (Promise group ballot reports) s = (promise_rests P any from ballot reports (r, mails) here).0
   rest_leaves from (Accept group ballot slot command) s = (accept_rests P any from ballot slot command (r, mails) here).0
   rest_leaves from (Nack group ballot) s = (nack_rests P any ballot (r, mails) here).0
   rest_leaves from (Ask group from_slot) s = (ask_rests P any from from_slot (r, mails) here).0
-  rest_leaves from (Answer group seq answer) s = (here).0
-  rest_leaves from (TxPrepare tx offer) s = (offer_rests P any from tx offer (r, mails) here).0
-  rest_leaves from (TxVote tx coord part vote) s = (vote_rests P any from tx part vote (r, mails) here).0
-  rest_leaves from (TxOutcome tx part outcome) s = (outcome_rests P any tx outcome (r, mails) here).0
-  rest_leaves from (TxElsewhere tx coord hint) s = (elsewhere_rests P any from tx hint (r, mails) here).0
-  rest_leaves from (TxWatch tx watch) s = (watch_rests P any from tx watch (r, mails) here).0
-  rest_leaves from (TxWatched tx coord part vote) s = (watched_rests P any from tx part vote (r, mails) here).0
-  rest_leaves from (Told order result) s = (here).0
+  rest_leaves from body s = (beside_rests from body tt).0

@@ -17,6 +17,7 @@ use Rattle.sc_group_table.specs.machine.Definitions.{Group, applied, begin_refus
 use Rattle.sc_law_entries.specs.ring.Definitions.{AreAllowed, IsAllowed, Sources, StoryWorld, first_recorded, recorded_stories, recorded_after, recorded_next, Groups, IsCoordinating, LockOk, BeginInPlace, stories_of, Stories, Story, new_story, put, retold, stories_after, vote_in, watch_vote_in, with_answer, with_asked, with_decision, with_vote, with_watch_vote}
 use Rattle.sc_law_entries.proofs.RingProofs.Lemmas.{arcs_in, at_start, Kept, groups_in, Ring, KeptWorld, kept_on}
 use Rattle.sc_law_groups.proofs.WholeProofs.Lemmas.{comes, dull_same}
+use Rattle.sc_law_groups.proofs.WholeProofs.Fitting.{put_so, retold_so}
 use Rattle.sc_live_answers.proofs.FittingGroups.{none_of}
 use Rattle.sc_law_walks.proofs.Lemmas.{MachineWalk, machine_step, EndsIt, ChangesNothing}
 
@@ -118,17 +119,6 @@ module _ (owner : Draw → Option Draw) where
   abbrev AllHome : Stories → Type 0
   AllHome ys = (tx : Draw) (y : Story) → ys tx ≡ Some y → IsHomeStory (owner tx) y
 
-  home_put : (ys : Stories) (tx : Draw) (o : Option Story) → ((y : Story) → o ≡ Some y → IsHomeStory (owner tx) y) → AllHome ys → AllHome (put ys tx o)
-  home_put ys tx o new old t story = cond_both (same_draw t tx) o (ys t) (λ (x : Option Story). x ≡ Some story → IsHomeStory (owner t) story)
-      (λ q e. subst (λ n. IsHomeStory (owner n) story) (sym (draw_is t tx q)) (new story e)) (λ _ e. old t story e)
-
-  home_retold : (ys : Stories) (tx : Draw) (f : Story → Story) → ((y : Story) → ys tx ≡ Some y → IsHomeStory (owner tx) (f y)) → AllHome ys → AllHome (retold ys tx f)
-  home_retold ys tx f new old = by (ys tx) refl
-    where
-      by : (o : Option Story) → ys tx ≡ o → AllHome (put ys tx (option_map f o))
-      by None e = home_put ys tx None (λ y is. cc) old
-      by (Some story) e = home_put ys tx (Some (f story)) (λ y is. (let same : f story ≡ y = cc in subst (IsHomeStory (owner tx)) same (new story e))) old
-
   -- a story that goes on keeps whom it asks
   voted_home : (o : Option Draw) (v : Option Vote) (y : Story) → IsHomeStory o y → IsHomeStory o (with_vote v y)
   voted_home o None y k = k
@@ -182,13 +172,13 @@ module _ (sources : Sources) (ring : Ring) (gs : Groups) (ys : Stories) (g : Dra
   begun_home : (tx : Draw) (body : Body) (order : ℕ) → sources.owner tx ≡ Some g → AllHome sources.owner (stories_after s (Begin tx body order) (applied s (Begin tx body order)).1 ys)
   begun_home tx body order mine =
       cond_both (is_changed (applied s (Begin tx body order)).1) (put ys tx (Some (new_story s body))) ys (AllHome sources.owner)
-      (λ t. home_put sources.owner ys tx (Some (new_story s body)) (λ y e. subst (IsHomeStory (sources.owner tx)) (same_Some (new_story s body) y e) (new_home sources.owner (sources.owner tx) s body (mine ∙ ap Some (sym named)) (begins_apart s tx body order t))) old)
+      (λ t. put_so (λ n. IsHomeStory (sources.owner n)) ys tx (Some (new_story s body)) (λ y e. subst (IsHomeStory (sources.owner tx)) (same_Some (new_story s body) y e) (new_home sources.owner (sources.owner tx) s body (mine ∙ ap Some (sym named)) (begins_apart s tx body order t))) old)
       (λ _. old)
 
   split_so : (at : ℕ) (child : Draw) (order : ℕ) → sources.owner child ≡ Some g → AllHome sources.owner (stories_after s (Split at child order) (applied s (Split at child order)).1 ys)
   split_so at child order mine =
       cond_both (is_changed (applied s (Split at child order)).1 && not (is_alone s.core)) (put ys child (Some (new_story s (At.Split at child)))) ys (AllHome sources.owner)
-      (λ _. home_put sources.owner ys child (Some (new_story s (At.Split at child)))
+      (λ _. put_so (λ n. IsHomeStory (sources.owner n)) ys child (Some (new_story s (At.Split at child)))
       (λ y e. subst (IsHomeStory (sources.owner child)) (same_Some (new_story s (At.Split at child)) y e) (split_home sources.owner (sources.owner child) s at child (mine ∙ ap Some (sym named)))) old)
       (λ _. old)
 
@@ -200,12 +190,12 @@ module _ (sources : Sources) (ring : Ring) (gs : Groups) (ys : Stories) (g : Dra
   entry_home (Finish tx outcome) a = old
   entry_home (Split at child order) a = split_so at child order a.0
   entry_home (Begin tx body order) a = begun_home tx body order a.0
-  entry_home (Prepared tx offer) a = home_retold sources.owner ys tx _ (λ y e. voted_home sources.owner (sources.owner tx) (vote_in s (applied s (Prepared tx offer)).1) y (old tx y e)) old
-  entry_home (Watched tx watch) a = home_retold sources.owner ys tx _ (λ y e. watch_home sources.owner (sources.owner tx) (watch_vote_in (applied s (Watched tx watch)).1) y (old tx y e)) old
-  entry_home (RecordVote tx vote by) a = home_retold sources.owner ys tx _ (answer_home tx vote by) old
-  entry_home (RecordWatch tx vote by) a = home_retold sources.owner ys tx _
+  entry_home (Prepared tx offer) a = retold_so (λ n. IsHomeStory (sources.owner n)) ys tx _ (λ y e. voted_home sources.owner (sources.owner tx) (vote_in s (applied s (Prepared tx offer)).1) y (old tx y e)) old
+  entry_home (Watched tx watch) a = retold_so (λ n. IsHomeStory (sources.owner n)) ys tx _ (λ y e. watch_home sources.owner (sources.owner tx) (watch_vote_in (applied s (Watched tx watch)).1) y (old tx y e)) old
+  entry_home (RecordVote tx vote by) a = retold_so (λ n. IsHomeStory (sources.owner n)) ys tx _ (answer_home tx vote by) old
+  entry_home (RecordWatch tx vote by) a = retold_so (λ n. IsHomeStory (sources.owner n)) ys tx _
       (λ y e. decided_home sources.owner (sources.owner tx) (decided_in (applied s (RecordWatch tx vote by)).1) y (old tx y e) (decider tx y e (applied s (RecordWatch tx vote by)) (leads_so s (RecordWatch tx vote by) tx refl))) old
-  entry_home (GiveUp tx) a = home_retold sources.owner ys tx _
+  entry_home (GiveUp tx) a = retold_so (λ n. IsHomeStory (sources.owner n)) ys tx _
       (λ y e. decided_home sources.owner (sources.owner tx) (decided_in (applied s (GiveUp tx)).1) y (old tx y e) (decider tx y e (applied s (GiveUp tx)) (leads_so s (GiveUp tx) tx refl))) old
 
 -- ---- all entries

@@ -21,6 +21,7 @@ use Rattle.sc_law_entries.specs.ring.Definitions.{AreAllowed, IsAllowed, IsVoteC
 use Rattle.sc_law_entries.proofs.RingProofs.Lemmas.{end_right, right_is, apart_of, mine_old, own_is, part_eff, arcs_in, mine_open, Old, arc_of, succ_of, view_of, inside_part, no_shared, outside_next, room_of, IsPair, pair_meets, cut_is, Ends, part_is, at_start, Kept, groups_in, IsOnRing, Ring, KeptWorld, kept_on, less_room as rest_room}
 use Rattle.sc_live_answers.specs.Definitions.{HasOwnKeys, IsTakenBy}
 use Rattle.sc_law_groups.proofs.WholeProofs.Lemmas.{no_vote}
+use Rattle.sc_law_groups.proofs.WholeProofs.Fitting.{put_so, retold_so}
 
 -- ---- what a participant takes
 
@@ -68,16 +69,6 @@ FitsStory y = (outcome : Outcome) → y.outcome ≡ Some outcome → (offer : Of
 abbrev AllFit : Stories → Type 0
 AllFit ys = (tx : Draw) (y : Story) → ys tx ≡ Some y → FitsStory y
 
-fit_put : (ys : Stories) (tx : Draw) (o : Option Story) → ((y : Story) → o ≡ Some y → FitsStory y) → AllFit ys → AllFit (put ys tx o)
-fit_put ys tx o new old t story = cond_both (same_draw t tx) o (ys t) (λ (x : Option Story). x ≡ Some story → FitsStory story) (λ _ e. new story e) (λ _ e. old t story e)
-
-fit_retold : (ys : Stories) (tx : Draw) (f : Story → Story) → ((y : Story) → ys tx ≡ Some y → FitsStory (f y)) → AllFit ys → AllFit (retold ys tx f)
-fit_retold ys tx f new old = by (ys tx) refl
-  where
-    by : (o : Option Story) → ys tx ≡ o → AllFit (put ys tx (option_map f o))
-    by None e = fit_put ys tx None (λ y is. cc) old
-    by (Some story) e = fit_put ys tx (Some (f story)) (λ y is. (let same : f story ≡ y = cc in subst FitsStory same (new story e))) old
-
 no_outcome : (outcome : Outcome) → None ≡ Some outcome → ⊥
 no_outcome outcome e = cc
 
@@ -94,7 +85,7 @@ new_fits : (s : Group) (body : Body) → FitsStory (new_story s body)
 new_fits s body outcome e = absurd (no_outcome outcome e)
 
 new_put : (ys : Stories) (tx : Draw) (s : Group) (body : Body) → AllFit ys → AllFit (put ys tx (Some (new_story s body)))
-new_put ys tx s body old = fit_put ys tx (Some (new_story s body)) (λ y e. subst FitsStory (same_Some (new_story s body) y e) (new_fits s body)) old
+new_put ys tx s body old = put_so (λ t y. FitsStory y) ys tx (Some (new_story s body)) (λ y e. subst FitsStory (same_Some (new_story s body) y e) (new_fits s body)) old
 
 watched_fits : (o : Option Past) (y : Story) → FitsStory y → FitsStory (with_watch_vote o y)
 watched_fits None y k = k
@@ -137,7 +128,7 @@ module _ (sources : Sources) (ring : Ring) (gs : Groups) (ys : Stories) (g : Dra
     with_cast y e (Some vote) None was c = λ outcome out own o frozen _. early y e was outcome out own o frozen
 
     prepared_fits : AllFit (retold ys tx (with_vote (vote_in s (applied s (Prepared tx offer)).1)))
-    prepared_fits = fit_retold ys tx (with_vote (vote_in s (applied s (Prepared tx offer)).1)) (λ y e. with_cast y e (vote_in s (applied s (Prepared tx offer)).1) y.vote refl refl) old
+    prepared_fits = retold_so (λ t y. FitsStory y) ys tx (with_vote (vote_in s (applied s (Prepared tx offer)).1)) (λ y e. with_cast y e (vote_in s (applied s (Prepared tx offer)).1) y.vote refl refl) old
 
   -- ---- what a coordinator decides
 
@@ -291,11 +282,11 @@ module _ (sources : Sources) (ring : Ring) (gs : Groups) (ys : Stories) (g : Dra
       cond_both (is_changed (applied s (Split at child order)).1 && not (is_alone s.core)) (put ys child (Some (new_story s (At.Split at child)))) ys AllFit (λ _. new_put ys child s (At.Split at child) old) (λ _. old)
   entry_fits (Begin tx body order) a = cond_both (is_changed (applied s (Begin tx body order)).1) (put ys tx (Some (new_story s body))) ys AllFit (λ _. new_put ys tx s body old) (λ _. old)
   entry_fits (Prepared tx offer) a = prepared_fits tx offer a
-  entry_fits (Watched tx watch) a = fit_retold ys tx _ (λ y e. watched_fits (watch_vote_in (applied s (Watched tx watch)).1) y (old tx y e)) old
-  entry_fits (RecordVote tx (Vows.Yes f) by) a = fit_retold ys tx (with_answer s.core (Vows.Yes f) (applied s (RecordVote tx (Vows.Yes f) by)).1) (recorded_so tx f a by s.core.lock refl) old
-  entry_fits (RecordVote tx (Vows.No why) by) a = fit_retold ys tx (with_answer s.core (Vows.No why) (applied s (RecordVote tx (Vows.No why) by)).1) (denied_at tx why by s.core.lock) old
-  entry_fits (RecordWatch tx vote by) a = fit_retold ys tx (with_decision (decided_in (applied s (RecordWatch tx vote by)).1)) (watch_recorded_at tx vote s.core.lock refl) old
-  entry_fits (GiveUp tx) a = fit_retold ys tx (with_decision (decided_in (applied s (GiveUp tx)).1))
+  entry_fits (Watched tx watch) a = retold_so (λ t y. FitsStory y) ys tx _ (λ y e. watched_fits (watch_vote_in (applied s (Watched tx watch)).1) y (old tx y e)) old
+  entry_fits (RecordVote tx (Vows.Yes f) by) a = retold_so (λ t y. FitsStory y) ys tx (with_answer s.core (Vows.Yes f) (applied s (RecordVote tx (Vows.Yes f) by)).1) (recorded_so tx f a by s.core.lock refl) old
+  entry_fits (RecordVote tx (Vows.No why) by) a = retold_so (λ t y. FitsStory y) ys tx (with_answer s.core (Vows.No why) (applied s (RecordVote tx (Vows.No why) by)).1) (denied_at tx why by s.core.lock) old
+  entry_fits (RecordWatch tx vote by) a = retold_so (λ t y. FitsStory y) ys tx (with_decision (decided_in (applied s (RecordWatch tx vote by)).1)) (watch_recorded_at tx vote s.core.lock refl) old
+  entry_fits (GiveUp tx) a = retold_so (λ t y. FitsStory y) ys tx (with_decision (decided_in (applied s (GiveUp tx)).1))
       (cond_both (Rattle.sc_group_table.specs.machine.Transactions.is_coordinating s.core.lock tx) _ _ (Decided_so tx) (λ _. abort_at tx) (λ _. idle_at tx)) old
 
 -- ---- all entries

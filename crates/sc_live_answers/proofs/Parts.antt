@@ -175,22 +175,6 @@ module _ (P : ReplicaState → Type 0) (any : (r : ReplicaState) (acceptor : Acc
 
   -- ---- rows that execute nothing
 
-  queues_call : (o : Option ℕ) (client seq : ℕ) (op : Op) (place : Place) → F place → F (queued o client seq op place)
-  unfolding queued
-  queues_call None client seq op (r, mails) p = pumps (record r { backlog = r.backlog ++ Call client seq op ∷ [] }, mails) (any r r.acceptor r.hint r.top r.running r.leader r.ready r.acts (r.backlog ++ Call client seq op ∷ []) r.waits p)
-  queues_call (Some other) client seq op (r, mails) p =
-      either_way F (nat_le seq other) (r, mails) _ p
-      (pumps (record r { backlog = without_request r.backlog client ++ Call client seq op ∷ [] }, mails) (any r r.acceptor r.hint r.top r.running r.leader r.ready r.acts (without_request r.backlog client ++ Call client seq op ∷ []) r.waits p))
-
-  requests : (o : Option AnswerBody) (client seq : ℕ) (op : Op) (place : Place) → F place → F (requested o client seq op place)
-  unfolding requested
-  requests (Some answer) client seq op (r, mails) p = p
-  requests None client seq op (r, mails) p = queues_call (queued_number r.backlog client) client seq op (r, mails) p
-
-  pub request_rests : (client seq : ℕ) (op : Op) (place : Place) → F place → F (request_row client seq op place)
-  unfolding request_row
-  request_rests client seq op (r, mails) p = requests (refused_at r.group.core.gone op r) client seq op (r, mails) p
-
   hints : (ballot : Ballot) (r : ReplicaState) → P r → P (hinted ballot r)
   hints ballot r p = either_way P r.running r (record r { hint = Some ballot.node }) p (with_hint r (Some ballot.node) p)
 
@@ -235,55 +219,3 @@ module _ (P : ReplicaState → Type 0) (any : (r : ReplicaState) (acceptor : Acc
 
   pub ask_rests : (from slot : ℕ) (place : Place) → F place → F (ask_row from slot place)
   ask_rests from slot (r, mails) p = asked_place F from slot (r, mails) p (state_sent from (r, mails) p) p
-
-  act_queues : (act : Command) (place : Place) → F place → F (act_queued act place)
-  unfolding act_queued
-  act_queues act (r, mails) p =
-      pumps (cond (has_act act r) r (record r { acts = r.acts ++ act ∷ [] }), mails)
-      (either_way P (has_act act r) r (record r { acts = r.acts ++ act ∷ [] }) p (any r r.acceptor r.hint r.top r.running r.leader r.ready (r.acts ++ act ∷ []) r.backlog r.waits p))
-
-  offers_by : (o : Option Past) (from : ℕ) (tx : Draw) (offer : Offer) (place : Place) → F place → F (offered_by o from tx offer place)
-  offers_by (Some vote) from tx offer (r, mails) p = p
-  offers_by None from tx offer (r, mails) p = either_way F r.running (act_queued (Prepared tx offer) (r, mails)) (sent_elsewhere from tx offer.coord (r, mails)) (act_queues (Prepared tx offer) (r, mails) p) p
-
-  pub offer_rests : (from : ℕ) (tx : Draw) (offer : Offer) (place : Place) → F place → F (offer_row from tx offer place)
-  unfolding offer_row
-  offer_rests from tx offer (r, mails) p = offers_by (standing_vote r.group.core tx) from tx offer (r, mails) p
-
-  watches_by : (o : Option Past) (from : ℕ) (tx : Draw) (watch : Watch) (place : Place) → F place → F (watched_by o from tx watch place)
-  watches_by (Some vote) from tx watch (r, mails) p = p
-  watches_by None from tx watch (r, mails) p = either_way F r.running (act_queued (Watched tx watch) (r, mails)) (sent_elsewhere from tx watch.coord (r, mails)) (act_queues (Watched tx watch) (r, mails) p) p
-
-  pub watch_rests : (from : ℕ) (tx : Draw) (watch : Watch) (place : Place) → F place → F (watch_row from tx watch place)
-  unfolding watch_row
-  watch_rests from tx watch (r, mails) p = watches_by (standing_vote r.group.core tx) from tx watch (r, mails) p
-
-  files : (act : Command) (wanted : Bool) (place : Place) → F place → F (cond (place.0.running && wanted) (act_queued act place) place)
-  files act wanted place p = either_way F (place.0.running && wanted) (act_queued act place) place (act_queues act place p) p
-
-  votes_met : (vote : Vote) (o : Option Outcome) (from : ℕ) (tx part : Draw) (place : Place) → F place → F (vote_met vote o from tx part place)
-  votes_met (Votes.Yes frozen) (Some outcome) from tx part (r, mails) p = p
-  votes_met (Votes.Yes frozen) None from tx part (r, mails) p = files (RecordVote tx (Votes.Yes frozen) from) (awaits_vote r.group.core.lock tx) (r, mails) p
-  votes_met (Votes.No why) outcome from tx part (r, mails) p = files (RecordVote tx (Votes.No why) from) (awaits_vote r.group.core.lock tx) (r, mails) p
-
-  pub vote_rests : (from : ℕ) (tx part : Draw) (vote : Vote) (place : Place) → F place → F (vote_row from tx part vote place)
-  unfolding vote_row
-  vote_rests from tx part vote (r, mails) p = votes_met vote (noted_outcome r.group.core tx) from tx part (r, mails) p
-
-  watchers_met : (vote : Past) (o : Option Outcome) (from : ℕ) (tx part : Draw) (place : Place) → F place → F (watch_met vote o from tx part place)
-  watchers_met Cast.Yes (Some outcome) from tx part (r, mails) p = p
-  watchers_met Cast.Yes None from tx part (r, mails) p = files (RecordWatch tx Cast.Yes from) (awaits_watch r.group.core.lock tx) (r, mails) p
-  watchers_met (Cast.No why) outcome from tx part (r, mails) p = files (RecordWatch tx (Cast.No why) from) (awaits_watch r.group.core.lock tx) (r, mails) p
-  watchers_met Cast.Ended outcome from tx part (r, mails) p = files (RecordWatch tx Cast.Ended from) (awaits_watch r.group.core.lock tx) (r, mails) p
-
-  pub watched_rests : (from : ℕ) (tx part : Draw) (vote : Past) (place : Place) → F place → F (watched_row from tx part vote place)
-  unfolding watched_row
-  watched_rests from tx part vote (r, mails) p = watchers_met vote (noted_outcome r.group.core tx) from tx part (r, mails) p
-
-  pub elsewhere_rests : (from : ℕ) (tx : Draw) (hint : Option ℕ) (place : Place) → F place → F (elsewhere_row from tx hint place)
-  unfolding elsewhere_row
-  elsewhere_rests from tx hint (r, mails) p = either_way F (settled r) _ (r, mails) p p
-
-  pub outcome_rests : (tx : Draw) (outcome : Outcome) (place : Place) → F place → F (outcome_row tx outcome place)
-  unfolding outcome_row
-  outcome_rests tx outcome (r, mails) p = files (Finish tx outcome) (is_bound r.group.core.lock tx) (r, mails) p

@@ -10,6 +10,7 @@ use Rattle.sc_words.specs.declared.paxos.answers.Must.TheVariants.{Free as Open}
 use Rattle.sc_words.specs.paxos.Definitions.{must, flight_at, without_flight, with_voters}
 use Rattle.sc_node_table.specs.Definitions.{sent, sent_all, sent_others, answered, Found, is_act, waits, turned_down, next_queued, from_backlog, from_acts, from_queues, found_by, found_for, offered, pumped_from, pumped, queued_number, is_request_of, without_request, ReplicaState, Place, name_of, next, settled, may_offer, taken_at, under_way, is_idle, last_slot, refused_at, queued, requested, request_row, at_slot, with_slot, without_slot}
 use Rattle.sc_live_answers.specs.Definitions.{command_token, body_token, mail_token, flight_tokens, ready_tokens, place_tokens}
+use Rattle.sc_live_steps.proofs.CalmProofs.Pumps.{calls_leader, acts_leader, queues_leader, found_is, offering_must}
 
 -- no report binds the leader from the next slot on
 abbrev pub IsFree : ReplicaState → Type 0
@@ -181,10 +182,6 @@ module _ (c : ℕ) where
   unfolding from_backlog
   calls_tokens r mails = let le = next_tokens r.me (is_idle r) r.group.core r.backlog mails in omega (arith, le)
 
-  calls_leader : (r : ReplicaState) (mails : List Mail) → (from_backlog (r, mails)).1.0.leader ≡ r.leader
-  unfolding from_backlog
-  calls_leader r mails = refl
-
   acts_tokens : (acts : List Command) (r : ReplicaState) (mails : List Mail) → r.acts ≡ acts → found_tokens (from_acts acts (r, mails)) ≤ place_tokens c (r, mails)
   acts_tokens [] r mails e = calls_tokens r mails
   acts_tokens (act ∷ acts) r mails e = by (is_idle r)
@@ -196,14 +193,6 @@ module _ (c : ℕ) where
           omega (arith, s, same)
       by false = omega arith
 
-  acts_leader : (acts : List Command) (r : ReplicaState) (mails : List Mail) → (from_acts acts (r, mails)).1.0.leader ≡ r.leader
-  acts_leader [] r mails = calls_leader r mails
-  acts_leader (act ∷ acts) r mails = by (is_idle r)
-    where
-      by : (b : Bool) → (cond {A = Found} b (Some act, (record r { acts = acts }, mails)) (None, (r, mails))).1.0.leader ≡ r.leader
-      by true = refl
-      by false = refl
-
   queues_tokens : (r : ReplicaState) (mails : List Mail) → found_tokens (from_queues (r, mails)) ≤ place_tokens c (r, mails)
   unfolding from_queues
   queues_tokens r mails = by (list_any is_act (under_way r)) (acts_tokens r.acts r mails refl)
@@ -211,18 +200,6 @@ module _ (c : ℕ) where
       by : (b : Bool) → found_tokens (from_acts r.acts (r, mails)) ≤ place_tokens c (r, mails) → found_tokens (cond b (None, (r, mails)) (from_acts r.acts (r, mails))) ≤ place_tokens c (r, mails)
       by true le = omega arith
       by false le = le
-
-  queues_leader : (r : ReplicaState) (mails : List Mail) → (from_queues (r, mails)).1.0.leader ≡ r.leader
-  unfolding from_queues
-  queues_leader r mails = by (list_any is_act (under_way r)) (acts_leader r.acts r mails)
-    where
-      by : (b : Bool) → (from_acts r.acts (r, mails)).1.0.leader ≡ r.leader → (cond {A = Found} b (None, (r, mails)) (from_acts r.acts (r, mails))).1.0.leader ≡ r.leader
-      by true e = refl
-      by false e = e
-
-  found_is : (slot : ℕ) (r : ReplicaState) (mails : List Mail) → must slot r.leader ≡ Open → found_for slot (r, mails) ≡ from_queues (r, mails)
-  unfolding found_for
-  found_is slot r mails e = ap (λ (m : Must Command). found_by m (r, mails)) e
 
   -- ---- what is offered
 
@@ -233,10 +210,6 @@ module _ (c : ℕ) where
       let one = sum_by_push (λ (f : Flight Command). command_token c f.value) r.leader.flights flight in
       let all = all_token r.me (Accept (name_of r) r.leader.ballot slot command) (λ node. refl) set mails in
       omega (arith, one, all)
-
-  offering_must : (slot at : ℕ) (set : List ℕ) (command : Command) (r : ReplicaState) (mails : List Mail) → must at (offered slot set command (r, mails)).0.leader ≡ must at r.leader
-  unfolding offered
-  offering_must slot at set command r mails = refl
 
   -- ---- the pump
 
