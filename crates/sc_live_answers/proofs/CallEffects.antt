@@ -11,7 +11,8 @@ use Rattle.sc_group_table.specs.machine.Definitions.{applied}
 use Rattle.sc_node_table.specs.Definitions.{entered, executed_one, has_room, next_ready, executed, Found, is_act, from_backlog, from_acts, from_queues, found_by, found_for, offered, pumped_from, pumped, queued_number, without_request, ReplicaState, Place, Executed, childless, next, settled, may_offer, set_at, taken_at, under_way, is_idle, forgotten, last_slot, queued, requested, refused_at, request_row, at_slot, with_slot, without_slot, leads, readied, vote_tallied, voted, accepted_row}
 use Rattle.sc_law_walks.proofs.Lemmas.{cleared, executed_place, either_way}
 use Rattle.sc_live_plain.specs.Definitions.{Frame, IsFrame, Requests, IsPlainCommand, IsPlainCall, IsPlainFlight, IsPlainGroup}
-use Rattle.sc_live_plain.proofs.Lemmas.{at_found, out_each, with_each, recorded_after, counted_call, call_is, IsServed, call_plain}
+use Rattle.sc_live_plain.proofs.Lemmas.{at_found, out_each, with_each, recorded_after, counted_call, call_is, IsServed, call_plain, entered_frame}
+use Rattle.sc_live_steps.proofs.FollowingProofs.Lemmas.{entered_keeps}
 
 -- ---- a pump leaves all but what is in flight and the queues
 
@@ -151,20 +152,11 @@ module _ (begun : Requests) (frame : Frame) (is : IsFrame frame) (first : Replic
   unfolding entered forgotten
   entry_goes r mails client seq op call g =
       let serves = call_plain begun frame is client seq op r.group call g.group in
-      let core = core_after serves in
-      subst F (sym (counted_call client seq op serves.answer r mails serves.answer_is (ap (λ (c : Core). c.members) (core ∙ sym g.group.core_is)) running_after (ap (λ (c : Core). c.gone) core ∙ is.stands)
-      (ap (λ (c : Core). is_member c.members (entered (Call client seq op) r).me) core ∙ ap (is_member frame.core.members) me_after ∙ is.leads)))
+      let core = entered_frame begun frame client seq op r serves in
+      subst F (sym (counted_call client seq op serves.answer r mails serves.answer_is (ap (λ (c : Core). c.members) (core ∙ sym g.group.core_is)) ((entered_keeps (Call client seq op) r).0 ∙ g.running) (ap (λ (c : Core). c.gone) core ∙ is.stands)
+      (ap (λ (c : Core). is_member c.members (entered (Call client seq op) r).me) core ∙ ap (is_member frame.core.members) ((entered_keeps (Call client seq op) r).3 ∙ g.me_is) ∙ is.leads)))
       (goes_after serves (recorded_after r (entered (Call client seq op) r) client seq op serves.answer mails))
     where
-      core_after : IsServed begun frame client seq op (applied r.group (Call client seq op)) → (entered (Call client seq op) r).group.core ≡ frame.core
-      core_after serves = serves.group.core_is
-
-      me_after : (entered (Call client seq op) r).me ≡ frame.lead
-      me_after = g.me_is
-
-      running_after : (entered (Call client seq op) r).running ≡ true
-      running_after = g.running
-
       goes_after : IsServed begun frame client seq op (applied r.group (Call client seq op)) → (sent : List Mail) → F (cleared (next r) (entered (Call client seq op) r, sent))
       goes_after serves sent = (let l = leaves_entry first r sent (Call client seq op) g.leaves in record {
         group = serves.group;

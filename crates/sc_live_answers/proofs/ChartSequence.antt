@@ -1,5 +1,5 @@
 -- The charts of a journal follow one another while an order is under way.
-use Rattle.std.proofs.Common.{◌≡◌, ℕ, Bool, true, false, cond, List, [], ◌∷◌, ◌++◌, replicate, Some, ◌⊎◌, inl, inr, sym, ◌∙◌, ap, subst}
+use Rattle.std.proofs.Common.{◌≡◌, ℕ, Bool, true, cond, List, [], ◌∷◌, ◌++◌, replicate, Some, ◌⊎◌, inl, inr, sym, ◌∙◌, ap, subst}
 use Rattle.sc_base.specs.Definitions.{Among, Each}
 use Rattle.sc_node_table.specs.Values.{Draw, OrderLine, Mail, Seat, Event}
 use Rattle.sc_actor.specs.Definitions.{mails, copies, is_quiet, value, System, row_of, numbers_of}
@@ -18,6 +18,7 @@ use Rattle.sc_live_answers.specs.Definitions.{AllLeadAlone, StagesAsk, OrderChar
 use Rattle.sc_live_answers.proofs.OrderDeliveries.{among_all, named_so, runs_there}
 use Rattle.sc_live_answers.proofs.Questions.{elsewhere_stage}
 use Rattle.sc_live_answers.proofs.QuestionTargets.{errand_there}
+use Rattle.sc_live_answers.proofs.SentMail.{among_passed}
 
 -- ---- mail that is under way is left
 
@@ -30,13 +31,9 @@ with_all : (test : Mail → Bool) (sent : List Mail) (counts : List ℕ) (mail :
 with_all test [] counts mail a = absurd a
 with_all test (m ∷ sent) [] mail a = absurd a
 with_all test (m ∷ sent) (c ∷ counts) mail a = elim (split_among (cond (test m) (replicate c m) []) (mail_with test sent counts) mail a) [
-  | inl here ↦ among-left mail (replicate c m) (mail_with (λ x. true) sent counts) (passes (test m) here)
+  | inl here ↦ among-left mail (replicate c m) (mail_with (λ x. true) sent counts) (among_passed mail (replicate c m) (test m) here)
   | inr more ↦ among-right mail (replicate c m) (mail_with (λ x. true) sent counts) (with_all test sent counts mail more)
 ]
-  where
-    passes : (b : Bool) → Among mail (cond b (replicate c m) []) → Among mail (replicate c m)
-    passes true x = x
-    passes false x = absurd x
 
 -- ---- what was asked before
 

@@ -1,6 +1,7 @@
 -- A replica beside the leader, or in a group in which none runs.
 use Rattle.std.proofs.Common.{List, None, Some, [], ap, false, inl, inr, is_some, not, refl, subst, sym, true, true≢false, ℕ, ◌&&◌, ◌||◌, ◌∙◌, ◌≡◌}
 use Rattle.std.proofs.lemmas.Bool.{cases_Bool, cond-false, cond-true, or_right}
+use Rattle.std.proofs.lemmas.Option.{same_Some}
 use Rattle.sc_actor.specs.Definitions.{mails}
 use Rattle.sc_node_table.specs.Values.{Seat, Event, Deliver, Go, Ballot, Draw, Command, Base, OrderLine, OrderRefusal, Mail, MailBody, Accept, Accepted, Install, Learn, Nack, Prepare, Promise, Request, TxPrepare, TxWatch, Node}
 use Rattle.sc_actor.specs.declared.rows.Event.TheVariants.{Told}
@@ -66,23 +67,17 @@ module _ (words : ℕ → ℕ → ℕ × ℕ) (births : List (Seat Player)) (row
   there : IsThere births rows base.core.id
   there = (seat.who, r, row.was)
 
-  same_was : (x : ReplicaState) → view_at births rows base.core.id seat.who ≡ Some x → x ≡ r
-  same_was x e = same_some (view_at births rows base.core.id seat.who) x r e row.was
-
-  same_is : (x : ReplicaState) → view_at births (with_event rows seat event) base.core.id seat.who ≡ Some x → x ≡ after.0
-  same_is x e = same_some (view_at births (with_event rows seat event) base.core.id seat.who) x after.0 e row.is
-
   -- if it runs after it, it has elected itself by an entry that it learns
   last_entry_sent : after.0.running ≡ true → (slot : ℕ) × (taken_mark base.core.id (mails rows) event ≡ Some (Tells slot))
   last_entry_sent runs = elim g.step.row [
     | RowPasses e idle ↦ elim idle.view [
-      | inl stays ↦ absurd (stopped (ap (λ (x : ReplicaState). x.running) (sym (same_is r (stays ∙ row.was))) ∙ off))
+      | inl stays ↦ absurd (stopped (ap (λ (x : ReplicaState). x.running) (sym (same_Some r after.0 (sym ((stays ∙ row.was)) ∙ row.is))) ∙ off))
       | inr born ↦ (let bad : Some r ≡ None = sym row.was ∙ born.0 in cc)
     ]
-    | RowRests e x then_ line out still kind ↦ absurd (stopped (ap (λ (x : ReplicaState). x.running) (sym (same_is then_.0 line.is)) ∙ still.off))
-    | RowTakes e x then_ mark line taken steps kind ↦ absurd (stopped (ap (λ (x : ReplicaState). x.running) (sym (same_is then_.0 line.is)) ∙ (steps.runs ∙ (ap (λ (x : ReplicaState). x.running) (same_was x line.was) ∙ off))))
+    | RowRests e x then_ line out still kind ↦ absurd (stopped (ap (λ (x : ReplicaState). x.running) (sym (same_Some then_.0 after.0 (sym (line.is) ∙ row.is))) ∙ still.off))
+    | RowTakes e x then_ mark line taken steps kind ↦ absurd (stopped (ap (λ (x : ReplicaState). x.running) (sym (same_Some then_.0 after.0 (sym (line.is) ∙ row.is))) ∙ (steps.runs ∙ (ap (λ (x : ReplicaState). x.running) (same_Some x r (sym (line.was) ∙ row.was)) ∙ off))))
     | RowMakes e from slot state sets line taken logs kind ↦ (let bad : Some r ≡ None = sym row.was ∙ line.was in cc)
-    | RowLeads x then_ line ran counts led e ↦ absurd (true≢false (sym ran ∙ (ap (λ (x : ReplicaState). x.running) (same_was x line.was) ∙ off)))
+    | RowLeads x then_ line ran counts led e ↦ absurd (true≢false (sym ran ∙ (ap (λ (x : ReplicaState). x.running) (same_Some x r (sym (line.was) ∙ row.was)) ∙ off)))
     | RowElects x then_ ballot line out self_election e ↦ (self_election.told.0, self_election.told.2)
   ]
     where

@@ -1,21 +1,15 @@
 -- By each command a group loses no member, or it is locked in no transaction after it.
-use Rattle.std.proofs.Common.{◌≡◌, ℕ, ◌+◌, ◌-◌, Bool, true, false, cond, zero, suc, take, List, [], ◌∷◌, Option, Some, None, ◌⊎◌, inl, inr, refl, sym, ◌∙◌, ap, subst, arith}
-use Rattle.sc_words.specs.commands.Definitions.{is_alone}
-use Rattle.sc_node_table.specs.Values.{Lock, Free, Coordinating, Promised, Watching, Route, Command, Noop, Call, Join, Leave, Split, Begin, Prepared, RecordVote, GiveUp, Finish, Watched, RecordWatch, Core, Draw, Body, Frozen, Heard, No, Outcome, Past, Vote, NoEffect, Changed, Decided, Base}
-use Rattle.sc_base.specs.Definitions.{same_draw, is_member}
+use Rattle.std.proofs.Common.{◌≡◌, ℕ, ◌-◌, Bool, true, false, zero, suc, take, List, ◌⊎◌, inl, inr, refl, sym, ◌∙◌, ap, subst, arith}
+use Rattle.sc_node_table.specs.Values.{Free, Command, Leave, Split, Core}
+use Rattle.sc_base.specs.Definitions.{is_member}
 use Rattle.sc_live_steps.proofs.FollowingProofs.Lemmas.{with_kept}
-use Rattle.sc_words.specs.declared.commands.bodies.Body.TheVariants as Does
-use Rattle.sc_words.specs.declared.commands.votes.Past.TheVariants as Cast
-use Rattle.sc_words.specs.declared.commands.votes.Vote.TheVariants as Says
-use Rattle.sc_group_table.specs.machine.Definitions.{Group, participant_after, watcher_after, party_freed, settled_in, finished, applied, ordered_by, split_group, refusal_of, refused_in, refused_free, locked_in, ordered, with_node, without_node, Plan, split_plan, merge_plan, closing_plan, repart_plan, migrate_plan, has_named, left_group, begun_group, aborted, committed, heard_group, granted, participant_answered, asks_watcher, vote_recorded, released, watch_answered, watch_recorded, is_coordinating, has_voted, vote_of, watch_vote_of, voted_on, state_after, group_of}
-use Rattle.sc_meaning.specs.sound.Definitions.{decided_log, Ahead}
-use Rattle.sc_law_entries.specs.logs.Definitions.{Rows}
+use Rattle.sc_group_table.specs.machine.Definitions.{Group, applied, state_after, group_of}
+use Rattle.sc_meaning.specs.sound.Definitions.{decided_log}
 use Rattle.sc_live_steps.specs.following.Definitions.{members_at}
 use Rattle.sc_live_journals.specs.logs.Definitions.{logged_sets}
 use Rattle.sc_live_answers.specs.Definitions.{state_at, LeaversFree}
-use Rattle.sc_live_answers.proofs.Cores.{called_core, cond_either}
 use Rattle.sc_live_answers.proofs.MemberWalks.{next_states}
-use Rattle.sc_law_entries.proofs.HistoryProofs.Lemmas.{ordered_either}
+use Rattle.sc_live_answers.proofs.GroupEnds.{sets_are}
 use Rattle.sc_law_walks.proofs.Lemmas.{MachineWalk, machine_step, unrefused_free}
 
 -- no member is lost, or the group is free
@@ -56,23 +50,16 @@ applied_freed group = machine_step group (λ c x. IsFreed x.0.core group.core) (
 next_freed : (log : List Command) (group : Group) (n : ℕ) → IsFreed (state_after group (take (suc n) log)).core (state_after group (take n log)).core
 next_freed = next_states IsFreed (λ core. inr (λ who m. m)) applied_freed
 
--- one by which a member goes
-abbrev members_after : Ahead → Base → Rows → ℕ → List ℕ
-members_after ahead base journal n = (state_after (group_of base) (take n (decided_log ahead base journal))).core.members
-
 -- The state after an entry by which a member goes is locked in no transaction.
 pub leavers_free : LeaversFree
 leavers_free ahead words scenario journal base group slot who was not_is = by slot was not_is
   where
-    at_is : (s n : ℕ) → s + 3 - 4 ≡ n → members_at (logged_sets ahead base journal) s ≡ members_after ahead base journal n
-    at_is s n e = (let open_slots = group.open_slots in let same : s + 3 - ahead.slots ≡ n = omega (arith, e, open_slots) in ap (members_after ahead base journal) same)
-
     both_no : {b : Bool} → b ≡ true → b ≡ false → ⊥
     both_no t f = cc
 
     by : (s : ℕ) → is_member (members_at (logged_sets ahead base journal) s) who ≡ true → is_member (members_at (logged_sets ahead base journal) (suc s)) who ≡ false → (state_at ahead base journal (suc s)).core.lock ≡ Free
-    by zero m none = absurd (both_no m (ap (λ ms. is_member ms who) (at_is 0 0 (omega arith) ∙ sym (at_is 1 0 (omega arith))) ∙ none))
+    by zero m none = absurd (both_no m (ap (λ ms. is_member ms who) (sets_are ahead words scenario journal base group 0 0 (omega arith) ∙ sym (sets_are ahead words scenario journal base group 1 0 (omega arith))) ∙ none))
     by (suc n) m none = elim (next_freed (decided_log ahead base journal) (group_of base) n) [
       | inl free ↦ (let same : suc n ≡ suc (suc n) - 1 = omega arith in subst (λ k. (state_after (group_of base) (take k (decided_log ahead base journal))).core.lock ≡ Free) same free)
-      | inr kept ↦ absurd (both_no (kept who (ap (λ ms. is_member ms who) (sym (at_is (suc n) n (omega arith))) ∙ m)) (ap (λ ms. is_member ms who) (sym (at_is (suc (suc n)) (suc n) (omega arith))) ∙ none))
+      | inr kept ↦ absurd (both_no (kept who (ap (λ ms. is_member ms who) (sym (sets_are ahead words scenario journal base group (suc n) n (omega arith))) ∙ m)) (ap (λ ms. is_member ms who) (sym (sets_are ahead words scenario journal base group (suc (suc n)) (suc n) (omega arith))) ∙ none))
     ]

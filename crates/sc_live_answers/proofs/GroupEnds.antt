@@ -33,22 +33,23 @@ over_stays : (ahead : Ahead) (base : Base) (journal : Rows) (slot later : ℕ) �
 over_stays ahead base journal slot later low = later_gone (decided_log ahead base journal) (group_of base) (slot - 1) (later - 1) (omega (arith, low))
 
 -- the members after some number of entries
-abbrev members_after : Ahead → Base → Rows → ℕ → List ℕ
+abbrev pub members_after : Ahead → Base → Rows → ℕ → List ℕ
 members_after ahead base journal n = (state_after (group_of base) (take n (decided_log ahead base journal))).core.members
+
+-- the members behind a slot are those after some number of entries
+pub sets_are : (ahead : Ahead) (words : ℕ → ℕ → ℕ × ℕ) (scenario : Scenario) (journal : Rows) (base : Base) (group : IsGroupOf ahead words scenario journal base) (s n : ℕ) → s + 3 - 4 ≡ n → members_at (logged_sets ahead base journal) s ≡ members_after ahead base journal n
+sets_are ahead words scenario journal base group s n e = (let open_slots = group.open_slots in let same : s + 3 - ahead.slots ≡ n = omega (arith, e, open_slots) in ap (members_after ahead base journal) same)
 
 -- the members behind a slot, by how many entries come before it
 pub members_move_one_way : MembersMoveOneWay
 members_move_one_way ahead words scenario journal base group slot = by slot
   where
-    at_is : (s n : ℕ) → s + 3 - 4 ≡ n → members_at (logged_sets ahead base journal) s ≡ members_after ahead base journal n
-    at_is s n e = (let open_slots = group.open_slots in let same : s + 3 - ahead.slots ≡ n = omega (arith, e, open_slots) in ap (members_after ahead base journal) same)
-
     by : (s : ℕ) → ((who : ℕ) → is_member (members_at (logged_sets ahead base journal) s) who ≡ true → is_member (members_at (logged_sets ahead base journal) (s + 1)) who ≡ true)
         ⊎ ((who : ℕ) → is_member (members_at (logged_sets ahead base journal) (s + 1)) who ≡ true → is_member (members_at (logged_sets ahead base journal) s) who ≡ true)
-    by zero = inl (λ who m. subst (λ ms. is_member ms who ≡ true) (at_is 0 0 (omega arith) ∙ sym (at_is (0 + 1) 0 (omega arith))) m)
+    by zero = inl (λ who m. subst (λ ms. is_member ms who ≡ true) (sets_are ahead words scenario journal base group 0 0 (omega arith) ∙ sym (sets_are ahead words scenario journal base group (0 + 1) 0 (omega arith))) m)
     by (suc n) =
-        let here = at_is (suc n) n (omega arith) in
-        let next_ = at_is (suc n + 1) (suc n) (omega arith) in
+        let here = sets_are ahead words scenario journal base group (suc n) n (omega arith) in
+        let next_ = sets_are ahead words scenario journal base group (suc n + 1) (suc n) (omega arith) in
         elim (next_moves (decided_log ahead base journal) (group_of base) n) [
           | inl kept ↦ inl (λ who m. subst (λ ms. is_member ms who ≡ true) (sym next_) (kept who (subst (λ ms. is_member ms who ≡ true) here m)))
           | inr none ↦ inr (λ who m. subst (λ ms. is_member ms who ≡ true) (sym here) (none who (subst (λ ms. is_member ms who ≡ true) next_ m)))

@@ -26,7 +26,7 @@ use Rattle.sc_live_answers.proofs.FormerMembers.{idle_fates, takes_fates, leads_
 use Rattle.sc_live_answers.proofs.RowHints.{told_fit, own_body, none_flies, told_or, takes_by}
 use Rattle.sc_live_answers.proofs.Lists.{round_most, member_open}
 use Rattle.sc_live_answers.proofs.SeenBallotBounds.{topped}
-use Rattle.std.proofs.lemmas.Option.{same_Some}
+use Rattle.std.proofs.lemmas.Option.{same_Some, none-some}
 
 -- the mark of an entry
 module _ (name : Draw) (slot : ℕ) where
@@ -116,17 +116,14 @@ module _ (words : ℕ → ℕ → ℕ × ℕ) (at : Sets) (over : Ends) (by : Te
         none_left : view_at all rows base.core.id seat.who ≡ None → ⊥
         none_left none = (let bad : Some r ≡ None = sym row_.was ∙ none in cc)
 
-        none_taken : taken_mark base.core.id (mails rows) event ≡ None → ⊥
-        none_taken none = (let bad : None ≡ Some (Tells e.told.0) = sym none ∙ e.told.2 in cc)
-
         ballot_is : after.0.leader.ballot ≡ ballot
         ballot_is = e.leads.led.may.ballot
 
         by_turn : IsTurn at by words all rows seat event base → ballot.round ≡ r.top.round + 1
-        by_turn (TurnRests same none) = absurd (none_taken none)
+        by_turn (TurnRests same none) = absurd (none-some (Tells e.told.0) (sym (none) ∙ e.told.2))
         by_turn (TurnCreates none made) = absurd (none_left none)
         by_turn (TurnMakes from slot state sets t) = absurd (none_left t.was)
-        by_turn (TurnTold line node q t) = absurd (none_taken (ap (taken_mark name (mails rows)) t.event_is))
+        by_turn (TurnTold line node q t) = absurd (none-some (Tells e.told.0) (sym ((ap (taken_mark name (mails rows)) t.event_is)) ∙ e.told.2))
         by_turn (TurnTakes number mail node q t) =
             let here : q ≡ r = same_Some q r (sym t.row_.was ∙ row_.was) in
             let viewed : view_at all (with_event rows seat event) base.core.id seat.who ≡ Some (mailed mail.from mail.body (q, [])).0.0 = ap (λ e_. view_at all (with_event rows seat e_) name seat.who) t.event_is ∙ t.row_.is in

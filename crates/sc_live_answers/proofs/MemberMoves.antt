@@ -1,16 +1,10 @@
 -- By each command a group loses no member, or nobody comes to it.
-use Rattle.std.proofs.Common.{◌≡◌, ℕ, Bool, true, false, cond, ◌&&◌, not, eqb, nat_le, zero, suc, length, take, filter, List, [], ◌∷◌, Option, Some, None, ◌⊎◌, inl, inr, ◌∙◌, ap}
-use Rattle.sc_words.specs.commands.Definitions.{is_alone}
-use Rattle.sc_node_table.specs.Values.{Lock, Free, Coordinating, Promised, Watching, Command, Noop, Call, Join, Leave, Split, Begin, Prepared, RecordVote, GiveUp, Finish, Watched, RecordWatch, Core, OrderRefusal, Draw, Body, Offer, Frozen, Gift, Heard, No, Outcome, Abort, Merged, Moved, Migrated, Divided, Past, Vote, NoEffect, Changed, Decided}
-use Rattle.sc_base.specs.Definitions.{holds, same_draw, is_member, united}
+use Rattle.std.proofs.Common.{◌≡◌, ℕ, Bool, true, not, eqb, zero, suc, take, filter, List, [], ◌∷◌, ◌⊎◌, inl, inr}
+use Rattle.sc_node_table.specs.Values.{Command, Core}
+use Rattle.sc_base.specs.Definitions.{is_member}
 use Rattle.std.proofs.lemmas.Bool.{cond_both}
 use Rattle.sc_live_steps.proofs.FollowingProofs.Lemmas.{with_kept}
-use Rattle.sc_words.specs.declared.commands.bodies.Body.TheVariants as Does
-use Rattle.sc_words.specs.declared.commands.votes.Past.TheVariants as Cast
-use Rattle.sc_words.specs.declared.commands.votes.Vote.TheVariants as Says
-use Rattle.sc_group_table.specs.machine.Definitions.{Group, can_gain, gained_group, lost_group, moved, welcomed_group, participant_after, watcher_after, party_freed, settled_in, finished, applied, ordered_by, split_group, refusal_of, ordered, with_node, without_node, Plan, can_cut, has_key_of, can_split, split_plan, may_merge, merged_group, merge_plan, closing_group, closing_plan, can_repart, taken, giving_group, taking_group, giving_plan, taking_plan, repart_plan, can_migrate, migrated_group, migrate_plan, has_named, staying, left_group, begun_group, aborted, committed, heard_group, granted, participant_answered, asks_watcher, vote_recorded, released, watch_answered, watch_recorded, is_coordinating, has_voted, vote_of, watch_vote_of, voted_on, state_after}
-use Rattle.sc_live_answers.proofs.Cores.{called_core, cond_either}
-use Rattle.sc_law_entries.proofs.HistoryProofs.Lemmas.{ordered_either}
+use Rattle.sc_group_table.specs.machine.Definitions.{Group, applied, staying, state_after}
 use Rattle.sc_live_answers.proofs.EntriesInFlight.{or_map, united_kept}
 use Rattle.sc_live_answers.proofs.MemberWalks.{member_step, next_states}
 use Rattle.sc_group_table.proofs.MachineProofs.Lemmas.{second_or as or_skip}

@@ -1,20 +1,18 @@
 -- What logs record of a transaction: its name was drawn for its coordinator, which is not its participant; and where it merges a group, that goes into its coordinator.
-use Rattle.std.proofs.Common.{◌≡◌, ℕ, ◌&&◌, not, cond, Bool, true, false, true≢false, List, [], ◌∷◌, Option, Some, None, option_map, refl, sym, ◌∙◌, ap, subst}
+use Rattle.std.proofs.Common.{◌≡◌, ℕ, ◌&&◌, not, true, true≢false, List, [], ◌∷◌, Option, Some, None, refl, sym, ◌∙◌, ap, subst}
 use Rattle.std.proofs.lemmas.Bool.{cond_both}
 use Rattle.std.proofs.lemmas.Option.{same_Some}
-use Rattle.sc_base.specs.Definitions.{same_draw, holds}
-use Rattle.sc_node_table.specs.Values.{Draw, Body, Offer, Command, Noop, Call, Join, Leave, Split, Begin, Prepared, RecordVote, GiveUp, Finish, Watched, RecordWatch, Base, Core, Lock, Coordinating, Free, Promised, Watching, Effect, Route, Frozen, Heard, Outcome, Past, Vote}
-use Rattle.sc_base.proofs.Lemmas.{draw_is, same_name}
+use Rattle.sc_node_table.specs.Values.{Draw, Body, Offer, Command, Noop, Call, Join, Leave, Split, Begin, Prepared, RecordVote, GiveUp, Finish, Watched, RecordWatch, Base, Core, Coordinating, Effect, Route, Frozen, Heard, Outcome, Past, Vote}
+use Rattle.sc_base.proofs.Lemmas.{same_name}
 use Rattle.sc_words.specs.commands.Definitions.{is_alone, decided_in, is_changed}
 use Rattle.sc_words.specs.declared.commands.bodies.Body.TheVariants as At
 use Rattle.sc_words.specs.declared.commands.effects.Effect.TheVariants as Was
 use Rattle.sc_words.specs.declared.commands.votes.Outcome.TheVariants as Is
-use Rattle.sc_words.specs.declared.commands.votes.Past.TheVariants as Cast
 use Rattle.sc_words.specs.declared.commands.votes.Vote.TheVariants as Vows
 use Rattle.sc_meaning.specs.entries.Definitions.{named_group}
 use Rattle.sc_meaning.specs.declared.entries.LogEntry.{LogEntry}
-use Rattle.sc_group_table.specs.machine.Definitions.{Group, applied, begin_refused, refused_in, locked_in, Plan, can_migrate, can_repart, can_split, closing_group, closing_plan, giving_group, giving_plan, has_key_of, may_merge, merge_plan, merged_group, merged_route, migrate_plan, migrated_group, part_gift, repart_plan, split_plan, taken, taking_group, taking_plan, left_group, asks_watcher, committed, decided_group, granted, heard_group, is_coordinating, participant_answered, released, vote_recorded, watch_answered, watch_recorded, decided}
-use Rattle.sc_law_entries.specs.ring.Definitions.{AreAllowed, IsAllowed, Sources, StoryWorld, first_recorded, recorded_stories, recorded_after, recorded_next, Groups, IsCoordinating, LockOk, BeginInPlace, stories_of, Stories, Story, new_story, put, retold, stories_after, vote_in, watch_vote_in, with_answer, with_asked, with_decision, with_vote, with_watch_vote}
+use Rattle.sc_group_table.specs.machine.Definitions.{Group, applied, begin_refused, refused_in, locked_in, merged_route, part_gift, decided}
+use Rattle.sc_law_entries.specs.ring.Definitions.{AreAllowed, IsAllowed, Sources, StoryWorld, first_recorded, recorded_stories, recorded_after, recorded_next, Groups, IsCoordinating, LockOk, BeginInPlace, stories_of, Stories, Story, new_story, put, stories_after, vote_in, watch_vote_in, with_answer, with_asked, with_decision, with_vote, with_watch_vote}
 use Rattle.sc_law_entries.proofs.RingProofs.Lemmas.{arcs_in, at_start, Kept, groups_in, Ring, KeptWorld, kept_on}
 use Rattle.sc_law_groups.proofs.WholeProofs.Lemmas.{comes, dull_same}
 use Rattle.sc_law_groups.proofs.WholeProofs.Fitting.{put_so, retold_so}

@@ -1,16 +1,9 @@
 -- A group goes only where it learns that a merge which it promised was decided.
-use Rattle.std.specs.Prelude.{nat_le, length, ◌⊎◌}
-use Rattle.std.proofs.Common.{◌≡◌, ℕ, ◌&&◌, not, cond, Bool, true, false, [], ◌∷◌, Option, Some, None, inl, inr, refl, sym, ◌∙◌, ap}
-use Rattle.std.proofs.lemmas.Bool.{cond_both}
+use Rattle.std.specs.Prelude.{◌⊎◌}
+use Rattle.std.proofs.Common.{◌≡◌, Some, inl, inr, ap}
 use Rattle.std.proofs.lemmas.Option.{same_Some}
-use Rattle.sc_base.specs.Definitions.{same_draw, united}
-use Rattle.sc_node_table.specs.Values.{Draw, Offer, Command, Noop, Call, Join, Leave, Split, Begin, Prepared, RecordVote, GiveUp, Finish, Watched, RecordWatch, Core, Lock, Coordinating, Free, Promised, Watching, Effect, Route, OrderRefusal, Gift, No, Outcome, Abort, Merged, Moved, Migrated, Divided, Past}
-use Rattle.sc_base.proofs.Lemmas.{draw_is}
-use Rattle.sc_words.specs.declared.commands.effects.Effect.TheVariants as Was
-use Rattle.sc_words.specs.declared.commands.votes.Past.TheVariants as Cast
-use Rattle.sc_group_table.specs.machine.Definitions.{can_gain, finished, gained_group, lost_group, moved, participant_after, settled_in, watch_ended, welcomed_group, Group, applied, ordered, refusal_of, can_cut, has_key_of, has_named, aborted, asks_watcher, begun_group, is_coordinating, watch_recorded, has_voted, vote_of, voted_on, watch_vote_of}
-use Rattle.sc_live_steps.proofs.EntriesProofs.Lemmas.{StandsAs, join-stands, leave-stands, split-stands, vote-waits, watch-stands}
-use Rattle.sc_live_answers.proofs.Cores.{called_core}
+use Rattle.sc_node_table.specs.Values.{Draw, Offer, Command, Finish, Promised, Effect, Route, Merged}
+use Rattle.sc_group_table.specs.machine.Definitions.{Group, applied}
 use Rattle.sc_law_walks.proofs.Lemmas.{MachineWalk, machine_step}
 
 -- a command merges a group that has promised its transaction into another

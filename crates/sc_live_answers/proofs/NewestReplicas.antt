@@ -1,6 +1,7 @@
 -- The newest replicas of a group, before a row and after it.
 use Rattle.std.proofs.Common.{List, None, Some, [], ap, arith, false, inl, inr, subst, sym, true, true≢false, ℕ, ◌++◌, ◌∙◌, ◌∷◌, ◌≡◌, ◌≤◌}
 use Rattle.std.proofs.lemmas.Bool.{cases_eq}
+use Rattle.std.proofs.lemmas.Option.{same_Some}
 use Rattle.sc_actor.specs.Definitions.{mails, row_of}
 use Rattle.sc_node_table.specs.Values.{Seat, Event, Row, Ballot, Base, OrderLine, Mail}
 use Rattle.sc_live_answers.specs.Definitions.{AreBoundBy, IsGuided, IsReached, NewestStay}
@@ -109,18 +110,15 @@ module _ (words : ℕ → ℕ → ℕ × ℕ) (births : List (Seat Player)) (row
     pub stopped_newest : (r : ReplicaState) (after : Place) → IsReplicasRow births rows seat event base.core.id (Some r) after → r.running ≡ true → after.0.running ≡ false → later.newest ≡ next after.0
     stopped_newest r after row runs stops = elim g.step.row [
       | RowPasses same idle ↦ elim idle.view [
-        | inl stays ↦ absurd (true≢false (sym runs ∙ (ap (λ (x : ReplicaState). x.running) (is_after r (stays ∙ row.was)) ∙ stops)))
+        | inl stays ↦ absurd (true≢false (sym runs ∙ (ap (λ (x : ReplicaState). x.running) (same_Some r after.0 (sym ((stays ∙ row.was)) ∙ row.is)) ∙ stops)))
         | inr born ↦ (let bad : Some r ≡ None = sym row.was ∙ born.0 in cc)
       ]
       | RowRests same x then_ line off still kind ↦ absurd (true≢false (sym runs ∙ (ap (λ (y : ReplicaState). y.running) (some_is r x row.was line.was) ∙ off)))
-      | RowTakes same x then_ mark line taken steps kind ↦ absurd (true≢false (sym runs ∙ (ap (λ (y : ReplicaState). y.running) (some_is r x row.was line.was) ∙ (sym steps.runs ∙ (ap (λ (y : ReplicaState). y.running) (is_after then_.0 line.is) ∙ stops)))))
+      | RowTakes same x then_ mark line taken steps kind ↦ absurd (true≢false (sym runs ∙ (ap (λ (y : ReplicaState). y.running) (some_is r x row.was line.was) ∙ (sym steps.runs ∙ (ap (λ (y : ReplicaState). y.running) (same_Some then_.0 after.0 (sym (line.is) ∙ row.is)) ∙ stops)))))
       | RowMakes same from slot state sets line taken logs kind ↦ (let bad : Some r ≡ None = sym row.was ∙ line.was in cc)
-      | RowLeads x then_ line ran counts led same ↦ ap (λ (c : Course). c.newest) same ∙ ap next (is_after then_.0 line.is)
+      | RowLeads x then_ line ran counts led same ↦ ap (λ (c : Course). c.newest) same ∙ ap next (same_Some then_.0 after.0 (sym (line.is) ∙ row.is))
       | RowElects x then_ ballot line off self_election same ↦ absurd (true≢false (sym runs ∙ (ap (λ (y : ReplicaState). y.running) (some_is r x row.was line.was) ∙ off)))
     ]
-      where
-        is_after : (x : ReplicaState) → view_at births (with_event rows seat event) base.core.id seat.who ≡ Some x → x ≡ after.0
-        is_after x e = same_some (view_at births (with_event rows seat event) base.core.id seat.who) x after.0 e row.is
 
     pub reached_after : IsThere births rows base.core.id → IsReached births (with_event rows seat event) base later
     reached_after there = reached_on (g.reached there)

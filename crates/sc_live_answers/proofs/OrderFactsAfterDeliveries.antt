@@ -1,5 +1,5 @@
 -- What is known of an order since a quiet journal, after one more delivery.
-use Rattle.std.proofs.Common.{◌≡◌, ℕ, List, [], ◌∷◌, ◌++◌, Some, ◌⊎◌, inl, inr, refl, sym, ◌∙◌, ap, subst, append_assoc}
+use Rattle.std.proofs.Common.{◌≡◌, ℕ, List, [], ◌∷◌, Some, ◌⊎◌, inl, inr, refl, sym, ◌∙◌, ap, subst, append_assoc}
 use Rattle.sc_base.specs.Definitions.{Each}
 use Rattle.sc_node_table.specs.Values.{Draw, Seat, Deliver, Base}
 use Rattle.sc_actor.specs.Definitions.{row_of}
@@ -67,11 +67,8 @@ module _ (tells : ReplicasAreRecorded) (words : ℕ → ℕ → ℕ × ℕ) (sce
   abbrev Has : Doer → Type 0
   Has it = HasDone (births as_nodes scenario) quiet next it
 
-  before_is : journal ≡ rows ++ (row_of player_table seat rows (Deliver number) ∷ g.goes.prefix.more)
-  before_is = g.goes.prefix.is ∙ append_assoc rows (row_of player_table seat rows (Deliver number) ∷ []) g.goes.prefix.more
-
   begins : FlightsBeginSo (births as_nodes scenario) quiet rows
-  begins = begin_so tells words scenario first journal quiet rows (row_of player_table seat rows (Deliver number) ∷ g.goes.prefix.more) before_is g.calm g.rests g.seen
+  begins = begin_so tells words scenario first journal quiet rows (row_of player_table seat rows (Deliver number) ∷ g.goes.prefix.more) (g.goes.prefix.is ∙ append_assoc rows (row_of player_table seat rows (Deliver number) ∷ []) g.goes.prefix.more) g.calm g.rests g.seen
 
   -- ---- what was executed
 

@@ -1,14 +1,7 @@
 -- Each command of an order, and each lock of a coordinator, keeps the order's number while the order is under way.
 use Rattle.std.proofs.Common.{◌≡◌, ℕ, Option, Some, None, subst}
-use Rattle.std.proofs.lemmas.Bool.{cond_both}
-use Rattle.sc_base.specs.Definitions.{same_draw}
-use Rattle.sc_node_table.specs.Values.{Draw, Body, Command, Noop, Call, Join, Leave, Split, Begin, Prepared, RecordVote, GiveUp, Finish, Watched, RecordWatch, Lock, Free, Coordinating, Promised, Watching, Effect, Heard, No, Outcome, Past, Vote, Frozen}
-use Rattle.sc_words.specs.commands.Definitions.{is_alone}
-use Rattle.sc_words.specs.declared.commands.bodies.Body.TheVariants as At
-use Rattle.sc_words.specs.declared.commands.votes.Past.TheVariants as Cast
-use Rattle.sc_words.specs.declared.commands.votes.Vote.TheVariants as Votes
-use Rattle.sc_group_table.specs.machine.Definitions.{participant_after, settled_in, watch_ended, finished, Group, applied, split_group, left_group, refusal_of, with_node, without_node, Plan, split_plan, merge_plan, closing_plan, repart_plan, migrate_plan, has_named, begun_group, committed, granted, participant_answered, asks_watcher, vote_recorded, released, watch_answered, watch_recorded, is_coordinating, has_voted, bound_by, vote_of, watch_vote_of}
-use Rattle.sc_law_groups.proofs.GroupProofs.Lemmas.{ordered_if}
+use Rattle.sc_node_table.specs.Values.{Command, Lock, Free, Coordinating, Promised, Watching, Effect, No}
+use Rattle.sc_group_table.specs.machine.Definitions.{Group, applied, bound_by, vote_of, watch_vote_of}
 use Rattle.sc_live_answers.specs.Definitions.{HasNumber, LockNumber}
 use Rattle.sc_live_answers.proofs.Affairs.{Affair, BeginsFree}
 use Rattle.sc_law_walks.proofs.Lemmas.{MachineWalk, machine_step}

@@ -1,17 +1,15 @@
 -- What of a replica's table leaves its group and its log, and so is no entry.
-use Rattle.std.proofs.Common.{ℕ, ◌+◌, ◌-◌, ◌^◌, ◌&&◌, not, nat_le, eqb, Bool, true, false, cond, List, [], ◌∷◌, ◌++◌, Option, Some, None}
+use Rattle.std.proofs.Common.{ℕ, ◌+◌, ◌-◌, ◌^◌, ◌&&◌, not, nat_le, eqb, Bool, true, false, cond, List, [], ◌∷◌, Option, Some, None}
 use Rattle.std.specs.Prelude.{is_some}
 use Rattle.std.specs.List.{filter, list_any}
-use Rattle.sc_node_table.specs.Values.{Ballot, Draw, Op, Offer, Watch, Command, Noop, Call, Join, Leave, Split, Begin, Prepared, RecordVote, GiveUp, Finish, Watched, RecordWatch, Effect, Route, OrderResult, Outcome, Past, Vote, AnswerBody, PrepareAnswer, AcceptAnswer, Must, Gap, Report}
-use Rattle.sc_words.specs.declared.commands.votes.Past.TheVariants as Cast
-use Rattle.sc_words.specs.declared.commands.votes.Vote.TheVariants as Votes
+use Rattle.sc_node_table.specs.Values.{Ballot, Command, Noop, Call, Join, Leave, Split, Begin, Prepared, RecordVote, GiveUp, Finish, Watched, RecordWatch, Effect, Route, OrderResult, AnswerBody, PrepareAnswer, AcceptAnswer, Must, Gap, Report}
 use Rattle.sc_mail.specs.declared.bodies.AnswerBody.TheVariants as Answers
 use Rattle.sc_base.specs.Definitions.{is_member, least_of}
 use Rattle.sc_words.specs.declared.paxos.answers.PrepareAnswer.TheVariants as Prepared
 use Rattle.sc_words.specs.declared.paxos.answers.AcceptAnswer.TheVariants as Asked
 use Rattle.sc_words.specs.declared.paxos.answers.Must.TheVariants.{Value, Free as Open}
 use Rattle.sc_words.specs.paxos.Definitions.{AcceptorState, accepted as accepted_by, below, LeaderState, promise_counted, must, prepared}
-use Rattle.sc_node_table.specs.Definitions.{has_act, act_queued, elected, ended, stopped, saw, answer_of, answered_or_put_back, order_result, effect_reported, announced, learnt_to, welcomed, slot_lost, left_gone, left, is_among, looked_for, looked, install_to, asked_to_promise, welcomed_all, Found, is_act, from_backlog, from_acts, from_queues, found_by, found_for, offered, pumped_from, pumped, put_back, queued_number, without_request, ReplicaState, Place, next, members, settled, may_offer, taken_at, under_way, is_idle, last_slot, refused_at, queued, requested, request_row, ask_row, spoken, noted_outcome, standing_vote, sent_elsewhere, offered_by, offer_row, watched_by, watch_row, awaits_vote, awaits_watch, vote_met, vote_row, watch_met, watched_row, elsewhere_row, is_bound, outcome_row, hinted, promise_to, promised, prepare_row, accepted_to, took, accept_row, leads, promise_row, nack_row}
+use Rattle.sc_node_table.specs.Definitions.{elected, ended, stopped, saw, answer_of, answered_or_put_back, order_result, effect_reported, announced, learnt_to, welcomed, slot_lost, left_gone, left, is_among, looked_for, looked, install_to, asked_to_promise, welcomed_all, Found, is_act, from_backlog, from_acts, from_queues, found_by, found_for, offered, pumped_from, pumped, put_back, ReplicaState, Place, next, members, settled, may_offer, taken_at, under_way, is_idle, last_slot, ask_row, spoken, hinted, promise_to, promised, prepare_row, accepted_to, took, accept_row, leads, promise_row, nack_row}
 use Rattle.sc_node_table.specs.declared.Before.{Before}
 use Rattle.sc_law_walks.proofs.Lemmas.{asked_place, either_way}
 

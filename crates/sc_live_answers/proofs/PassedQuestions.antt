@@ -79,13 +79,10 @@ module _ (tells : ReplicasAreRecorded) (words : ℕ → ℕ → ℕ × ℕ) (sce
       abbrev Told_so : Type 0
       Told_so = (n : ℕ) × (hint ≡ Some n) × HasReplica (replicas_after scenario quiet) deal.asked n
 
-      errand : (ms : List Mail) → Among m ms → Among (Elsewhere tx m.to) (errands_for c ms)
-      errand ms a = errand_there c (Elsewhere tx m.to) m ms a (ap (errand_by m.from m.to) body)
-
       leading : (place : Place) → IsSending (one words scenario first journal quiet rows seat number stage g).mail reached.0 place → (row_of player_table seat rows (Deliver number)).sent ≡ place.1 → ⊥
-      leading place (Mute k) e = k c (Elsewhere tx m.to) (errand place.1 (subst (Among m) e among))
-      leading place (AsksOn t d n b k) e = k c (Elsewhere tx m.to) (errand place.1 (subst (Among m) e among))
-      leading place (Enters flight f work w named ballot slot b asked t d watch n node bond leaves k) e = k c (Elsewhere tx m.to) (errand place.1 (subst (Among m) e among))
+      leading place (Mute k) e = k c (Elsewhere tx m.to) (errand_there c (Elsewhere tx m.to) m place.1 (subst (Among m) e among) (ap (errand_by m.from m.to) body))
+      leading place (AsksOn t d n b k) e = k c (Elsewhere tx m.to) (errand_there c (Elsewhere tx m.to) m place.1 (subst (Among m) e among) (ap (errand_by m.from m.to) body))
+      leading place (Enters flight f work w named ballot slot b asked t d watch n node bond leaves k) e = k c (Elsewhere tx m.to) (errand_there c (Elsewhere tx m.to) m place.1 (subst (Among m) e among) (ap (errand_by m.from m.to) body))
 
       passed : (tx2 c2 : Draw) → reached.0.running ≡ false → Among m (record { from = reached.0.me; to = mail0.from; body = TxElsewhere tx2 c2 reached.0.hint } ∷ []) → Told_so
       passed tx2 c2 off a =

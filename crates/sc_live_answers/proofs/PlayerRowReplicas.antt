@@ -77,9 +77,6 @@ module _ (words : ℕ → ℕ → ℕ × ℕ) (births : List (Seat Player)) (row
       now : (step : NodeState × List Mail) → on_mail mail.from mail.body node ≡ step → (name : Draw) → view_at births (with_event rows seat (Deliver number)) name seat.who ≡ replica_of name step.0.replicas
       now step e name = now_is births rows seat (Deliver number) node born is step (Some (Got mail)) (ap (option_map Got) at) (ap (λ (x : NodeState × List Mail). (Node x.0, x.1)) e) name
 
-      before : (name : Draw) → view_at births rows name seat.who ≡ replica_of name node.replicas
-      before name = view_was births rows seat Go name born (Node node) is
-
       module _ (group : Draw) (t : IsTaking words births rows seat number mail group node) where
         some_takes : (r : ReplicaState) → replica_of group node.replicas ≡ Some r → Takes mail
         some_takes r here =
@@ -93,10 +90,10 @@ module _ (words : ℕ → ℕ → ℕ × ℕ) (births : List (Seat Player)) (row
               r = r;
               taking = t;
               here = here;
-              was = before group ∙ here;
+              was = view_was births rows seat Go group born (Node node) is ∙ here;
               is = row.is;
               others = λ name ne.
-                  subst (λ (o : Option ReplicaState). OneOf name seat.who made.1 (view_at births (with_event rows seat (Deliver number)) name seat.who) o) (sym (before name))
+                  subst (λ (o : Option ReplicaState). OneOf name seat.who made.1 (view_at births (with_event rows seat (Deliver number)) name seat.who) o) (sym (view_was births rows seat Go name born (Node node) is))
                   (subst (λ (o : Option ReplicaState). OneOf name seat.who made.1 o (replica_of name node.replicas)) (sym (now (with_children made.1 put, made.0.1) (mail_taken mail.from mail.body node group t.named t.comes (Some r) here) name))
                   (subst (λ (o : Option ReplicaState). OneOf name seat.who made.1 (replica_of name (with_children made.1 put).replicas) o) (put_others group name made.0.0 node.replicas (names_stay.mailed mail.from mail.body r ∙ own) ne)
                   (all_children seat.who name made.1 put t.me_is)));
@@ -104,10 +101,10 @@ module _ (words : ℕ → ℕ → ℕ × ℕ) (births : List (Seat Player)) (row
             }
 
         others_stay : replica_of group node.replicas ≡ None → (name : Draw) → (name ≡ group → ⊥) → view_at births (with_event rows seat (Deliver number)) name seat.who ≡ view_at births rows name seat.who
-        others_stay here name ne = now (unknown mail.from mail.body node) (mail_taken mail.from mail.body node group t.named t.comes None here) name ∙ ((unknown_apart name group ne node mail.from mail.body t.named).0 ∙ sym (before name))
+        others_stay here name ne = now (unknown mail.from mail.body node) (mail_taken mail.from mail.body node group t.named t.comes None here) name ∙ ((unknown_apart name group ne node mail.from mail.body t.named).0 ∙ sym (view_was births rows seat Go name born (Node node) is))
 
         all_stay : replica_of group node.replicas ≡ None → (unknown mail.from mail.body node).0 ≡ node → AllStay
-        all_stay here e name = now (unknown mail.from mail.body node) (mail_taken mail.from mail.body node group t.named t.comes None here) name ∙ (ap (λ (n : NodeState). replica_of name n.replicas) e ∙ sym (before name))
+        all_stay here e name = now (unknown mail.from mail.body node) (mail_taken mail.from mail.body node group t.named t.comes None here) name ∙ (ap (λ (n : NodeState). replica_of name n.replicas) e ∙ sym (view_was births rows seat Go name born (Node node) is))
 
         none_takes : (b : MailBody) → mail.body ≡ b → replica_of group node.replicas ≡ None → RowKind mail
         none_takes (Install n slot state sets) e here =
@@ -122,7 +119,7 @@ module _ (words : ℕ → ℕ → ℕ × ℕ) (births : List (Seat Player)) (row
         taken_so (Some r) here = inr (inl (some_takes r here))
 
       stays : on_mail mail.from mail.body node ≡ (node, []) → AllStay
-      stays e name = now (node, []) e name ∙ sym (before name)
+      stays e name = now (node, []) e name ∙ sym (view_was births rows seat Go name born (Node node) is)
 
       mail_so : (b : Bool) → may_come mail.from mail.body ≡ b → (o : Option Draw) → group_of_mail mail.body ≡ o → RowKind mail
       mail_so false bar o e = inl (stays (cond-false (may_come mail.from mail.body) (routed (group_of_mail mail.body) mail.from mail.body node) (node, []) bar))

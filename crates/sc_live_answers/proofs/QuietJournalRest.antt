@@ -14,7 +14,7 @@ use Rattle.sc_live_journals.specs.scenes.Definitions.{later, newest_of, lead_of,
 use Rattle.sc_live_journals.proofs.ScenesProofs.Lemmas.{none_left}
 use Rattle.sc_live_answers.specs.Definitions.{IsQuietPrefix, PrefixesAreFound, RestsAt, QuietPrefixesRest, RestsBesides, QuietJournalsRest}
 use Rattle.sc_live_answers.proofs.RequestInvariant.{prefix_timely}
-use Rattle.sc_live_plain.specs.Definitions.{IsQuietJournal, replicas_after}
+use Rattle.sc_live_plain.specs.Definitions.{IsQuietJournal}
 use Rattle.sc_live_answers.proofs.OrderPremises.{no_works}
 
 -- ---- replicas that rest
@@ -60,11 +60,8 @@ module _ (found_law : PrefixesAreFound) (rest_law : QuietPrefixesRest) (words : 
   abbrev s : System Player Mail OrderLine
   s = players words (births as_nodes scenario)
 
-  views : (name : Draw) (node : ℕ) → replicas_after scenario prefix name node ≡ view_at (births as_nodes scenario) prefix name node
-  views = (found_law words scenario journal prefix q.calm q.begins).views
-
   at_rest : (name : Draw) (node : ℕ) (r : ReplicaState) → view_at (births as_nodes scenario) prefix name node ≡ Some r → IsAtRest r
-  at_rest name node r e = is.quiet.at_rest name node r (views name node ∙ e)
+  at_rest name node r e = is.quiet.at_rest name node r ((found_law words scenario journal prefix q.calm q.begins).views name node ∙ e)
 
   none : (name : Draw) → errands_for name (left_after prefix) ≡ []
   none name =

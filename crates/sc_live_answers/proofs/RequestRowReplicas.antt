@@ -127,12 +127,9 @@ module _ (words : ℕ → ℕ → ℕ × ℕ) (scenario : Scenario) (stage : IsS
         → (name : Draw) → replica_at scenario (later event) name me ≡ replica_of name after.replicas
     at_me event after v name = replica_is words scenario (later event) name me (Node after) number_is v
 
-    before_me : (name : Draw) → replica_at scenario rows name me ≡ replica_of name n.node.replicas
-    before_me name = replica_is words scenario rows name me (Node n.node) number_is n.is
-
     all_stay : (event : Event OrderLine) → value player_table (node_seat as_nodes scenario.groups scenario.policy me) (later event) ≡ Node n.node → AllStay scenario rows (later event)
     all_stay event v name node = elim (cases_eq node me) [
-      | inl here ↦ ap (replica_at scenario (later event) name) here ∙ (at_me event n.node v name ∙ (sym (before_me name) ∙ ap (replica_at scenario rows name) (sym here)))
+      | inl here ↦ ap (replica_at scenario (later event) name) here ∙ (at_me event n.node v name ∙ (sym (replica_is words scenario rows name me (Node n.node) number_is n.is) ∙ ap (replica_at scenario rows name) (sym here)))
       | inr ne ↦ replica_others words scenario rows (row_of player_table (nseat me) rows event) name node ne
     ]
 
@@ -161,7 +158,7 @@ module _ (words : ℕ → ℕ → ℕ × ℕ) (scenario : Scenario) (stage : IsS
             me = me;
             body = mail.body;
             r = o.r;
-            was = before_me o.frame.core.id ∙ o.was;
+            was = replica_is words scenario rows o.frame.core.id me (Node n.node) number_is n.is ∙ o.was;
             x = o.x;
             now = at_me (Deliver number) (node_table n.node (Got mail)).0 became o.frame.core.id ∙ o.now;
             serves = subst (λ who. Serves o.frame who mail.body o.r o.x) n.me_is o.serves;
@@ -175,7 +172,7 @@ module _ (words : ℕ → ℕ → ℕ × ℕ) (scenario : Scenario) (stage : IsS
             others = λ name node ne. elim (cases_eq node me) [
               | inr past ↦ replica_others words scenario rows (row_of player_table (nseat me) rows (Deliver number)) name node past
               | inl here ↦ ap (replica_at scenario (later (Deliver number)) name) here
-                  ∙ (at_me (Deliver number) (node_table n.node (Got mail)).0 became name ∙ (o.others name (λ same. ne (same, here)) ∙ (sym (before_me name) ∙ ap (replica_at scenario rows name) (sym here))))
+                  ∙ (at_me (Deliver number) (node_table n.node (Got mail)).0 became name ∙ (o.others name (λ same. ne (same, here)) ∙ (sym (replica_is words scenario rows name me (Node n.node) number_is n.is) ∙ ap (replica_at scenario rows name) (sym here))))
             ];
           })
 

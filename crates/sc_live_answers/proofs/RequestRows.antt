@@ -13,8 +13,8 @@ use Rattle.sc_live_orderly.specs.Definitions.{IsTidy, IsOrderly, IsInOrder}
 use Rattle.sc_live_orderly.proofs.Lemmas.{TakesFirst, takes_first, is_born-from}
 use Rattle.sc_live_steps.specs.calm.Definitions.{Chart, IsCalmFor, MayGoNow, FindsCalm, led_elsewhere}
 use Rattle.sc_live_plain.specs.Definitions.{IsAskingNode, IsAskingClient, IsAsking, AreFarFromLast, IsLinkedSetting, IsCalmClient, Setting, IsSetting, IsCalmMail, IsBegun}
+use Rattle.sc_live_plain.proofs.PlainSteps.{same_client}
 use Rattle.sc_live_plain.proofs.RequestPhaseNodes as turns_of
-use Rattle.sc_live_plain.proofs.RequestPhaseClients as clients_of
 use Rattle.sc_live_plain.proofs.Lemmas.{IsStage, stage, Journal, of_player}
 use Rattle.sc_live_answers.specs.Definitions.{CountsAs, AreReached, AllAskLeaders, IsAnswerTo, AnswersAreHeardCalmly, ClientsGoCalmly, AnswersAreExpected, LinesAskLeaders, NodesMayPump, AreNear, RequestRowsFindCalm}
 use Rattle.sc_live_answers.proofs.RequestPremises.{requests_taken}
@@ -61,7 +61,7 @@ module _ (heard : AnswersAreHeardCalmly) (goes : ClientsGoCalmly) (words : ℕ �
 
     known_op : (seq : ℕ) (op : Op) → IsBegun scenario rows c.client.me seq op → slice_get c.client.requests (seq - 1) ≡ Some op
     known_op seq op b =
-        let same = clients_of.one_client words scenario begins set is linked rows t j asks a born b.asks b.is_asks (ap client_actor (b.client_is ∙ c.calm.me_is)) in
+        let same = same_client scenario begins asks b.asks a b.is_asks (ap client_actor (b.client_is ∙ c.calm.me_is)) in
         ap (λ (ops : List Op). slice_get ops (seq - 1)) (c.calm.requests_are ∙ ap (λ (x : Asks). x.ops) (sym same)) ∙ b.op_is
 
     client_takes : (number : ℕ) → kth (waiting (system_of as_nodes words scenario) rows (Some (client_actor asks.client))) 1 ≡ Some number → (mail : Mail) → numbered (mails rows) number ≡ Some mail

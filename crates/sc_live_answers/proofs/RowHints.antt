@@ -26,7 +26,7 @@ use Rattle.sc_live_journals.specs.mail.Definitions.{JournalsKeepIdle}
 use Rattle.sc_live_answers.proofs.PrepareSlotRows.{kept_of, turn, s, named_is, own_name, marked, dated_is, most, goes}
 use Rattle.sc_live_answers.proofs.GreatestBallots.{stays_or_may, entered_top}
 use Rattle.sc_live_answers.proofs.PlayerEvents.{TurnsMail, IsTurn, TurnRests, TurnCreates, TurnTakes, TurnMakes, TurnTold}
-use Rattle.std.proofs.lemmas.Option.{same_Some}
+use Rattle.std.proofs.lemmas.Option.{same_Some, none-some}
 
 -- votes and promises that no leader counts leave whom it takes for that
 vote_hint : (from : ℕ) (group : Draw) (ballot : Ballot) (slot : ℕ) (r : ReplicaState) → r.running ≡ false → (mailed from (Accepted group ballot slot) (r, [])).0.0.hint ≡ r.hint
@@ -60,9 +60,6 @@ module _ (words : ℕ → ℕ → ℕ × ℕ) (at : Sets) (over : Ends) (by : Te
     pub own : name_of r ≡ base.core.id
     own = named_is words at over by scenario rows seat event base course idle wb one so timely born calm was number mail node r t
 
-    pub view_r : view_at all rows base.core.id seat.who ≡ Some r
-    view_r = t.row_.was
-
     named_as : (g : Draw) → group_of_mail mail.body ≡ Some g → g ≡ base.core.id
     named_as g e = own_name words at over by scenario rows seat event base course idle wb one so timely born calm was number mail node r t g e
 
@@ -95,23 +92,23 @@ module _ (words : ℕ → ℕ → ℕ × ℕ) (at : Sets) (over : Ends) (by : Te
       most_slot = within at words all rows seat node base course the_scene number mail t.takes (Tells slot) is_told
 
       pub none_flies : r.running ≡ false → r.leader.flights ≡ []
-      none_flies off = ((kept_of words at over by scenario rows seat event base course idle wb one so timely born calm was r view_r).2.0 off).0
+      none_flies off = ((kept_of words at over by scenario rows seat event base course idle wb one so timely born calm was r t.row_.was).2.0 off).0
 
       -- it does not elect itself by it, or runs then
       pub told_or : r.running ≡ false → Stays (entered command r) ⊎ MayElect (entered command r)
       told_or off =
-          let rounds = one.rounds rows (row_of player_table seat rows event ∷ []) seat.who r refl view_r in
+          let rounds = one.rounds rows (row_of player_table seat rows event ∷ []) seat.who r refl t.row_.was in
           stays_or_may (entered command r) (subst (λ (b : Ballot). b.round < 2 ^ 32 - 1) (sym (entered_top command r)) rounds.later)
 
       told_hint : (off : r.running ≡ false) → Stays (entered command r) → next after ≡ suc slot → (after.hint ≡ hint_by at by r.acceptor.promised r.hint (Tells slot)) ⊎ ((course.gone ≡ true) × (next after ≡ course.newest))
       told_hint off stays reaches = by_gone (entered command r).group.core.gone refl
         where
           log : IsOfLog at over (entered command r)
-          log = (one.told rows seat number mail slot command r t.delivers body view_r told_fit.1).1
+          log = (one.told rows seat number mail slot command r t.delivers body t.row_.was told_fit.1).1
 
           by_gone : (o : Option Route) → (entered command r).group.core.gone ≡ o → (after.hint ≡ hint_by at by r.acceptor.promised r.hint (Tells slot)) ⊎ ((course.gone ≡ true) × (next after ≡ course.newest))
           by_gone None g =
-              let low = (one.told rows seat number mail slot command r t.delivers body view_r told_fit.1).0 in
+              let low = (one.told rows seat number mail slot command r t.delivers body t.row_.was told_fit.1).0 in
               let members : members_at at (slot + 1) ≡ _ = (let up = e_next in let same : slot + 1 ≡ next (entered command r) = omega (arith, up) in ap (members_at at) same ∙ log.members_are) in
               inl (ap (λ b. (mailed mail.from b (r, [])).0.0.hint) own_body ∙ hints_follow.learn at by mail.from slot command r told_fit off (none_flies off) low stays g members)
           by_gone (Some into) g =
@@ -153,7 +150,7 @@ module _ (words : ℕ → ℕ → ℕ × ℕ) (at : Sets) (over : Ends) (by : Te
           let on : GoesOn ballot r = goes words at over by scenario rows seat event base course idle wb one so timely born calm was number mail node r t ballot (known at words all rows seat node base course the_scene number mail t.takes (Prepares ballot) is) in
           let dated = rows_dated words all rows (row_of player_table seat rows event) base course course timely in
           let dated_one = dated_is words at over by scenario rows seat event base course idle wb one so timely born calm was number mail node r t (Prepares ballot) is ∙ ap (λ b. Some (Prepares ballot, from_slot_of b)) body in
-          let low = prepares_are_known.above now (dated_at (players words all) rows name) seat.who ballot from_slot dated.left r was.low (dated.takes ∙ ap (λ o. listed o ++ dated.left) dated_one) (sym (ap (next_in base seat.who) view_r)) t.has.well.2 in
+          let low = prepares_are_known.above now (dated_at (players words all) rows name) seat.who ballot from_slot dated.left r was.low (dated.takes ∙ ap (λ o. listed o ++ dated.left) dated_one) (sym (ap (next_in base seat.who) t.row_.was)) t.has.well.2 in
           as_mark (Prepares ballot) is (inl (ap (λ n. (mailed n mail.body (r, [])).0.0.hint) (asks_own (Prepare g ballot from_slot) e)
           ∙ (ap (λ b. (mailed ballot.node b (r, [])).0.0.hint) (body ∙ ap (λ n. Prepare n ballot from_slot) (sym own)) ∙ hints_follow.prepare at by ballot from_slot r f on low off)))
       hinted_by (Learn g slot command) e =
@@ -166,7 +163,7 @@ module _ (words : ℕ → ℕ → ℕ × ℕ) (at : Sets) (over : Ends) (by : Te
         where
           elected_runs : (slot : ℕ) (command : Command) (body : mail.body ≡ Learn base.core.id slot command) → r.running ≡ false → MayElect (entered command r) → ⊥
           elected_runs slot command body off may =
-              let low = (one.told rows seat number mail slot command r t.delivers body view_r (told_fit slot command body).1).0 in
+              let low = (one.told rows seat number mail slot command r t.delivers body t.row_.was (told_fit slot command body).1).0 in
               true≢false (sym (ap (λ b. (mailed mail.from b (r, [])).0.0.running) (own_body slot command body) ∙ (tables_elect mail.from slot command r (told_fit slot command body) off (none_flies slot command body off) low may (entered_name command r)).runs) ∙ steps)
       hinted_by (Install g slot state sets) e =
           let body : mail.body ≡ Install name slot state sets = e ∙ ap (λ n. Install n slot state sets) (named_as g (ap group_of_mail e)) in
@@ -198,9 +195,6 @@ module _ (words : ℕ → ℕ → ℕ × ℕ) (at : Sets) (over : Ends) (by : Te
         Goal : Type 0
         Goal = (hints_at all (with_event rows seat event) base seat.who ≡ hint_by at by (now.promise seat.who) (hints_at all rows base seat.who) m) ⊎ ((course.gone ≡ true) × (next_in base seat.who (view_at all (with_event rows seat event) base.core.id seat.who) ≡ course.newest))
 
-        none_taken : taken_mark base.core.id (mails rows) event ≡ None → ⊥
-        none_taken none = (let bad : None ≡ Some mark = sym none ∙ took in cc)
-
         ends : (after.0.hint ≡ hint_by at by r.acceptor.promised r.hint mark) ⊎ ((course.gone ≡ true) × (next after.0 ≡ course.newest)) → Goal
         ends (inl said) = inl (
             ap (hint_in base) row_.is ∙ (said ∙ (ap (λ x. hint_by at by r.acceptor.promised r.hint x) (same_Some mark m (sym took ∙ e)) ∙ ap (λ o. hint_by at by (promise_in base o) (hint_in base o) m) (sym row_.was)))
@@ -210,8 +204,8 @@ module _ (words : ℕ → ℕ → ℕ × ℕ) (at : Sets) (over : Ends) (by : Te
         by_turn : IsTurn at by words all rows seat event base → Goal
         by_turn (TurnCreates none made) = absurd (some_none (view_at all rows base.core.id seat.who) row_.was none)
         by_turn (TurnMakes from slot state sets t) = absurd (some_none (view_at all rows base.core.id seat.who) row_.was t.was)
-        by_turn (TurnRests same none) = absurd (none_taken none)
-        by_turn (TurnTold line node q t) = absurd (none_taken (ap (taken_mark name (mails rows)) t.event_is))
+        by_turn (TurnRests same none) = absurd (none-some mark (sym (none) ∙ took))
+        by_turn (TurnTold line node q t) = absurd (none-some mark (sym ((ap (taken_mark name (mails rows)) t.event_is)) ∙ took))
         by_turn (TurnTakes number mail node q t) =
             let here : q ≡ r = same_Some q r (sym t.row_.was ∙ row_.was) in
             let viewed : view_at all (with_event rows seat event) base.core.id seat.who ≡ Some (mailed mail.from mail.body (q, [])).0.0 = ap (λ e_. view_at all (with_event rows seat e_) name seat.who) t.event_is ∙ t.row_.is in

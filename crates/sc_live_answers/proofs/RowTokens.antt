@@ -5,11 +5,10 @@ use Rattle.sc_base.specs.Definitions.{Each, client_actor, same_ballot, is_majori
 use Rattle.sc_node_table.specs.Values.{Ballot, Draw, Op, Command, Call, Core, AnswerBody, Mail, MailBody, Request, Answer, Accept, Accepted, Learn, Chosen, NotYet, Flight}
 use Rattle.sc_words.specs.paxos.Definitions.{must, flight_at, without_flight_at, kept_voters, voters_after, with_voters, vote_at}
 use Rattle.sc_words.proofs.PaxosProofs.Lemmas.{Each-among, find_found}
-use Rattle.sc_group_table.specs.machine.Definitions.{applied}
 use Rattle.sc_node_table.specs.Definitions.{entered, executed_one, has_room, next_child, next_ready, ending, executed_ready, executed, pumped, ReplicaState, Place, Executed, childless, name_of, next, members, set_at, last_slot, forgotten, mailed, at_slot, with_slot, slots_ahead, leads, readied, vote_tallied, voted, accepted_row}
 use Rattle.sc_law_walks.proofs.Lemmas.{entered_next, cleared, either_way}
 use Rattle.sc_live_plain.specs.Definitions.{Frame, IsFrame, Requests, IsPlainCommand, IsPlainCall, IsPlainBody, IsPlainFlight, IsPlainReplica, IsPlainFollower, IsPlainLeader, IsPlainAt, IsDue}
-use Rattle.sc_live_plain.proofs.Lemmas.{learn_is, learnt_plain, learnt_follower, at_found, with_at, with_each, recorded_after, counted_call, call_is, leading_at, following_at, none_stops, IsServed, call_plain}
+use Rattle.sc_live_plain.proofs.Lemmas.{learn_is, learnt_plain, learnt_follower, at_found, with_at, with_each, recorded_after, counted_call, call_is, leading_at, following_at, none_stops, call_plain, entered_frame}
 use Rattle.sc_live_answers.specs.Definitions.{command_token, body_token, flight_tokens, ready_tokens, replica_tokens, place_tokens}
 use Rattle.sc_live_answers.proofs.CallEffects.{Goes, pumps, pump_kept, entry_goes, leaves_itself}
 use Rattle.sc_live_plain.proofs.Lemmas.{accept_is}
@@ -62,7 +61,7 @@ module _ (c : ℕ) (begun : Requests) (frame : Frame) (is : IsFrame frame) (firs
   one_call r mails client seq op call at h =
       let g = h.goes in
       let serves = call_plain begun frame is client seq op r.group call g.group in
-      let core = core_after serves in
+      let core = entered_frame begun frame client seq op r serves in
       let e : ReplicaState = entered (Call client seq op) r in
       let is_ = counted_call client seq op serves.answer r mails serves.answer_is (ap (λ (x : Core). x.members) (core ∙ sym g.group.core_is)) g.running (ap (λ (x : Core). x.gone) core ∙ is.stands)
       (ap (λ (x : Core). is_member x.members r.me) core ∙ ap (is_member frame.core.members) g.me_is ∙ is.leads) in
@@ -73,9 +72,6 @@ module _ (c : ℕ) (begun : Requests) (frame : Frame) (is : IsFrame frame) (firs
       let next_is : next (executed_one true (Call client seq op) (r, mails)).0 ≡ next (entered (Call client seq op) r) = ap (λ (p : Place). next p.0) is_ in
       let same = ap (place_tokens c) is_ in
       record { goes = entry_goes begun frame is first r mails client seq op call g; low = omega (arith, low, up, next_is); most = omega (arith, tokens, same, most) }
-    where
-      core_after : IsServed begun frame client seq op (applied r.group (Call client seq op)) → (entered (Call client seq op) r).group.core ≡ frame.core
-      core_after serves = serves.group.core_is
 
   one_on : (command : Command) (place : Place) → IsPlainCommand begun frame command → at_slot place.0.ready (next place.0) ≡ Some command → Holds place → Holds (executed_one true command place)
   one_on command (r, mails) plain at h =

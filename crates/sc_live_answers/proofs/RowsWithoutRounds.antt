@@ -3,7 +3,7 @@ use Rattle.std.proofs.Common.{◌≡◌, ℕ, zero, suc, ◌+◌, ◌≤◌, ◌
 use Rattle.std.proofs.lemmas.Bool.{cases_eq, cases_lt, cond_both}
 use Rattle.sc_base.specs.Definitions.{Each, is_member}
 use Rattle.sc_node_table.specs.Values.{Ballot, Seat, Event, Command, Noop, Call, Base, OrderLine, Flight}
-use Rattle.sc_actor.specs.Definitions.{row_of}
+use Rattle.sc_actor.specs.Definitions.{row_of, mails}
 use Rattle.sc_node_table.specs.Definitions.{is_act, ReplicaState, flying, listed, next, at_slot}
 use Rattle.sc_live_orderly.specs.Definitions.{AreInTime}
 use Rattle.sc_words.specs.paxos.Definitions.{flight_at}
@@ -12,7 +12,7 @@ use Rattle.sc_meaning.specs.sound.Definitions.{Player, player_table}
 use Rattle.sc_live_steps.specs.following.Definitions.{Asks, Course, Mark, Prepares, Progress, Sets, Tells, Votes, members_at, Tellers, ActsAlone, IsLeadOf, IsLed, IsOrderly, IsOffer, IsRow, answered, told_from, reported_of, welcome}
 use Rattle.sc_live_steps.specs.calm.Definitions.{players, Rows}
 use Rattle.sc_live_steps.specs.orders.Definitions.{work_by, Work}
-use Rattle.sc_live_journals.specs.rows.Definitions.{progress_at, view_at, led_course, with_event}
+use Rattle.sc_live_journals.specs.rows.Definitions.{progress_at, view_at, led_course, with_event, taken_mark}
 use Rattle.sc_live_journals.proofs.RowsProofs.Lemmas.{rows_are}
 use Rattle.sc_live_journals.specs.scenes.Definitions.{IsWork}
 use Rattle.sc_live_journals.specs.groups.Definitions.{IsGroupRow, IsLedStep, RowElects, RowLeads, RowMakes, RowPasses, RowRests, RowTakes, Ends, IsWellLed}
@@ -126,21 +126,16 @@ module _ (at : Sets) (over : Ends) (by : Tellers) (words : ℕ → ℕ → ℕ �
         ap (λ n. is_member (members_at at n) who) newest_is ∙ (ap (λ s. is_member s who) (sym members_same) ∙ (ap (λ n. is_member (members_at at n) who) e ∙ m)))) tt
     told_none (suc (suc more)) low e who = absurd (omega (arith, low))
 
+  taken_quiet : (m : Mark) → taken_mark base.core.id (mails rows) event ≡ Some m → IsNoRound m
+  taken_quiet m t =
+      let row = rows_are words births rows (row_of player_table seat rows event) base course course timely in
+      (each_left IsNoRound (m ∷ []) row.left (subst (Each IsNoRound) (row.takes ∙ ap (λ o. listed o ++ row.left) t) (none seat.who))).0
+
   by_row : (later : Course) → IsGroupRow at over by births rows seat event base course later → Quiet
   by_row later (RowPasses e leaves) = by_sent course (λ who. subst (Each IsNoRound) (sym ((leaves.idle course).sends who)) tt)
   by_row later (RowRests e x after row off unmoved idle) = by_sent course (λ who. subst (Each IsNoRound) (sym (idle.sends who)) tt)
   by_row later (RowTakes e x after mark row taken steps takes) = by_sent course (λ who. subst (Each IsNoRound) (sym (takes.sends who)) (answers_quiet seat.who _ takes.mark who (taken_quiet takes.mark takes.takes)))
-    where
-      taken_quiet : (m : Mark) → Rattle.sc_live_journals.specs.rows.Groups.taken_mark base.core.id (Rattle.sc_actor.specs.Mail.mails rows) event ≡ Some m → IsNoRound m
-      taken_quiet m t =
-          let row = rows_are words births rows (row_of player_table seat rows event) base course course timely in
-          (each_left IsNoRound (m ∷ []) row.left (subst (Each IsNoRound) (row.takes ∙ ap (λ o. listed o ++ row.left) t) (none seat.who))).0
   by_row later (RowMakes e from slot state sets row taken logs takes) = by_sent course (λ who. subst (Each IsNoRound) (sym (takes.sends who)) (answers_quiet seat.who _ takes.mark who (taken_quiet takes.mark takes.takes)))
-    where
-      taken_quiet : (m : Mark) → Rattle.sc_live_journals.specs.rows.Groups.taken_mark base.core.id (Rattle.sc_actor.specs.Mail.mails rows) event ≡ Some m → IsNoRound m
-      taken_quiet m t =
-          let row = rows_are words births rows (row_of player_table seat rows event) base course course timely in
-          (each_left IsNoRound (m ∷ []) row.left (subst (Each IsNoRound) (row.takes ∙ ap (λ o. listed o ++ row.left) t) (none seat.who))).0
   by_row later (RowLeads x after row x_runs counts l e) =
       let k = l.led.leads in
       by_sent (led_course l.led.bound course after.0) (λ who. subst (Each IsNoRound) (sym (k.sends who))

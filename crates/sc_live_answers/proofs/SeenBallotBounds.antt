@@ -95,9 +95,6 @@ module _ (words : ℕ → ℕ → ℕ × ℕ) (at : Sets) (over : Ends) (by : Te
     abbrev Shown : Type 0
     Shown = Shows rows event base r (mailed mail.from mail.body (r, [])).0.0
 
-    view_r : view_at all rows base.core.id seat.who ≡ Some r
-    view_r = t.row_.was
-
     viewed : view_at all (with_event rows seat event) base.core.id seat.who ≡ Some (mailed mail.from mail.body (r, [])).0.0
     viewed = ap (λ e. view_at all (with_event rows seat e) name seat.who) t.event_is ∙ t.row_.is
 
@@ -113,15 +110,15 @@ module _ (words : ℕ → ℕ → ℕ × ℕ) (at : Sets) (over : Ends) (by : Te
         (mailed mail.from mail.body (r, [])).0 t.row_
 
     stands : (T : Ballot → Type 0) → T r.top → StandsAt All_ T r
-    stands T k = ((all_any r.acceptor.accepted, plain r view_r), k)
+    stands T k = ((all_any r.acceptor.accepted, plain r t.row_.was), k)
 
     -- a mail that the replica takes while it leads
     by_leader : r.running ≡ true → IsPlainMail All_ mail.body → Shown
     by_leader runs is_plain = elim (cases_Bool after.running) [
       | inl on ↦ ShowsOwn on
-      | inr off ↦ elim (mail_sees seat.who mail.from mail.body r (kept_of words at over by scenario rows seat event base course idle wb one so timely born calm was r view_r) is_plain) [
+      | inr off ↦ elim (mail_sees seat.who mail.from mail.body r (kept_of words at over by scenario rows seat event base course idle wb one so timely born calm was r t.row_.was) is_plain) [
         | inl low ↦ ShowsNone low
-        | inr own ↦ ShowsNone (same_least r.top after.top (sym own ∙ (stopped_ballot r after view_r viewed runs off later kind ∙ sym (led_top r view_r runs))))
+        | inr own ↦ ShowsNone (same_least r.top after.top (sym own ∙ (stopped_ballot r after t.row_.was viewed runs off later kind ∙ sym (led_top r t.row_.was runs))))
       ]
     ]
 
@@ -137,9 +134,9 @@ module _ (words : ℕ → ℕ → ℕ × ℕ) (at : Sets) (over : Ends) (by : Te
     told g slot command e off =
         let body : mail.body ≡ Learn name slot command = e ∙ ap (λ n. Learn n slot command) (named_as g (ap group_of_mail e)) in
         let f : IsFit (next r) r.acceptor.promised (Tells slot) = fits (Tells slot) (ap (mark_of name mail.from) body ∙ same_mark name (Tells slot)) in
-        let log = one.told rows seat number mail slot command r t.delivers body view_r f.1 in
-        let none = ((kept_of words at over by scenario rows seat event base course idle wb one so timely born calm was r view_r).2.0 off).0 in
-        let rounds = one.rounds rows (row_of player_table seat rows event ∷ []) seat.who r refl view_r in
+        let log = one.told rows seat number mail slot command r t.delivers body t.row_.was f.1 in
+        let none = ((kept_of words at over by scenario rows seat event base course idle wb one so timely born calm was r t.row_.was).2.0 off).0 in
+        let rounds = one.rounds rows (row_of player_table seat rows event ∷ []) seat.who r refl t.row_.was in
         elim (stays_or_may (entered command r) (subst (λ (b : Ballot). b.round < 2 ^ 32 - 1) (sym (entered_top command r)) rounds.later)) [
           | inl stays ↦ ShowsNone (same_least r.top after.top (ap (λ b. (mailed mail.from b (r, [])).0.0.top) e ∙ (told_idly r mail.from g slot command off none f.1 log.0 stays).1))
           | inr may ↦ (let own : mail.body ≡ Learn (name_of r) slot command = body ∙ ap (λ n. Learn n slot command) (sym (named_is words at over by scenario rows seat event base course idle wb one so timely born calm was number mail node r t)) in
@@ -149,7 +146,7 @@ module _ (words : ℕ → ℕ → ℕ × ℕ) (at : Sets) (over : Ends) (by : Te
     shows : (b : MailBody) → mail.body ≡ b → Shown
     shows (Accept g ballot slot command) e =
         let f : IsFit (next r) r.acceptor.promised (Asks ballot slot) = fits (Asks ballot slot) (ap (mark_of name mail.from) (e ∙ ap (λ n. Accept n ballot slot command) (named_as g (ap group_of_mail e))) ∙ same_mark name (Asks ballot slot)) in
-        let low : below r.top ballot ≡ false = subst (IsAtLeast r.top) (sym f.2) (topped scenario rows base seat.who r view_r).1 in
+        let low : below r.top ballot ≡ false = subst (IsAtLeast r.top) (sym f.2) (topped scenario rows base seat.who r t.row_.was).1 in
         let least = subst (IsAtLeast course.ballot) (sym f.2) (most words at over by scenario rows seat event base course idle wb one so timely born calm was number mail node r t) in
         ShowsNone (same_least r.top after.top (ap (λ b. (mailed mail.from b (r, [])).0.0.top) e ∙ (asked_low All_ (λ x. x ≡ r.top) mail.from g ballot slot command r (goes_on_ ballot least) low tt (stands (λ x. x ≡ r.top) refl)).1))
     shows (Prepare g ballot from_slot) e =
@@ -166,7 +163,7 @@ module _ (words : ℕ → ℕ → ℕ × ℕ) (at : Sets) (over : Ends) (by : Te
             known at words all rows seat node base course (scene at over by words all rows seat node base course (s words at over by scenario rows seat event base course idle wb one so timely born calm was number mail node r t)) number mail t.takes (Prepares ballot) is
     shows (Nack g promised) e =
         let body : mail.body ≡ Nack name promised = e ∙ ap (λ n. Nack n promised) (named_as g (ap group_of_mail e)) in
-        let on : GoesOn promised r = so.nacks rows seat number mail promised r t.delivers body view_r in
+        let on : GoesOn promised r = so.nacks rows seat number mail promised r t.delivers body t.row_.was in
         elim (cases_Bool (below r.top promised)) [
           | inr low ↦ ShowsNone (same_least r.top after.top (ap (λ b. (mailed mail.from b (r, [])).0.0.top) e ∙ (nacked_low All_ (λ x. x ≡ r.top) mail.from g promised r on low (stands (λ x. x ≡ r.top) refl)).1))
           | inl up ↦ elim ((nacked_stands All_ (λ x. (x ≡ r.top) ⊎ (x ≡ promised)) mail.from g promised r on (inr refl) (stands (λ x. (x ≡ r.top) ⊎ (x ≡ promised)) (inl refl))).1) [

@@ -11,7 +11,7 @@ use Rattle.sc_scenario.specs.declared.scenario.scenarios.Scenario.{Scenario}
 use Rattle.sc_meaning.specs.sound.Definitions.{Lawful, Player, as_nodes, births, schedule, system_of}
 use Rattle.sc_law_entries.specs.names.Definitions.{IsUsed, NamesAreDrawn}
 use Rattle.sc_live_steps.specs.calm.Definitions.{Rows}
-use Rattle.sc_live_steps.specs.orders.Definitions.{bond_of, errand_by, is_cast_yes, is_yes, Asking, Errand, Here, Question, Reply, Asks, Deal, Replied, Stage}
+use Rattle.sc_live_steps.specs.orders.Definitions.{bond_of, errand_by, is_cast_yes, is_yes, Errand, Here, Question, Reply, Asks, Deal, Replied, Stage}
 use Rattle.sc_live_journals.specs.rows.Definitions.{view_at}
 use Rattle.sc_live_journals.proofs.RowsProofs.Lemmas.{view_was}
 use Rattle.sc_live_journals.specs.scenes.Definitions.{AreUntouched, IsThere, scene_at}
@@ -31,9 +31,6 @@ module _ (bounded : ValidScenariosAreBounded) (drawn : NamesAreDrawn) (words : �
   lawful : Lawful as_nodes words scenario quiet
   lawful = lawful-prefix (system_of as_nodes words scenario) (schedule scenario) quiet t.rests.prefix.more (subst (Lawful as_nodes words scenario) t.rests.prefix.is t.calm.lawful)
 
-  view : view_at (births as_nodes scenario) rows group seat.who ≡ Some r
-  view = view_was all rows seat (Deliver number) group t.taking.seated (Node node) t.taking.is_node ∙ t.here
-
   -- ---- a question
 
   -- at a group that is asked no vote stands
@@ -48,7 +45,7 @@ module _ (bounded : ValidScenariosAreBounded) (drawn : NamesAreDrawn) (words : �
     there = stands_there scenario quiet _ _ t.rests.is.quiet t.rests.known t.seen deal.asked since.asked.0
 
     was : view_at (births as_nodes scenario) quiet deal.asked seat.who ≡ Some r
-    was = sym (untouched.views deal.asked (asked_fresh (scene_at all rows) deal to untouched.stands) there seat.who) ∙ (ap (λ n. view_at all rows n seat.who) own ∙ view)
+    was = sym (untouched.views deal.asked (asked_fresh (scene_at all rows) deal to untouched.stands) there seat.who) ∙ (ap (λ n. view_at all rows n seat.who) own ∙ (view_was all rows seat (Deliver number) group t.taking.seated (Node node) t.taking.is_node ∙ t.here))
 
     asked_unvoted : standing_vote r.group.core deal.tx ≡ None
     asked_unvoted =
@@ -78,10 +75,7 @@ module _ (bounded : ValidScenariosAreBounded) (drawn : NamesAreDrawn) (words : �
     d = truly.done.0
 
     here : d.now ≡ r
-    here = same_Some d.now r (sym d.is ∙ (ap (λ n. view_at all rows deal.coord n) chief ∙ (ap (λ n. view_at all rows n seat.who) own ∙ view)))
-
-    asking : bond_of d.now.group.core ≡ Asking deal.tx deal.asked deal.turn
-    asking = sym (lead_bond all rows deal.coord deal.chief d.now replied.stands.leads.0 d.is) ∙ ap (λ (h : Here). h.bond) replied.stands.parties.0.0
+    here = same_Some d.now r (sym d.is ∙ (ap (λ n. view_at all rows deal.coord n) chief ∙ (ap (λ n. view_at all rows n seat.who) own ∙ (view_was all rows seat (Deliver number) group t.taking.seated (Node node) t.taking.is_node ∙ t.here))))
 
     free : d.first.group.core.lock ≡ Rattle.sc_words.specs.declared.commands.cores.Lock.TheVariants.Free
     free = (t.rests.is.quiet.at_rest deal.coord deal.chief d.first (sym (t.seen deal.coord deal.chief) ∙ d.was)).free
@@ -90,7 +84,7 @@ module _ (bounded : ValidScenariosAreBounded) (drawn : NamesAreDrawn) (words : �
     same_decided =
         ap (λ (x : ReplicaState). x.group.core.decided) (sym here) ∙ (ap (λ (g : Group). g.core.decided) d.group_is
         ∙ decided_same d.first.group deal.tx deal.asked deal.turn _
-        (coordinates d.first.group free deal.tx deal.tx deal.asked deal.turn d.entries d.did (ap (λ (g : Group). bond_of g.core) (sym d.group_is) ∙ asking)))
+        (coordinates d.first.group free deal.tx deal.tx deal.asked deal.turn d.entries d.did (ap (λ (g : Group). bond_of g.core) (sym d.group_is) ∙ (sym (lead_bond all rows deal.coord deal.chief d.now replied.stands.leads.0 d.is) ∙ ap (λ (h : Here). h.bond) replied.stands.parties.0.0))))
 
     coord_undecided : noted_outcome r.group.core deal.tx ≡ None
     coord_undecided =

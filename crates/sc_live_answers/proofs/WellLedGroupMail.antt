@@ -61,11 +61,8 @@ module _ (words : ℕ → ℕ → ℕ × ℕ) (at : Sets) (over : Ends) (by : Te
     plays : Plays seat.who (Node node)
     plays = subst (Plays seat.who) is (replay_well seat.who seat.who rows seat.actor [] (plays_of seat.who seat.actor (wb.well seat born)))
 
-    view_of : (group : Draw) (o : Option ReplicaState) → replica_of group node.replicas ≡ o → view_at all rows group seat.who ≡ o
-    view_of group o here = view_was all rows seat Go group born (Node node) is ∙ here
-
     kept_of : (group : Draw) (r : ReplicaState) → replica_of group node.replicas ≡ Some r → IsPlainlyKept seat.who r
-    kept_of group r here = idle words scenario rows group seat.who r before (view_of group (Some r) here)
+    kept_of group r here = idle words scenario rows group seat.who r before (view_was all rows seat Go group born (Node node) is ∙ here)
 
     -- what the own replica has promised
     most_of : (o : Option ReplicaState) → view_at all rows base.core.id seat.who ≡ o → IsAtLeast course.ballot (promise_in base o)
@@ -92,7 +89,7 @@ module _ (words : ℕ → ℕ → ℕ × ℕ) (at : Sets) (over : Ends) (by : Te
         has = record { here = here; well = subst (Found seat.who) here (found_well seat.who name node.replicas plays.1) }
 
         most : IsAtLeast course.ballot r.acceptor.promised
-        most = most_of (Some r) (view_of name (Some r) here)
+        most = most_of (Some r) (view_was all rows seat Go name born (Node node) is ∙ here)
 
         named_is : name_of r ≡ name
         named_is = found_name name node.replicas r here
@@ -112,12 +109,12 @@ module _ (words : ℕ → ℕ → ℕ × ℕ) (at : Sets) (over : Ends) (by : Te
             let body : mail.body ≡ Prepare name ballot from_slot = e ∙ ap (λ n. Prepare n ballot from_slot) same in
             let marked : mark_of name mail.from mail.body ≡ Some (Prepares ballot) = ap (mark_of name mail.from) body ∙ same_mark name (Prepares ballot) in
             let least : IsAtLeast course.ballot ballot = known at words all rows seat node base course (scene at over by words all rows seat node base course s) number mail takes (Prepares ballot) marked in
-            let goes = goes_on at words all rows seat node base course (scene at over by words all rows seat node base course s) r (view_of name (Some r) here) ballot least in
+            let goes = goes_on at words all rows seat node base course (scene at over by words all rows seat node base course s) r (view_was all rows seat Go name born (Node node) is ∙ here) ballot least in
             let dated = rows_dated words all rows (row_of player_table seat rows (Deliver number)) base course course timely_mail in
             let taken : taken_dated name (mails rows) (Deliver number) ≡ Some (Prepares ballot, from_slot) = ap (dated_in name) sent_at ∙ (ap (option_map (λ mark. (mark, from_slot_of mail.body))) marked ∙ ap (λ b. Some (Prepares ballot, from_slot_of b)) body) in
-            let low = prepares_are_known.above (progress_at all rows base course) (dated_at (players words all) rows name) seat.who ballot from_slot dated.left r was.low (dated.takes ∙ ap (λ o. listed o ++ dated.left) taken) (sym (ap (next_in base seat.who) (view_of name (Some r) here))) has.well.2 in
+            let low = prepares_are_known.above (progress_at all rows base course) (dated_at (players words all) rows name) seat.who ballot from_slot dated.left r was.low (dated.takes ∙ ap (λ o. listed o ++ dated.left) taken) (sym (ap (next_in base seat.who) (view_was all rows seat Go name born (Node node) is ∙ here))) has.well.2 in
             subst (λ b. Well (mailed mail.from b (r, [])).0.1) (sym (body ∙ ap (λ n. Prepare n ballot from_slot) (sym named_is)))
-            (prepare_says base.core.id course.ballot mail.from ballot from_slot r goes low (nothing number mail ballot from_slot r is_event sent_at body (view_of name (Some r) here)) most)
+            (prepare_says base.core.id course.ballot mail.from ballot from_slot r goes low (nothing number mail ballot from_slot r is_event sent_at body (view_was all rows seat Go name born (Node node) is ∙ here)) most)
         by_body (Accept g ballot slot command) e =
             let body : mail.body ≡ Accept name ballot slot command = e ∙ ap (λ n. Accept n ballot slot command) (same_Some g name (sym (ap group_of_mail e) ∙ group)) in
             let f = fitting (Asks ballot slot) (ap (mark_of name mail.from) body ∙ same_mark name (Asks ballot slot)) in
@@ -145,7 +142,7 @@ module _ (words : ℕ → ℕ → ℕ × ℕ) (at : Sets) (over : Ends) (by : Te
       late : replica_of base.core.id node.replicas ≡ None → IsLate base.core.id course.ballot node mail.from mail.body
       late here = elim (so.finds rows seat number mail node d born is here) [
         | inl none ↦ inl none
-        | inr i ↦ inr (i.0, i.1, i.2, i.3, subst (IsAtLeast course.ballot) (sym (one.sent rows seat number mail i.0 i.1 i.2 d i.3).firsts) (most_of None (view_of name None here)))
+        | inr i ↦ inr (i.0, i.1, i.2, i.3, subst (IsAtLeast course.ballot) (sym (one.sent rows seat number mail i.0 i.1 i.2 d i.3).firsts) (most_of None (view_was all rows seat Go name born (Node node) is ∙ here)))
       ]
 
       mail_well : Well (on_mail mail.from mail.body node).1
@@ -159,7 +156,7 @@ module _ (words : ℕ → ℕ → ℕ × ℕ) (at : Sets) (over : Ends) (by : Te
         go : (r : ReplicaState) → replica_of (group_of_order line.order) node.replicas ≡ Some r → Well (ordered_row node.draws line (r, [])).1
         go r here = elim (cases_Bool (same_draw (group_of_order line.order) name)) [
           | inl t ↦ (let same = draw_is (group_of_order line.order) name t in
-              order_says base.core.id course.ballot 0 (Unit {0}) seat.who node.draws line r (kept_of (group_of_order line.order) r here) (λ _. (tt, most_of (Some r) (view_of name (Some r) (ap (λ n. replica_of n node.replicas) (sym same) ∙ here)), omega arith)))
+              order_says base.core.id course.ballot 0 (Unit {0}) seat.who node.draws line r (kept_of (group_of_order line.order) r here) (λ _. (tt, most_of (Some r) (view_was all rows seat Go name born (Node node) is ∙ (ap (λ n. replica_of n node.replicas) (sym same) ∙ here)), omega arith)))
           | inr f ↦ order_says base.core.id course.ballot 0 ⊥ seat.who node.draws line r (kept_of (group_of_order line.order) r here)
               (λ same. absurd (true≢false (sym (same_name (group_of_order line.order) name (sym (found_name (group_of_order line.order) node.replicas r here) ∙ same)) ∙ f)))
         ]

@@ -15,7 +15,7 @@ use Rattle.sc_live_plain.specs.Definitions.{Frame, IsFrame, replica_owes, Reques
 use Rattle.sc_live_plain.proofs.PlainEntries.{entered_plain, learnt_call}
 use Rattle.sc_live_plain.proofs.LeadingReplicas.{IsHeld}
 use Rattle.sc_live_plain.proofs.RepeatedMail.{mail_of}
-use Rattle.sc_live_plain.proofs.ExecutedCalls.{IsServed, call_plain}
+use Rattle.sc_live_plain.proofs.ExecutedCalls.{IsServed, call_plain, entered_frame}
 
 -- ---- Accept
 
@@ -171,17 +171,13 @@ module _ (begun : Requests) (frame : Frame) (is : IsFrame frame) (me : ℕ) (r :
     unfoldable pub learnt_state : ReplicaState
     learnt_state = (cleared (next r) (entered (Call client seq op) r, [])).0
 
-    core_after : (entered (Call client seq op) r).group.core ≡ frame.core
-    unfolding entered forgotten
-    core_after = serves.group.core_is
-
     stopped_after : (entered (Call client seq op) r).running ≡ false
     unfolding entered forgotten
     stopped_after = f.stopped
 
     knows_after : is_among (members (entered (Call client seq op) r)) (entered (Call client seq op) r).hint ≡ true
     unfolding entered forgotten
-    knows_after = ap (is_among (members (entered (Call client seq op) r))) p.hint_is ∙ ap (λ (core : Core). is_member core.members frame.lead) core_after ∙ member
+    knows_after = ap (is_among (members (entered (Call client seq op) r))) p.hint_is ∙ ap (λ (core : Core). is_member core.members frame.lead) (entered_frame begun frame client seq op r serves) ∙ member
 
     flies_none : flying (entered (Call client seq op) r) (next r) ≡ None
     unfolding entered forgotten
@@ -197,7 +193,7 @@ module _ (begun : Requests) (frame : Frame) (is : IsFrame frame) (me : ℕ) (r :
 
     one_is : executed_one false (Call client seq op) (r, []) ≡ (learnt_state, [])
     unfolding learnt_state
-    one_is = learnt_call client seq op r [] (ap (λ (core : Core). core.members) (core_after ∙ sym p.group.core_is)) stopped_after (ap (λ (core : Core). core.gone) core_after ∙ is.stands) knows_after flies_none
+    one_is = learnt_call client seq op r [] (ap (λ (core : Core). core.members) ((entered_frame begun frame client seq op r serves) ∙ sym p.group.core_is)) stopped_after (ap (λ (core : Core). core.gone) (entered_frame begun frame client seq op r serves) ∙ is.stands) knows_after flies_none
 
     rest_is : pumped (all_ready (learnt_state, [])).0 ≡ (learnt_state, [])
     unfolding executed_ready pumped

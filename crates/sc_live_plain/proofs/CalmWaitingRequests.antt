@@ -18,7 +18,7 @@ use Rattle.sc_live_plain.specs.Definitions.{IsAskingNode, IsAsking, AreFarFromLa
 use Rattle.sc_live_plain.proofs.RequestPhaseClients as clients_of
 use Rattle.sc_live_plain.proofs.RequestPhaseNodes as turns_of
 use Rattle.sc_live_plain.proofs.PlainBeginnings.{IsStage}
-use Rattle.sc_live_plain.proofs.PlainSteps.{node_number, client_number, value_others}
+use Rattle.sc_live_plain.proofs.PlainSteps.{node_number, client_number, value_others, client_away}
 use Rattle.sc_live_plain.proofs.RowViews.{Journal, replica_is, replica_others}
 use Rattle.sc_live_plain.proofs.PlainJournals.{of_player}
 use Rattle.sc_live_plain.proofs.CalmClients.{EndsWait, Seeks, Ignores}
@@ -95,7 +95,7 @@ module _ (words : ℕ → ℕ → ℕ × ℕ) (scenario : Scenario) (begins : Is
         -- a client is what it was
         was_client : (asks : Asks) (client : ClientState) → Among asks scenario.clients → value player_table (client_seat (route_of begins.first) asks) (rows ++ row_of player_table (node_seat as_nodes scenario.groups scenario.policy me) rows event ∷ []) ≡ Client client
             → value player_table (client_seat (route_of begins.first) asks) rows ≡ Client client
-        was_client asks client a e = sym (value_others words scenario begins rows (row_of player_table (nseat me) rows event) (cseat asks) (λ x. turns_of.no_client words scenario begins set is rows t j room me one most born asks a x)) ∙ e
+        was_client asks client a e = sym (value_others words scenario begins rows (row_of player_table (nseat me) rows event) (cseat asks) (λ x. client_away words scenario begins me (node_number words scenario begins me one most) asks a x)) ∙ e
 
         -- where the node that was asked does not act
         elsewhere : (client : ClientState) (group : Draw) (target seq : ℕ) → (client_actor client.me ≡ me → ⊥) → (target ≡ me → ⊥) → IsSought rows client group target seq → IsSought (rows ++ row_of player_table (node_seat as_nodes scenario.groups scenario.policy me) rows event ∷ []) client group target seq
@@ -133,7 +133,7 @@ module _ (words : ℕ → ℕ → ℕ × ℕ) (scenario : Scenario) (begins : Is
         who = me_of asks client a was
 
         no_client : client_actor client.me ≡ me → ⊥
-        no_client e = turns_of.no_client words scenario begins set is rows t j room me one most born asks a (ap client_actor (sym who) ∙ e)
+        no_client e = client_away words scenario begins me (node_number words scenario begins me one most) asks a (ap client_actor (sym who) ∙ e)
 
         -- the replicas before and after
         before_is : (group : Draw) → replica_at scenario rows group me ≡ replica_of group n.node.replicas
@@ -316,7 +316,7 @@ module _ (words : ℕ → ℕ → ℕ × ℕ) (scenario : Scenario) (begins : Is
             let s = sought asks client a was w in
             elim (cases_eq w.target me) [
               | inl here ↦ sought_here number fine at first_ step_ became_ sends_ asks client a was w here (takes_by asks client a was w here (turns_of.turn words scenario begins set is rows t j room me one most born number fine)) s
-              | inr ne ↦ elsewhere (Deliver number) fine client w.group w.target w.seq (λ e. turns_of.no_client words scenario begins set is rows t j room me one most born asks a (ap client_actor (sym (me_of asks client a was)) ∙ e)) ne s
+              | inr ne ↦ elsewhere (Deliver number) fine client w.group w.target w.seq (λ e. client_away words scenario begins me (node_number words scenario begins me one most) asks a (ap client_actor (sym (me_of asks client a was)) ∙ e)) ne s
             ]
 
       node_go : (fine : has_started rows me ≡ false) → AreSought (rows ++ row_of player_table (node_seat as_nodes scenario.groups scenario.policy me) rows Go ∷ [])
@@ -324,7 +324,7 @@ module _ (words : ℕ → ℕ → ℕ × ℕ) (scenario : Scenario) (begins : Is
           let r = row_of player_table (nseat me) rows Go in
           let was = was_client Go fine asks client a now_is in
           let n = turns_of.n words scenario begins set is rows t j room me one most born in
-          let ne : client_actor client.me ≡ me → ⊥ = λ e. turns_of.no_client words scenario begins set is rows t j room me one most born asks a (ap client_actor (sym (me_of asks client a was)) ∙ e) in
+          let ne : client_actor client.me ≡ me → ⊥ = λ e. client_away words scenario begins me (node_number words scenario begins me one most) asks a (ap client_actor (sym (me_of asks client a was)) ∙ e) in
           let acted_go : acted player_table (value player_table (nseat me) rows) (input_of {O = OrderLine} (mails rows) Go) ≡ (Node n.node, []) = ap (λ p. acted player_table p (Some GoInput)) n.is in
           let same : value player_table (nseat me) (rows ++ r ∷ []) ≡ Node n.node = turns_of.value_own words scenario begins set is rows t j (nseat me) Go ∙ ap (λ (p : Player × List Mail). p.0) acted_go in
           elim (cases_eq w.target me) [

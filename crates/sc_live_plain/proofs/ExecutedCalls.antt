@@ -9,7 +9,7 @@ use Rattle.sc_node_table.specs.Values.{Noted, Op, Get, Put, Del, Add, Cas, Reply
 use Rattle.sc_words.specs.ideal.Definitions.{Contents, key_of, holds_key, reply_of, after, was}
 use Rattle.sc_words.specs.declared.commands.effects.Effect.TheVariants as Was
 use Rattle.sc_group_table.specs.machine.Definitions.{Group, done, served_by_note, served, called, applied}
-use Rattle.sc_node_table.specs.Definitions.{answer_of}
+use Rattle.sc_node_table.specs.Definitions.{answer_of, entered, forgotten, ReplicaState}
 use Rattle.sc_live_plain.specs.Definitions.{Frame, IsFrame, answer_owes, Requests, written_by, IsWrittenValue, IsPlainCall, IsPlainAnswer, IsPlainGroup}
 use Rattle.sc_live_plain.proofs.Lists.{some_is}
 
@@ -98,3 +98,8 @@ module _ (begun : Requests) (frame : Frame) (is : IsFrame frame) where
   pub call_plain : (client seq : ℕ) (op : Op) (group : Group) → IsPlainCall begun frame client seq op → IsPlainGroup begun frame group → IsServed begun frame client seq op (applied group (Call client seq op))
   call_plain client seq op group c g =
       lock_plain group.core.gone group.core.lock client seq op group (ap (λ (core : Core). core.gone) g.core_is ∙ is.stands) (ap (λ (core : Core). core.lock) g.core_is ∙ is.free) c g
+
+-- a replica that executes a plain call keeps the record of its frame
+pub entered_frame : (begun : Requests) (frame : Frame) (client seq : ℕ) (op : Op) (r : ReplicaState) → IsServed begun frame client seq op (applied r.group (Call client seq op)) → (entered (Call client seq op) r).group.core ≡ frame.core
+unfolding entered forgotten
+entered_frame begun frame client seq op r serves = serves.group.core_is

@@ -1,6 +1,6 @@
 -- What stands between the leader of each group and its nodes, after a row of a node.
 use Rattle.std.proofs.Common.{◌≡◌, ℕ, zero, suc, ◌+◌, true, false, cond, List, [], ◌∷◌, ◌++◌, map, drop, Some, inl, inr, refl, sym, ◌∙◌, ap, subst}
-use Rattle.std.proofs.lemmas.Bool.{cases_Bool, cases_eq, cond-true, cond-false, both_ways}
+use Rattle.std.proofs.lemmas.Bool.{cases_Bool, cases_eq, cond-false, both_ways}
 use Rattle.sc_base.specs.Definitions.{Among, Each, same_draw, is_member}
 use Rattle.sc_node_table.specs.Values.{Draw, OrderLine, Mail, MailBody, Request, Accept, Accepted, Learn, Row, Node}
 use Rattle.sc_base.proofs.Lemmas.{draw_is, same_name}
@@ -10,7 +10,7 @@ use Rattle.sc_scenario.specs.declared.scenario.scenarios.Scenario.{Scenario}
 use Rattle.sc_meaning.specs.sound.Definitions.{player_table, node_seat, system_of, as_nodes}
 use Rattle.sc_live_orderly.specs.Definitions.{rest, mail_for, taken}
 use Rattle.sc_live_plain.specs.Definitions.{Frame, IsFrame, AreNamedApart, Mark, Asks, Votes, Tells, Other, mark_of, mark, told, AreInOrder, marks_for, replica_at, next_in, votes_in, view_at, marks_at, IsGroupAt, IsOther, How, IsTaken, Requests, IsPlainBody, AreTaken, IsPlainAt, IsPlainNode, IsDue}
-use Rattle.sc_live_plain.proofs.MailMarks.{does_moves}
+use Rattle.sc_live_plain.proofs.MailMarks.{does_moves, marked_here}
 use Rattle.sc_live_plain.proofs.LeaderMarks.{each_mark}
 use Rattle.sc_live_plain.proofs.RowViews.{Journal, between_after, replica_others, replica_is}
 use Rattle.sc_live_plain.proofs.NodeRows.{NodeRow, found_after, others_after}
@@ -39,17 +39,14 @@ module _ (words : ℕ → ℕ → ℕ × ℕ) (scenario : Scenario) where
     at_me : (view_at scenario rows frame g.taken).next me ≡ next r
     at_me = ap next_in here
 
-    head : (group : Draw) (m : Mark) → group ≡ frame.core.id → cond (same_draw group frame.core.id) m Other ≡ m
-    head group m e = cond-true (same_draw group frame.core.id) m Other (same_name group frame.core.id e)
-
     -- the first of the mail of a node comes when it is due
     pub due : (to : ℕ) (body : MailBody) → to ≡ me → marks_at words scenario rows frame.core.id me ≡ mark_of frame.core.id from body ∷ behind → IsPlainBody begun frame from to body → IsDue r body
     due to (Accept group ballot slot command) e m b =
-        let first : marks_at words scenario rows frame.core.id me ≡ Asks slot ∷ behind = m ∙ ap (λ x. x ∷ behind) (head group (Asks slot) b.0) in
+        let first : marks_at words scenario rows frame.core.id me ≡ Asks slot ∷ behind = m ∙ ap (λ x. x ∷ behind) (marked_here frame.core.id group (Asks slot) b.0) in
         let o : AreInOrder (next r) (Asks slot ∷ behind) = subst (λ n. AreInOrder n (Asks slot ∷ behind)) at_me (subst (AreInOrder ((view_at scenario rows frame g.taken).next me)) first (g.between.order me)) in
         o.0
     due to (Learn group slot command) e m b =
-        let first : marks_at words scenario rows frame.core.id me ≡ Tells slot ∷ behind = m ∙ ap (λ x. x ∷ behind) (head group (Tells slot) b.0) in
+        let first : marks_at words scenario rows frame.core.id me ≡ Tells slot ∷ behind = m ∙ ap (λ x. x ∷ behind) (marked_here frame.core.id group (Tells slot) b.0) in
         let l = g.between.learners me (ap (is_member frame.core.members) (sym e) ∙ b.1.to_in) (λ lead. b.1.other (e ∙ lead)) in
         first_recorded l.left slot (told behind) (sym (ap told first) ∙ (l.tells ∙ ap (λ n. numbers_from n l.left) at_me))
       where

@@ -11,7 +11,7 @@ pub use Rattle.sc_live_plain.proofs.AnsweredRequests.{replies_more, first_delive
 pub use Rattle.sc_live_plain.proofs.IdleLeaders.{leader_idle}
 pub use Rattle.sc_live_plain.proofs.WaitingRequestJournals.{client_is}
 pub use Rattle.sc_live_plain.proofs.SlotCounts.{at_found, out_each, with_each, one_if, one_yes, one_no, with_at}
-pub use Rattle.sc_live_plain.proofs.ExecutedCalls.{IsServed, call_plain}
+pub use Rattle.sc_live_plain.proofs.ExecutedCalls.{IsServed, call_plain, entered_frame}
 pub use Rattle.sc_live_plain.proofs.PlainEntries.{recorded_after, counted_call, learnt_call}
 pub use Rattle.sc_live_plain.proofs.RepeatedMail.{mail_of}
 pub use Rattle.sc_live_plain.proofs.LeadingReplicas.{in_range, range_yes, IsHeld, range_behind}

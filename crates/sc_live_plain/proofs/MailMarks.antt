@@ -29,10 +29,11 @@ taken_once r one two a b = elim (cases_lt one two) [
         let some = one_yes (in_range (next r) high (next r + low)) (range_yes (next r) high (next r + low) (omega arith) (omega (arith, lt))) in
         omega (arith, first, second, none, some))
 
-module _ (begun : Requests) (frame : Frame) (is : IsFrame frame) where
-  here : (group : Draw) (m : Mark) → group ≡ frame.core.id → cond (same_draw group frame.core.id) m Other ≡ m
-  here group m e = cond-true (same_draw group frame.core.id) m Other (same_name group frame.core.id e)
+-- a mark of a group's mail is that
+pub marked_here : (name group : Draw) (m : Mark) → group ≡ name → cond (same_draw group name) m Other ≡ m
+marked_here name group m e = cond-true (same_draw group name) m Other (same_name group name e)
 
+module _ (begun : Requests) (frame : Frame) (is : IsFrame frame) where
   -- what the replica of a node does in its group
   pub does_moves : (me : ℕ) (r : ReplicaState) (taken : ℕ) (from : ℕ) (body : MailBody) (place : Place) (after : ℕ) → IsPlainBody begun frame from me body → Does begun frame is me r from body place → (me ≡ frame.lead → AreTaken r taken) → (me ≡ frame.lead → AreTaken place.0 after)
       → MovesBy frame me r taken place.0 after (mark_of frame.core.id from body) place.1
@@ -59,7 +60,7 @@ module _ (begun : Requests) (frame : Frame) (is : IsFrame frame) where
             subst (λ t. MovesBy frame me r taken place.0 t (Asks slot) (mail_of me frame.lead (Accepted frame.core.id frame.ballot slot) ∷ [])) same moves)
         | inr follows ↦ (λ one two v w own. moves one two v (record { bound = λ e. absurd (follows e); voters = λ e. absurd (follows e); next = w.next }) own)
       ] in
-      subst (λ m. MovesBy frame me r taken place.0 after m place.1) (sym (here group (Asks slot) b.0)) (subst (λ (l : List Mail). MovesBy frame me r taken place.0 after (Asks slot) l) (sym sends) counted)
+      subst (λ m. MovesBy frame me r taken place.0 after m place.1) (sym (marked_here frame.core.id group (Asks slot) b.0)) (subst (λ (l : List Mail). MovesBy frame me r taken place.0 after (Asks slot) l) (sym sends) counted)
   does_moves me r taken from (Accepted group ballot slot) place after b response slots slots' =
       let lead = response.0 in
       let d = response.1 in
@@ -67,11 +68,11 @@ module _ (begun : Requests) (frame : Frame) (is : IsFrame frame) where
       let run = d.counted.run in
       let last : run.taken ≡ after = taken_once place.0 run.taken after run.leads.leader.slots (slots' lead) in
       let moves = counted_moves begun frame r d.taken d.leader.slots d.counted.held _ _ place run.taken run.leads from slot b.3 d.counted.votes in
-      subst (λ m. MovesBy frame me r taken place.0 after m place.1) (sym (here group (Votes from slot) b.0))
+      subst (λ m. MovesBy frame me r taken place.0 after m place.1) (sym (marked_here frame.core.id group (Votes from slot) b.0))
       (subst (λ m. MovesBy frame m r taken place.0 after (Votes from slot) place.1) (sym lead) (subst (λ t. MovesBy frame frame.lead r t place.0 after (Votes from slot) place.1) first (subst (λ t. MovesBy frame frame.lead r d.taken place.0 t (Votes from slot) place.1) last moves)))
   does_moves me r taken from (Learn group slot command) place after b response slots slots' =
       let moves = learn_moves frame me r taken place.0 slot response.follows b.1.to_in response.next_is in
       let kept : MovesBy frame me r taken place.0 after (Tells slot) [] = λ one two v w own. moves one two v (record { bound = λ e. absurd (response.follows e); voters = λ e. absurd (response.follows e); next = w.next }) own in
-      subst (λ m. MovesBy frame me r taken place.0 after m place.1) (sym (here group (Tells slot) b.0)) (subst (λ (l : List Mail). MovesBy frame me r taken place.0 after (Tells slot) l) (sym response.sends) kept)
+      subst (λ m. MovesBy frame me r taken place.0 after m place.1) (sym (marked_here frame.core.id group (Tells slot) b.0)) (subst (λ (l : List Mail). MovesBy frame me r taken place.0 after (Tells slot) l) (sym response.sends) kept)
   does_moves me r taken from (Answer group seq answer) place after b response slots slots' = absurd response
   does_moves me r taken from _ place after b response slots slots' = absurd response

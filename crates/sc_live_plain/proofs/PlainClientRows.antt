@@ -23,7 +23,7 @@ use Rattle.sc_live_plain.proofs.LeaderMailOfGroups.{group_idle}
 use Rattle.sc_live_plain.proofs.BegunRequestCounts.{got_grows}
 use Rattle.sc_live_plain.proofs.LeaderMarks.{each_mark}
 use Rattle.sc_live_plain.proofs.PlainBeginnings.{frames_of, IsStage}
-use Rattle.sc_live_plain.proofs.PlainSteps.{node_number, client_number, each_numbered, value_others, started_still, node_stays, client_stays, sent_more, begun_more}
+use Rattle.sc_live_plain.proofs.PlainSteps.{client_number, each_numbered, value_others, started_still, node_stays, client_stays, sent_more, begun_more, same_client, node_away}
 use Rattle.sc_live_plain.proofs.RowViews.{Journal, replica_others, replica_none}
 use Rattle.sc_live_plain.proofs.PlainClients.{asking, DidAsk, DidEnd, ClientRow, TakesMail, Goes, client_row, go_row, unasked}
 use Rattle.sc_live_plain.proofs.PlainKnownGroups.{IsRound}
@@ -67,13 +67,6 @@ module _ (words : ℕ → ℕ → ℕ × ℕ) (scenario : Scenario) (stage : IsS
   no_node : is_node (client_actor asks.client) ≡ false
   no_node = client_number words scenario stage asks a
 
-  -- clients of one number are one
-  one_client : (other : Asks) → Among other scenario.clients → client_actor other.client ≡ client_actor asks.client → other ≡ asks
-  one_client other b e = stage.once other asks b a (omega (arith, e))
-
-  node_away : (node : ℕ) → 1 ≤ node → node ≤ scenario.nodes → node ≡ client_actor asks.client → ⊥
-  node_away node one most e = both_ways (is_node (client_actor asks.client)) no_node (ap is_node (sym e) ∙ node_number words scenario stage node one most)
-
   -- the client's row and what it makes of it
   module _ (event : Event OrderLine) (fine : IsInOrder (system_of as_nodes words scenario) rows (client_actor asks.client) event) (after : ClientStep)
       (acted_is : acted player_table (value player_table (client_seat (route_of stage.first) asks) rows) (input_of (mails rows) event) ≡ (Client after.0, after.1))
@@ -89,7 +82,7 @@ module _ (words : ℕ → ℕ → ℕ × ℕ) (scenario : Scenario) (stage : IsS
 
     pub more : IsMore (IsBegun scenario rows) (IsBegun scenario (rows ++ row_of player_table (client_seat (route_of stage.first) asks) rows event ∷ []))
     more = begun_more words scenario stage rows (row_of player_table (cseat asks) rows event) (λ other b. elim (cases_eq (client_actor other.client) (client_actor asks.client)) [
-      | inl is ↦ (let same : other ≡ asks = one_client other b is in
+      | inl is ↦ (let same : other ≡ asks = same_client scenario stage asks other a b is in
           subst (λ (x : Asks). begun_of (value player_table (cseat x) rows) ≤ begun_of (value player_table (cseat x) (rows ++ row_of player_table (cseat asks) rows event ∷ []))) (sym same)
           (let before = ap begun_of c.is in let now_ = ap begun_of became in omega (arith, before, now_, grows)))
       | inr ne ↦ (let same = ap begun_of (value_others words scenario stage rows (row_of player_table (cseat asks) rows event) (cseat other) ne) in omega (arith, same))
@@ -121,9 +114,9 @@ module _ (words : ℕ → ℕ → ℕ × ℕ) (scenario : Scenario) (stage : IsS
         let rest_after : (who : ℕ) → rest sys (rows ++ r ∷ []) who ≡ drop (taken who r) (rest sys rows who) ++ mail_for sys who r.sent = λ who. rest-row sys rows r who t orderly in
         let sent_is : r.sent ≡ after.1 = ap (λ (p : Player × List Mail). p.1) acted_is in
         record {
-          nodes = λ node low high. node_stays words scenario stage rows j r more node (node_away node low high) (j.nodes node low high);
+          nodes = λ node low high. node_stays words scenario stage rows j r more node (node_away words scenario stage asks no_node node low high) (j.nodes node low high);
           clients = λ other b. elim (cases_eq (client_actor other.client) (client_actor asks.client)) [
-            | inl is ↦ subst (IsClientAt words scenario stage (rows ++ r ∷ [])) (sym (one_client other b is))
+            | inl is ↦ subst (IsClientAt words scenario stage (rows ++ r ∷ [])) (sym (same_client scenario stage asks other a b is))
                 (record { client = after.0; is = became; plain = subst (λ g. IsPlainClient (frames_of scenario) asks g after.0) (sym is_gone) out.plain })
             | inr ne ↦ client_stays words scenario stage rows j r other ne (j.clients other b)
           ];

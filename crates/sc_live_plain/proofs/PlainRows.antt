@@ -1,15 +1,14 @@
 -- Each row of a plain journal leaves a plain journal.
 use Rattle.std.proofs.Common.{◌≡◌, ℕ, ◌+◌, ◌≤◌, eqb, false, cond, List, [], ◌∷◌, ◌++◌, length, map, drop, find, Some, inl, inr, refl, sym, ◌∙◌, ap, subst, arith}
 use Rattle.std.specs.Option.{option_map}
-use Rattle.std.proofs.lemmas.Bool.{cases_eq, both_ways, eq-eqb}
-use Rattle.sc_base.specs.Definitions.{Among, Each, client_actor}
+use Rattle.std.proofs.lemmas.Bool.{cases_eq, eq-eqb}
+use Rattle.sc_base.specs.Definitions.{Each, client_actor}
 use Rattle.sc_node_table.specs.Values.{Op, OrderLine, Mail, Seat, Event, Deliver, Go, Got, Node}
 use Rattle.sc_actor.specs.declared.rows.Input.TheVariants.{Go as GoInput}
 use Rattle.sc_actor.specs.Definitions.{mails, value, acted, input_of, System, row_of, has_started, waiting, kth}
 use Rattle.sc_actor.proofs.Lemmas.{value-snoc}
 use Rattle.sc_words.proofs.PaxosProofs.Lemmas.{Each-weaker}
 use Rattle.sc_node_table.specs.Definitions.{is_node, node_table, last_slot}
-use Rattle.sc_scenario.specs.declared.scenario.scenarios.Asks.{Asks}
 use Rattle.sc_scenario.specs.declared.scenario.scenarios.Scenario.{Scenario}
 use Rattle.sc_meaning.specs.sound.Definitions.{Player, player_table, node_seat, births, system_of, as_nodes}
 use Rattle.sc_live_orderly.specs.Definitions.{IsTidy, IsOrderly, IsInOrder, rest, mail_for, taken, deliveries, owed, owed_at_birth, owed_by}
@@ -19,7 +18,7 @@ use Rattle.sc_live_plain.proofs.PlainInduction.{owing_of, IsNodeAt, IsPlainJourn
 use Rattle.sc_live_plain.proofs.MorePlainRequests.{mail_more, node_more}
 use Rattle.sc_live_plain.proofs.LeaderMailOfGroups.{due, group_idle, group_after}
 use Rattle.sc_live_plain.proofs.PlainBeginnings.{frames_of, IsStage}
-use Rattle.sc_live_plain.proofs.PlainSteps.{node_number, client_number, each_numbered, has_room_at, node_stays, client_stays, sent_more, begun_still}
+use Rattle.sc_live_plain.proofs.PlainSteps.{node_number, each_numbered, has_room_at, node_stays, client_stays, sent_more, begun_still, client_away}
 use Rattle.sc_live_plain.proofs.RowViews.{Journal, replica_is, replica_others}
 use Rattle.sc_live_plain.proofs.NodeRows.{NodeRow, node_row, node_plain, node_said, node_owed, me_after}
 
@@ -54,12 +53,8 @@ module _ (words : ℕ → ℕ → ℕ × ℕ) (scenario : Scenario) (stage : IsS
     pub n : IsNodeAt words scenario stage rows me
     n = j.nodes me one most
 
-    -- no client has the number of a node
-    pub no_client : (asks : Asks) → Among asks scenario.clients → client_actor asks.client ≡ me → ⊥
-    no_client asks a e = both_ways (is_node me) (ap is_node (sym e) ∙ client_number words scenario stage asks a) (node_number words scenario stage me one most)
-
     not_client : (client seq : ℕ) (op : Op) → IsBegun scenario rows client seq op → me ≡ client_actor client → ⊥
-    not_client client seq op b e = no_client b.asks b.is_asks (ap client_actor b.client_is ∙ sym e)
+    not_client client seq op b e = client_away words scenario stage me (node_number words scenario stage me one most) b.asks b.is_asks (ap client_actor b.client_is ∙ sym e)
 
     module _ (number : ℕ) (fine : kth (waiting (system_of as_nodes words scenario) rows (Some me)) 1 ≡ Some number) where
       pub first : TakesFirst (system_of as_nodes words scenario) rows me number
@@ -99,7 +94,7 @@ module _ (words : ℕ → ℕ → ℕ × ℕ) (scenario : Scenario) (stage : IsS
           let after = node_table n.node (Got first.mail) in
           let orderly : IsOrderly sys rows r = record { seat = nseat me; born = born; event = Deliver number; row_is = refl; in_order = fine } in
           let rest_after : (who : ℕ) → rest sys (rows ++ r ∷ []) who ≡ drop (taken who r) (rest sys rows who) ++ mail_for sys who r.sent = λ who. rest-row sys rows r who t orderly in
-          let more = begun_still words scenario stage rows r (λ asks a e. no_client asks a e) in
+          let more = begun_still words scenario stage rows r (λ asks a e. client_away words scenario stage me (node_number words scenario stage me one most) asks a e) in
           let became : value player_table (nseat me) (rows ++ r ∷ []) ≡ Node after.0 = value_own rows (nseat me) (Deliver number) ∙ ap (λ (p : Player × List Mail). p.0) acted_is in
           let sends : r.sent ≡ after.1 = ap (λ (p : Player × List Mail). p.1) acted_is in
           let plain_after = node_plain (IsBegun scenario rows) (frames_of scenario) stage.are stage.apart n.node first.mail after n.plain k in
@@ -113,7 +108,7 @@ module _ (words : ℕ → ℕ → ℕ × ℕ) (scenario : Scenario) (stage : IsS
               })
               | inr ne ↦ node_stays words scenario stage rows j r more other ne (j.nodes other low high)
             ];
-            clients = λ asks a. client_stays words scenario stage rows j r asks (λ e. no_client asks a e) (j.clients asks a);
+            clients = λ asks a. client_stays words scenario stage rows j r asks (λ e. client_away words scenario stage me (node_number words scenario stage me one most) asks a e) (j.clients asks a);
             sent = sent_more words scenario stage rows j r more
                 (subst (Each (IsPlainMail (IsBegun scenario (rows ++ r ∷ [])) (frames_of scenario))) (sym sends)
                 (Each-weaker (IsPlainMail (IsBegun scenario rows) (frames_of scenario)) (IsPlainMail (IsBegun scenario (rows ++ r ∷ [])) (frames_of scenario)) (mail_more (IsBegun scenario rows) (IsBegun scenario (rows ++ r ∷ [])) more (frames_of scenario)) after.1
@@ -138,7 +133,7 @@ module _ (words : ℕ → ℕ → ℕ × ℕ) (scenario : Scenario) (stage : IsS
         let r = row_of player_table (nseat me) rows Go in
         let orderly : IsOrderly sys rows r = record { seat = nseat me; born = born; event = Go; row_is = refl; in_order = fine } in
         let rest_after : (who : ℕ) → rest sys (rows ++ r ∷ []) who ≡ drop (taken who r) (rest sys rows who) ++ mail_for sys who r.sent = λ who. rest-row sys rows r who t orderly in
-        let more = begun_still words scenario stage rows r (λ asks a e. no_client asks a e) in
+        let more = begun_still words scenario stage rows r (λ asks a e. client_away words scenario stage me (node_number words scenario stage me one most) asks a e) in
         let same : value player_table (nseat me) (rows ++ r ∷ []) ≡ value player_table (nseat me) rows = value_own rows (nseat me) Go ∙ (ap (λ (p : Player × List Mail). p.0) acted_go ∙ sym n.is) in
         let none : r.sent ≡ [] = ap (λ (p : Player × List Mail). p.1) acted_go in
         record {
@@ -147,7 +142,7 @@ module _ (words : ℕ → ℕ → ℕ × ℕ) (scenario : Scenario) (stage : IsS
                 (record { node = n.node; is = same ∙ n.is; me_is = n.me_is; plain = node_more (IsBegun scenario rows) (IsBegun scenario (rows ++ r ∷ [])) more (frames_of scenario) n.node n.plain })
             | inr ne ↦ node_stays words scenario stage rows j r more other ne (j.nodes other low high)
           ];
-          clients = λ asks a. client_stays words scenario stage rows j r asks (λ e. no_client asks a e) (j.clients asks a);
+          clients = λ asks a. client_stays words scenario stage rows j r asks (λ e. client_away words scenario stage me (node_number words scenario stage me one most) asks a e) (j.clients asks a);
           sent = sent_more words scenario stage rows j r more (subst (Each (IsPlainMail (IsBegun scenario (rows ++ r ∷ [])) (frames_of scenario))) (sym none) tt);
           groups = λ frame a.
               group_idle words scenario rows r rest_after frame (j.groups frame a)

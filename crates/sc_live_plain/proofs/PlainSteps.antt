@@ -2,7 +2,7 @@
 use Rattle.std.proofs.Common.{◌≡◌, ℕ, zero, suc, ◌+◌, ◌-◌, ◌<◌, ◌≤◌, eqb, leb, ◌&&◌, ◌||◌, true, false, cond, List, [], ◌∷◌, ◌++◌, length, map, Some, inl, inr, sym, ◌∙◌, ap, subst, arith, sum_by}
 use Rattle.std.specs.Prelude.{slice_get}
 use Rattle.std.proofs.Math.Bool.{or-false}
-use Rattle.std.proofs.lemmas.Bool.{cases_eq, cases_lt, ne_eqb, and_from, le-leb, lt-leb, and_right, cond-true}
+use Rattle.std.proofs.lemmas.Bool.{cases_eq, cases_lt, ne_eqb, and_from, both_ways, le-leb, lt-leb, and_right, cond-true}
 use Rattle.std.proofs.lemmas.List.Folds.{list_any-append}
 use Rattle.std.proofs.lemmas.List.Sums.{sum_by-cons}
 use Rattle.sc_base.specs.Definitions.{Among, Each, client_actor, most_nodes, same_draw, is_member}
@@ -48,6 +48,10 @@ each_numbered P sent (suc place) mail all e = at sent place all e
     at [] place all e = cc
     at (m ∷ sent) zero all e = (let same : m ≡ mail = cc in subst P same all.0)
     at (m ∷ sent) (suc place) all e = at sent place all.1 e
+
+-- a client is known by its number
+pub same_client : (scenario : Scenario) (stage : IsStage scenario) (asks other : Asks) → Among asks scenario.clients → Among other scenario.clients → client_actor other.client ≡ client_actor asks.client → other ≡ asks
+same_client scenario stage asks other a b e = stage.once other asks b a (omega (arith, e))
 
 module _ (words : ℕ → ℕ → ℕ × ℕ) (scenario : Scenario) (stage : IsStage scenario) where
   abbrev nseat : ℕ → Seat Player
@@ -163,3 +167,11 @@ module _ (words : ℕ → ℕ → ℕ × ℕ) (scenario : Scenario) (stage : IsS
           (Each-append (IsPlainMail (IsBegun scenario (rows ++ row ∷ [])) (frames_of scenario)) (mails rows) row.sent
           (Each-weaker (IsPlainMail (IsBegun scenario rows) (frames_of scenario)) (IsPlainMail (IsBegun scenario (rows ++ row ∷ [])) (frames_of scenario))
           (mail_more (IsBegun scenario rows) (IsBegun scenario (rows ++ row ∷ [])) more (frames_of scenario)) (mails rows) j.sent) new)
+
+-- a node is no client
+pub node_away : (words : ℕ → ℕ → ℕ × ℕ) (scenario : Scenario) (stage : IsStage scenario) (asks : Asks) → is_node (client_actor asks.client) ≡ false → (node : ℕ) → 1 ≤ node → node ≤ scenario.nodes → node ≡ client_actor asks.client → ⊥
+node_away words scenario stage asks no_node node one most e = both_ways (is_node (client_actor asks.client)) no_node (ap is_node (sym e) ∙ node_number words scenario stage node one most)
+
+-- nor is a client a node
+pub client_away : (words : ℕ → ℕ → ℕ × ℕ) (scenario : Scenario) (stage : IsStage scenario) (me : ℕ) → is_node me ≡ true → (asks : Asks) → Among asks scenario.clients → client_actor asks.client ≡ me → ⊥
+client_away words scenario stage me node asks a e = both_ways (is_node me) (ap is_node (sym e) ∙ client_number words scenario stage asks a) node

@@ -14,7 +14,7 @@ use Rattle.sc_live_plain.proofs.SlotCounts.{one_if, one_yes, one_no, entries_at,
 use Rattle.sc_live_plain.proofs.PlainEntries.{entered_plain, recorded_after, counted_call}
 use Rattle.sc_live_plain.proofs.LeadingReplicas.{in_range, range_yes, range_less, flights_at, IsHeld, IsReportedOf, IsSaid, later_row, Leads}
 use Rattle.sc_live_plain.proofs.RepeatedMail.{learns_to, mail_of, owed_push, learns_push, last_among, others_each, others_kept, others_owed, learns_one, member_counts, numbers_push, roster_rises, among_push}
-use Rattle.sc_live_plain.proofs.ExecutedCalls.{IsServed, call_plain}
+use Rattle.sc_live_plain.proofs.ExecutedCalls.{IsServed, call_plain, entered_frame}
 
 module _ (begun : Requests) (frame : Frame) (is : IsFrame frame) (first free : ℕ) (held : List (Flight Command)) (bound : ℕ) (wanted : ℕ → ℕ → Type 0) where
   abbrev L : ℕ → Place → Type 0
@@ -59,10 +59,6 @@ module _ (begun : Requests) (frame : Frame) (is : IsFrame frame) (first free : �
     said_mails : List Mail
     said_mails = sent_others frame.lead frame.core.members (Learn frame.core.id (next r) (Call client seq op)) (answer_to frame.lead frame.core.id client seq serves.answer mails)
 
-    core_after : (entered (Call client seq op) r).group.core ≡ frame.core
-    unfolding entered forgotten
-    core_after = serves.group.core_is
-
     me_after : (entered (Call client seq op) r).me ≡ frame.lead
     unfolding entered forgotten
     me_after = k.plain.me_is
@@ -75,15 +71,15 @@ module _ (begun : Requests) (frame : Frame) (is : IsFrame frame) (first free : �
     unfolding said_mails
     told_is =
         ap (λ me. sent_others me (members r) (Learn (name_of (entered (Call client seq op) r)) (next r) (Call client seq op)) (answer_to me (name_of (entered (Call client seq op) r)) client seq serves.answer mails)) me_after
-        ∙ ap (λ (core : Core). sent_others frame.lead (members r) (Learn core.id (next r) (Call client seq op)) (answer_to frame.lead core.id client seq serves.answer mails)) core_after
+        ∙ ap (λ (core : Core). sent_others frame.lead (members r) (Learn core.id (next r) (Call client seq op)) (answer_to frame.lead core.id client seq serves.answer mails)) (entered_frame begun frame client seq op r serves)
         ∙ ap (λ (core : Core). sent_others frame.lead core.members (Learn frame.core.id (next r) (Call client seq op)) (answer_to frame.lead frame.core.id client seq serves.answer mails)) k.plain.group.core_is
 
     leads_here : is_member (members (entered (Call client seq op) r)) (entered (Call client seq op) r).me ≡ true
-    leads_here = ap (λ (core : Core). is_member core.members (entered (Call client seq op) r).me) core_after ∙ ap (is_member frame.core.members) me_after ∙ is.leads
+    leads_here = ap (λ (core : Core). is_member core.members (entered (Call client seq op) r).me) (entered_frame begun frame client seq op r serves) ∙ ap (is_member frame.core.members) me_after ∙ is.leads
 
     place_is : executed_one true (Call client seq op) (r, mails) ≡ (after, said_mails)
     place_is =
-        counted_call client seq op serves.answer r mails serves.answer_is (ap (λ (core : Core). core.members) (core_after ∙ sym k.plain.group.core_is)) runs_after (ap (λ (core : Core). core.gone) core_after ∙ is.stands) leads_here
+        counted_call client seq op serves.answer r mails serves.answer_is (ap (λ (core : Core). core.members) ((entered_frame begun frame client seq op r serves) ∙ sym k.plain.group.core_is)) runs_after (ap (λ (core : Core). core.gone) (entered_frame begun frame client seq op r serves) ∙ is.stands) leads_here
         ∙ ap (λ l. (after, l)) told_is
 
     -- ---- what holds after it

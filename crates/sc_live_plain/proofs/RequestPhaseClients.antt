@@ -2,7 +2,7 @@
 use Rattle.std.proofs.Common.{◌≡◌, ℕ, ◌-◌, ◌≤◌, eqb, ◌&&◌, ◌||◌, Bool, true, false, cond, List, [], ◌∷◌, ◌++◌, length, map, drop, find, Some, ◌⊎◌, inl, inr, refl, sym, ◌∙◌, ap, subst, arith}
 use Rattle.std.specs.Prelude.{slice_get}
 use Rattle.std.specs.Option.{option_map}
-use Rattle.std.proofs.lemmas.Bool.{cases_eq, both_ways, eq-eqb, or_right}
+use Rattle.std.proofs.lemmas.Bool.{cases_eq, eq-eqb, or_right}
 use Rattle.std.proofs.lemmas.List.Folds.{list_any-append}
 use Rattle.sc_base.specs.Definitions.{Among, Each, client_actor}
 use Rattle.sc_node_table.specs.Values.{Draw, Op, Base, OrderLine, Mail, Seat, Row, Event, Deliver, Go, Got, Client}
@@ -25,7 +25,7 @@ use Rattle.sc_live_plain.proofs.LeaderMailOfGroups.{group_idle}
 use Rattle.sc_live_plain.proofs.BegunRequestCounts.{got_grows}
 use Rattle.sc_live_plain.proofs.LeaderMarks.{each_mark}
 use Rattle.sc_live_plain.proofs.PlainBeginnings.{IsStage, stage}
-use Rattle.sc_live_plain.proofs.PlainSteps.{node_number, client_number, value_others, started_still, begun_more}
+use Rattle.sc_live_plain.proofs.PlainSteps.{client_number, value_others, started_still, begun_more, same_client, node_away}
 use Rattle.sc_live_plain.proofs.RowViews.{Journal, replica_others, replica_none}
 use Rattle.sc_live_plain.proofs.PlainJournals.{of_player}
 use Rattle.sc_live_plain.proofs.CalmClients.{clients_calm, unasked, Seeks, Ignores, takes_calm, go_calm}
@@ -44,13 +44,6 @@ module _ (words : ℕ → ℕ → ℕ × ℕ) (scenario : Scenario) (begins : Is
     pub no_node : is_node (client_actor asks.client) ≡ false
     no_node = client_number words scenario begins asks a
 
-    -- clients of one number are one
-    pub one_client : (other : Asks) → Among other scenario.clients → client_actor other.client ≡ client_actor asks.client → other ≡ asks
-    one_client other b e = begins.once other asks b a (omega (arith, e))
-
-    node_away : (node : ℕ) → 1 ≤ node → node ≤ scenario.nodes → node ≡ client_actor asks.client → ⊥
-    node_away node one most e = both_ways (is_node (client_actor asks.client)) no_node (ap is_node (sym e) ∙ node_number words scenario begins node one most)
-
     -- the client's row and what it makes of it
     module _ (event : Event OrderLine) (fine : IsInOrder (system_of as_nodes words scenario) rows (client_actor asks.client) event) (after : ClientStep)
         (acted_is : acted player_table (value player_table (client_seat (route_of begins.first) asks) rows) (input_of (mails rows) event) ≡ (Client after.0, after.1)) (grows : begun_ones c.client ≤ begun_ones after.0) where
@@ -59,7 +52,7 @@ module _ (words : ℕ → ℕ → ℕ × ℕ) (scenario : Scenario) (begins : Is
 
       pub more : IsMore (IsBegun scenario rows) (IsBegun scenario (rows ++ row_of player_table (client_seat (route_of begins.first) asks) rows event ∷ []))
       more = begun_more words scenario begins rows (row_of player_table (cseat asks) rows event) (λ other b. elim (cases_eq (client_actor other.client) (client_actor asks.client)) [
-        | inl here ↦ (let same : other ≡ asks = one_client other b here in
+        | inl here ↦ (let same : other ≡ asks = same_client scenario begins asks other a b here in
             subst (λ (x : Asks). begun_of (value player_table (cseat x) rows) ≤ begun_of (value player_table (cseat x) (rows ++ row_of player_table (cseat asks) rows event ∷ []))) (sym same)
             (let before = ap begun_of c.is in let now_ = ap begun_of became in omega (arith, before, now_, grows)))
         | inr ne ↦ (let same = ap begun_of (value_others words scenario begins rows (row_of player_table (cseat asks) rows event) (cseat other) ne) in omega (arith, same))
@@ -90,9 +83,9 @@ module _ (words : ℕ → ℕ → ℕ × ℕ) (scenario : Scenario) (begins : Is
           let rest_after : (who : ℕ) → rest sys (rows ++ r ∷ []) who ≡ drop (taken who r) (rest sys rows who) ++ mail_for sys who r.sent = λ who. rest-row sys rows r who t orderly in
           let sent_is : r.sent ≡ after.1 = ap (λ (p : Player × List Mail). p.1) acted_is in
           record {
-            nodes = λ node low high. turns_of.node_stays words scenario begins set is rows t j r more node (node_away node low high) (j.nodes node low high);
+            nodes = λ node low high. turns_of.node_stays words scenario begins set is rows t j r more node (node_away words scenario begins asks no_node node low high) (j.nodes node low high);
             clients = λ other b. elim (cases_eq (client_actor other.client) (client_actor asks.client)) [
-              | inl here ↦ subst (IsAskingClient scenario set begins.first (rows ++ r ∷ [])) (sym (one_client other b here))
+              | inl here ↦ subst (IsAskingClient scenario set begins.first (rows ++ r ∷ [])) (sym (same_client scenario begins asks other a b here))
                   (record { client = after.0; is = became; calm = subst (λ g. IsCalmClient set asks g after.0) (sym is_gone) out.0 })
               | inr ne ↦ turns_of.client_stays words scenario begins set is rows t j r other ne (j.clients other b)
             ];

@@ -1,7 +1,7 @@
 -- Between two orders each row of a node leaves a journal in which clients ask alone.
 use Rattle.std.proofs.Common.{◌≡◌, ℕ, zero, suc, ◌≤◌, eqb, true, false, cond, List, [], ◌∷◌, ◌++◌, map, drop, find, Some, inl, inr, refl, sym, ◌∙◌, ap, subst, arith}
 use Rattle.std.specs.Option.{option_map}
-use Rattle.std.proofs.lemmas.Bool.{cases_eq, both_ways, eq-eqb}
+use Rattle.std.proofs.lemmas.Bool.{cases_eq, eq-eqb}
 use Rattle.sc_base.specs.Definitions.{Among, Each, client_actor}
 use Rattle.sc_node_table.specs.Values.{Op, OrderLine, Mail, Seat, Event, Deliver, Go, Got, Row, Node}
 use Rattle.sc_actor.specs.declared.rows.Input.TheVariants.{Go as GoInput}
@@ -20,7 +20,7 @@ use Rattle.sc_live_plain.proofs.MorePlainRequests.{IsMore}
 use Rattle.sc_live_plain.proofs.LeaderMailOfGroups.{due, group_idle, group_after}
 use Rattle.sc_live_plain.proofs.LeaderMarks.{each_mark}
 use Rattle.sc_live_plain.proofs.PlainBeginnings.{IsStage}
-use Rattle.sc_live_plain.proofs.PlainSteps.{node_number, client_number, value_others, gone_others, begun_still}
+use Rattle.sc_live_plain.proofs.PlainSteps.{node_number, value_others, gone_others, begun_still, client_away}
 use Rattle.sc_live_plain.proofs.RowViews.{Journal, replica_is, replica_others}
 use Rattle.sc_live_plain.proofs.CalmNodes.{aside_mail, aside_mail_mark, step_is, Turns, turns, stays_by, me_stays}
 
@@ -87,12 +87,8 @@ module _ (words : ℕ → ℕ → ℕ × ℕ) (scenario : Scenario) (stage : IsS
     pub number_is : is_node me ≡ true
     number_is = node_number words scenario stage me one most
 
-    -- no client has the number of a node
-    pub no_client : (asks : Asks) → Among asks scenario.clients → client_actor asks.client ≡ me → ⊥
-    no_client asks a e = both_ways (is_node me) (ap is_node (sym e) ∙ client_number words scenario stage asks a) number_is
-
     pub not_client : (client seq : ℕ) (op : Op) → IsBegun scenario rows client seq op → n.node.me ≡ client_actor client → ⊥
-    not_client client seq op b e = no_client b.asks b.is_asks (ap client_actor b.client_is ∙ (sym e ∙ n.me_is))
+    not_client client seq op b e = client_away words scenario stage me number_is b.asks b.is_asks (ap client_actor b.client_is ∙ (sym e ∙ n.me_is))
 
     -- where the node is the same, so are all replicas
     pub same_replicas : (event : Event OrderLine) → value player_table (node_seat as_nodes scenario.groups scenario.policy me) (rows ++ row_of player_table (node_seat as_nodes scenario.groups scenario.policy me) rows event ∷ []) ≡ Node n.node
@@ -168,7 +164,7 @@ module _ (words : ℕ → ℕ → ℕ × ℕ) (scenario : Scenario) (stage : IsS
       node_turn : IsAsking words scenario set stage.first (rows ++ row_of player_table (node_seat as_nodes scenario.groups scenario.policy me) rows (Deliver number) ∷ [])
       node_turn =
           let r = row_of player_table (nseat me) rows (Deliver number) in
-          let more = begun_still words scenario stage rows r (λ asks a e. no_client asks a e) in
+          let more = begun_still words scenario stage rows r (λ asks a e. client_away words scenario stage me number_is asks a e) in
           record {
             nodes = λ other low high. elim (cases_eq other me) [
               | inl same ↦ subst (IsAskingNode scenario set (rows ++ r ∷ [])) (sym same) (record {
@@ -179,7 +175,7 @@ module _ (words : ℕ → ℕ → ℕ × ℕ) (scenario : Scenario) (stage : IsS
               })
               | inr ne ↦ node_stays r more other ne (j.nodes other low high)
             ];
-            clients = λ asks a. client_stays r asks (λ e. no_client asks a e) (j.clients asks a);
+            clients = λ asks a. client_stays r asks (λ e. client_away words scenario stage me number_is asks a e) (j.clients asks a);
             left = left_more r more rest_after
                 (subst (Each (IsCalmMail (IsBegun scenario (rows ++ r ∷ [])) set)) (sym sends)
                 (Each-weaker (IsCalmMail (IsBegun scenario rows) set) (IsCalmMail (IsBegun scenario (rows ++ r ∷ [])) set) (calm_mail_more (IsBegun scenario rows) (IsBegun scenario (rows ++ r ∷ [])) more set) (node_table n.node (Got first.mail)).1 after_is.1));
@@ -194,7 +190,7 @@ module _ (words : ℕ → ℕ → ℕ × ℕ) (scenario : Scenario) (stage : IsS
         let acted_go : acted player_table (value player_table (nseat me) rows) (input_of {O = OrderLine} (mails rows) Go) ≡ (Node n.node, []) = ap (λ p. acted player_table p (Some GoInput)) n.is in
         let orderly : IsOrderly sys rows r = record { seat = nseat me; born = born; event = Go; row_is = refl; in_order = fine } in
         let rest_after : (who : ℕ) → rest sys (rows ++ r ∷ []) who ≡ drop (taken who r) (rest sys rows who) ++ mail_for sys who r.sent = λ who. rest-row sys rows r who t orderly in
-        let more = begun_still words scenario stage rows r (λ asks a e. no_client asks a e) in
+        let more = begun_still words scenario stage rows r (λ asks a e. client_away words scenario stage me number_is asks a e) in
         let same : value player_table (nseat me) (rows ++ r ∷ []) ≡ Node n.node = value_own (nseat me) Go ∙ ap (λ (p : Player × List Mail). p.0) acted_go in
         let none : r.sent ≡ [] = ap (λ (p : Player × List Mail). p.1) acted_go in
         record {
@@ -203,7 +199,7 @@ module _ (words : ℕ → ℕ → ℕ × ℕ) (scenario : Scenario) (stage : IsS
                 (record { node = n.node; is = same; me_is = n.me_is; calm = calm_node_more (IsBegun scenario rows) (IsBegun scenario (rows ++ r ∷ [])) more set n.node n.calm })
             | inr ne ↦ node_stays r more other ne (j.nodes other low high)
           ];
-          clients = λ asks a. client_stays r asks (λ e. no_client asks a e) (j.clients asks a);
+          clients = λ asks a. client_stays r asks (λ e. client_away words scenario stage me number_is asks a e) (j.clients asks a);
           left = left_more r more rest_after (subst (Each (IsCalmMail (IsBegun scenario (rows ++ r ∷ [])) set)) (sym none) tt);
           groups = λ frame a.
               group_idle words scenario rows r rest_after frame (j.groups frame a) (same_replicas Go same frame) (inr (refl, sym (at_zero (marks_at words scenario rows frame.core.id me))))
