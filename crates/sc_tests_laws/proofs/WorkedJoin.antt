@@ -21,7 +21,7 @@ use Rattle.sc_meaning.specs.sound.Requests.{kept_replies}
 use Rattle.sc_live_plain.specs.Budget.{AreAnswered}
 use Rattle.sc_live_plain.specs.CalmBudget.{IsCalmAtBudget}
 use Rattle.sc_live_answers.specs.ReportedOrders.{AreOrdersReported, IsReported}
-use Rattle.sc_live_plain.proofs.ExampleBudget.{asks, calm_at_budget, lines_of, ordered}
+use Rattle.sc_live_plain.proofs.BudgetProofs.ExampleBudget.{asks, calm_at_budget, lines_of, ordered}
 
 -- node 2 is ordered to join
 abbrev join_it : OrderLine
