@@ -51,10 +51,6 @@ queues_leader r mails = by (list_any is_act (under_way r)) (acts_leader r.acts r
     by true e = refl
     by false e = e
 
-pub found_is : (slot : ℕ) (r : ReplicaState) (mails : List Mail) → must slot r.leader ≡ Open → found_for slot (r, mails) ≡ from_queues (r, mails)
-unfolding found_for
-found_is slot r mails e = ap (λ (m : Must Command). found_by m (r, mails)) e
-
 pub offering_must : (slot at : ℕ) (set : List ℕ) (command : Command) (r : ReplicaState) (mails : List Mail) → must at (offered slot set command (r, mails)).0.leader ≡ must at r.leader
 unfolding offered
 offering_must slot at set command r mails = refl
