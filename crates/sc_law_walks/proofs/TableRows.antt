@@ -48,12 +48,12 @@ taken_runs (Some into) core running hint op e = cc
 taken_runs None core true hint op e = refl
 taken_runs None core false hint op e = cc
 
-leads_on : (ballot : Ballot) (r : ReplicaState) → leads ballot r ≡ true → r.running ≡ true
+pub leads_on : (ballot : Ballot) (r : ReplicaState) → leads ballot r ≡ true → r.running ≡ true
 leads_on ballot r t = (and_parts r.running (same_ballot ballot r.leader.ballot) t).0
 
 -- ---- one that stops for a state that it takes over
 
-ended_off : (hint : Option ℕ) (answer : AnswerBody) (r : ReplicaState) (mails : List Mail) → (ended hint answer (r, mails)).0.running ≡ false
+pub ended_off : (hint : Option ℕ) (answer : AnswerBody) (r : ReplicaState) (mails : List Mail) → (ended hint answer (r, mails)).0.running ≡ false
 unfolding ended
 ended_off hint answer r mails = refl
 

@@ -22,7 +22,7 @@ use Rattle.sc_law_refusal.specs.results.ReportedResults.{ReportsWhatHappened}
 use Rattle.sc_live_plain.specs.Budget.{AreAnswered}
 use Rattle.sc_live_plain.specs.CalmBudget.{IsCalmAtBudget}
 use Rattle.sc_live_answers.specs.ReportedOrders.{AreOrdersReported, IsReported}
-use Rattle.sc_live_plain.proofs.ExampleBudget.{asks, calm_at_budget, lines_of, ordered}
+use Rattle.sc_live_plain.proofs.BudgetProofs.ExampleBudget.{asks, calm_at_budget, lines_of, ordered}
 
 -- node 2 is ordered to join
 abbrev join_it : OrderLine

@@ -1,5 +1,5 @@
 -- What each replica has in flight and ready stays from its next slot on by the rows of its node, and so after any rows.
-use Rattle.std.proofs.Common.{◌≡◌, ℕ, ◌||◌, not, nat_lt, eqb, refl, Bool, cond, List, [], ◌∷◌, ◌++◌, length, map, Option, Some, None, sym, subst}
+use Rattle.std.proofs.Common.{◌≡◌, ℕ, ◌||◌, not, nat_lt, eqb, Bool, cond, List, [], ◌∷◌, ◌++◌, length, map, Option, Some, None, sym, subst}
 use Rattle.std.specs.Prelude.{is_some}
 use Rattle.sc_base.specs.Definitions.{Each, Drawer, same_draw, is_member}
 use Rattle.sc_node_table.specs.Values.{Draw, Input, Got, Row, Base, OrderLine, Mail, MailBody, Install, Node, Client}
@@ -8,7 +8,7 @@ use Rattle.sc_actor.specs.Definitions.{acted, input_of, replay}
 use Rattle.sc_node_table.specs.Definitions.{NodeState, born_replicas, replica_of, with_replica, is_before, with_new, group_of_mail, with_made, unknown, may_come, with_born, with_children, taken_by, routed, on_mail, group_of_order, ordered_of, ticked, ordered_row, names_after_tick, ReplicaState, Place, Executed, name_of, last_slot, born_replica, made_by, tick_row, mailed, slots_ahead}
 use Rattle.sc_meaning.specs.sound.Definitions.{Player, player_table}
 use Rattle.sc_law_walks.proofs.Lemmas.{either_way}
-use Rattle.sc_live_journals.specs.groups.Definitions.{IsSlotKept, NodesKeepSlots, NodesAreBornSlotted}
+use Rattle.sc_live_journals.specs.groups.Definitions.{IsSlotKept, NodesAreBornSlotted}
 use Rattle.sc_live_journals.proofs.GroupsProofs.SlotParts.{K}
 use Rattle.sc_live_journals.proofs.GroupsProofs.SlotRows.{born_well, made_well, mailed_well, order_well, tick_well}
 
