@@ -1,2 +1,3 @@
 pub mod FactsProofs
 pub mod RowsProofs
+pub mod TextsProofs

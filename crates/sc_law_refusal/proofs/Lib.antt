@@ -1,3 +1,4 @@
+pub mod HeldCommands
 pub mod QueueProofs
 pub mod RefusalProofs
 pub mod PatienceProofs

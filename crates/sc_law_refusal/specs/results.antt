@@ -1,2 +1,3 @@
 pub mod Results
+pub mod ReportedResults
 pub mod Definitions

@@ -1,6 +1,6 @@
 //! Why a replica turns a client away: `queue`, a leader's queue has at most one request of each
 //! client; `refusal`, each answer that refuses has its cause in the state that was executed when
-//! the answer was made; `results`, what is reported of an order was decided. Definitions and laws;
+//! the answer was made; `results`, what is reported of an order has happened. Definitions and laws;
 //! no code that runs.
 #![tactic(auto)]
 

@@ -50,8 +50,11 @@ pub fn running_replicas_take_requests()
 /// leadership under the lock of that transaction, as the rows of its node show; besides, a GiveUp
 /// may go back to the queue from a flight. Wherever a GiveUp stands after some of the rows, at a
 /// replica, in mail or in a log, a replica of its group has so queued it at a tick in one of them.
-/// A queue has at most one request of each client. A client sends its requests one after another,
-/// each again while it waits, and ends only with the last.
+/// Each result of an order that a row reports was decided by an entry of a group's log before the
+/// row, or is a refusal of the row with its cause: the order is not taken as it is given, or it
+/// waited at a replica whose leadership ended. A queue has at most one request of each client. A
+/// client sends its requests one after another, each again while it waits, and ends only with the
+/// last.
 pub fn valid_journals_refuse_with_cause()
     ensures { ValidJournalsRefuseWithCause }
 {

@@ -36,6 +36,12 @@ idle_ready (e ∷ es) place stopped =
     ap (λ (o : Option Command). elim o [ None ↦ childless place | Some command ↦ ending (next_child command place.0) (executed_ready es (executed_one true command place)) ])
     (ap (λ b. cond (b && has_room place.0) (at_slot place.0.ready (next place.0)) None) stopped)
 
+-- where nothing is ready nothing more is executed
+pub none_ready : (place : Place) (ready : List (ℕ × Command)) → ready ≡ [] → executed_ready ready place ≡ childless place
+unfolding executed_ready
+none_ready place [] e = refl
+none_ready place (entry ∷ ready) e = cc
+
 -- the pump of a replica that does not run offers nothing
 pub idle_pump : (place : Place) → place.0.running ≡ false → pumped place ≡ place
 unfolding pumped

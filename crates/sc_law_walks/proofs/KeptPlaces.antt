@@ -51,6 +51,7 @@ module _ (w : PlaceWalk) where
     Entry = λ slot command. w.facts.Entry slot command;
     Files = λ act. Unit {0};
     Orders = λ order. Unit {0};
+    Given = λ drawer line. Unit {0};
     Child = λ base. Unit {0};
   }
 

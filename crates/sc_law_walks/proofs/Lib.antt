@@ -27,3 +27,11 @@ pub mod StateWalks
 pub mod MailsGrow
 pub mod PlaceNodes
 pub mod WalkNodes
+pub mod MachineWalks
+pub mod CommandWalks
+pub mod MachineSteps
+pub mod CoreWalks
+pub mod EnteredReplicas
+pub mod Routes
+pub mod AscendingMembers
+pub mod ReplicaNodes

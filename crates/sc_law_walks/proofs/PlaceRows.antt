@@ -13,7 +13,7 @@ module _ (w : PlaceWalk) where
   takes_mail from body place h k = (tables.takes_mail (kept_walk w) from body place h tt k).0
 
   pub orders : (drawer : Drawer) (line : OrderLine) (place : Place) → Before w.facts place → After w.facts (ordered_row drawer line place)
-  orders drawer line place k = tables.orders (kept_walk w) drawer line place (λ e. tt) k
+  orders drawer line place k = tables.orders (kept_walk w) drawer line place tt (λ e. tt) k
 
   pub looks_up : (from : ℕ) (place : Place) → place.0.running ≡ false → Before w.facts place → After w.facts (looked_up from place)
   looks_up from place off k = tables.looks_up (kept_walk w) from place off k

@@ -17,7 +17,7 @@ use Rattle.sc_law_walks.proofs.PlaceWalks.{entered_place}
 use Rattle.sc_law_walks.proofs.TableWalks.{TableWalk, MayEnter}
 
 -- one of two, where the test fails
-none_there : {X : Type 0} (o : Option X) → is_some o ≡ false → o ≡ None
+pub none_there : {X : Type 0} (o : Option X) → is_some o ≡ false → o ≡ None
 none_there None e = refl
 none_there (Some x) e = cc
 

@@ -48,12 +48,12 @@ taken_runs (Some into) core running hint op e = cc
 taken_runs None core true hint op e = refl
 taken_runs None core false hint op e = cc
 
-leads_on : (ballot : Ballot) (r : ReplicaState) → leads ballot r ≡ true → r.running ≡ true
+pub leads_on : (ballot : Ballot) (r : ReplicaState) → leads ballot r ≡ true → r.running ≡ true
 leads_on ballot r t = (and_parts r.running (same_ballot ballot r.leader.ballot) t).0
 
 -- ---- one that stops for a state that it takes over
 
-ended_off : (hint : Option ℕ) (answer : AnswerBody) (r : ReplicaState) (mails : List Mail) → (ended hint answer (r, mails)).0.running ≡ false
+pub ended_off : (hint : Option ℕ) (answer : AnswerBody) (r : ReplicaState) (mails : List Mail) → (ended hint answer (r, mails)).0.running ≡ false
 unfolding ended
 ended_off hint answer r mails = refl
 
@@ -294,14 +294,14 @@ module _ (w : TableWalk) where
 
   -- ---- orders
 
-  takes_order : (o : Option OrderRefusal) (drawer : Drawer) (line : OrderLine) (command : Command) (place : Place) → untaken drawer line place.0 ≡ o → IsOrder command → (o ≡ None → (place.0.running ≡ true) × w.facts.Orders command) → Before w place → After w (queued_or_refused o line.number command place)
-  takes_order (Some why) drawer line command (r, mails) e asked on k = w.states.late (r, _) (w.says.tells drawer line why r mails e k)
-  takes_order None drawer line command (r, mails) e asked on k = pumps w (record r { backlog = r.backlog ++ command ∷ [] }, mails) (w.states.ordered command r mails (on refl).0 asked (on refl).1 (w.states.late (r, mails) k))
+  takes_order : (o : Option OrderRefusal) (drawer : Drawer) (line : OrderLine) (command : Command) (place : Place) → w.facts.Given drawer line → untaken drawer line place.0 ≡ o → IsOrder command → (o ≡ None → (place.0.running ≡ true) × w.facts.Orders command) → Before w place → After w (queued_or_refused o line.number command place)
+  takes_order (Some why) drawer line command (r, mails) given e asked on k = w.states.late (r, _) (w.says.tells drawer line why r mails given e k)
+  takes_order None drawer line command (r, mails) given e asked on k = pumps w (record r { backlog = r.backlog ++ command ∷ [] }, mails) (w.states.ordered command r mails (on refl).0 asked (on refl).1 (w.states.late (r, mails) k))
 
-  pub orders : (drawer : Drawer) (line : OrderLine) (place : Place) → (untaken drawer line place.0 ≡ None → w.facts.Orders (ordered_command (next_name drawer) line.number line.order)) → Before w place → After w (ordered_row drawer line place)
+  pub orders : (drawer : Drawer) (line : OrderLine) (place : Place) → w.facts.Given drawer line → (untaken drawer line place.0 ≡ None → w.facts.Orders (ordered_command (next_name drawer) line.number line.order)) → Before w place → After w (ordered_row drawer line place)
   unfolding ordered_row
-  orders drawer line (r, mails) may k =
-      takes_order (untaken drawer line r) drawer line (ordered_command (next_name drawer) line.number line.order) (r, mails) refl (order_asked (next_name drawer) line.number line.order)
+  orders drawer line (r, mails) given may k =
+      takes_order (untaken drawer line r) drawer line (ordered_command (next_name drawer) line.number line.order) (r, mails) given refl (order_asked (next_name drawer) line.number line.order)
       (λ e. (told_runs (is_some r.group.core.gone) r.running (may_offer r (first_set r.sets)) (NotLeader r.hint) _ e, may e)) k
 
   -- ---- all mail

@@ -11,7 +11,7 @@ use Rattle.sc_law_walks.specs.Definitions.{GoesOn, IsFiledOnMail, IsOrder}
 use Rattle.sc_law_walks.proofs.PlaceWalks.{Talk, elected_place, entered_place}
 use Rattle.sc_law_walks.proofs.Talks.{client_reported, vote_reported, watch_reported, outcome_said, next_one_asked}
 
--- What holds of the replica that a row finds; of a replica with the mails of its row, before it elects itself in a row and after; of the mail that it takes, by its sender; of a ballot that it sees there; of the command that was counted at a slot; of the commands of transactions and of orders that it queues; and of the children that it makes.
+-- What holds of the replica that a row finds; of a replica with the mails of its row, before it elects itself in a row and after; of the mail that it takes, by its sender; of a ballot that it sees there; of the command that was counted at a slot; of the commands of transactions and of orders that it queues; of an order that it is given; and of the children that it makes.
 pub record TableFacts : Type 1 where
   pub First : ReplicaState → Type 0
   pub Early : Place → Type 0
@@ -21,6 +21,7 @@ pub record TableFacts : Type 1 where
   pub Entry : ℕ → Command → Type 0
   pub Files : Command → Type 0
   pub Orders : Command → Type 0
+  pub Given : Drawer → OrderLine → Type 0
   pub Child : Base → Type 0
 
 -- A command may be executed at the next slot: one that was counted, and is ready there, or one that was learnt.
@@ -88,7 +89,7 @@ pub record TableStates (f : TableFacts) : Type 0 where
 -- That it is kept by each mail that goes with no change of the replica: refusals, votes and outcomes, questions of a transaction, states, entries and what asks for them.
 pub record TableSays (f : TableFacts) : Type 0 where
   pub refuses : (from : ℕ) (group : Draw) (client seq : ℕ) (op : Op) (answer : AnswerBody) (r : ReplicaState) (mails : List Mail) → f.Hears from (Request group client seq op) → refused_at r.group.core.gone op r ≡ Some answer → f.Early (r, mails) → f.Early (r, answer_to r.me (name_of r) client seq answer mails)
-  pub tells : (drawer : Drawer) (line : OrderLine) (why : OrderRefusal) (r : ReplicaState) (mails : List Mail) → untaken drawer line r ≡ Some why → f.Early (r, mails) → f.Early (r, result_sent r.me line.number (Refused why) mails)
+  pub tells : (drawer : Drawer) (line : OrderLine) (why : OrderRefusal) (r : ReplicaState) (mails : List Mail) → f.Given drawer line → untaken drawer line r ≡ Some why → f.Early (r, mails) → f.Early (r, result_sent r.me line.number (Refused why) mails)
   pub votes : (from : ℕ) (tx : Draw) (offer : Offer) (vote : Past) (r : ReplicaState) (mails : List Mail) → f.Hears from (TxPrepare tx offer) → standing_vote r.group.core tx ≡ Some vote → f.Early (r, mails) → f.Early (r, voted_to r.me r.group from tx offer vote mails)
   pub sees : (from : ℕ) (tx : Draw) (watch : Watch) (vote : Past) (r : ReplicaState) (mails : List Mail) → f.Hears from (TxWatch tx watch) → standing_vote r.group.core tx ≡ Some vote → f.Early (r, mails) → f.Early (r, watched_to r.me from tx watch vote mails)
   pub vote_ends : (from : ℕ) (tx coord part : Draw) (vote : Vote) (outcome : Outcome) (r : ReplicaState) (mails : List Mail) → f.Hears from (TxVote tx coord part vote) → noted_outcome r.group.core tx ≡ Some outcome → f.Early (r, mails) → f.Early (r, outcome_sent r.me from tx part outcome mails)
@@ -146,7 +147,7 @@ pub talk_said : (f : TableFacts) → ((r : ReplicaState) → Talk r.me (λ mails
     → ((to : ℕ) (r : ReplicaState) (mails : List Mail) → f.Early (r, mails) → f.Early (r, sent r.me to (Nack (name_of r) r.acceptor.promised) mails)) → TableSays f
 talk_said f talk installs recalls wants nacks = record {
   refuses = λ from group client seq op answer r mails h e m. client_reported r.me (λ ms. f.Early (r, ms)) (talk r) client (name_of r) seq answer mails m;
-  tells = λ drawer line why r mails e m. (talk r).tells line.number (Refused why) mails m;
+  tells = λ drawer line why r mails given e m. (talk r).tells line.number (Refused why) mails m;
   votes = λ from tx offer vote r mails h e m. vote_reported r.me (λ ms. f.Early (r, ms)) (talk r) r.group from tx offer vote mails m;
   sees = λ from tx watch vote r mails h e m. watch_reported r.me (λ ms. f.Early (r, ms)) (talk r) from tx watch vote mails m;
   vote_ends = λ from tx coord part vote outcome r mails h e m. outcome_said r.me (λ ms. f.Early (r, ms)) (talk r) from tx part outcome mails m;

@@ -1,9 +1,9 @@
 -- Laws that follow from lemmas of this crate and of those below.
-use Rattle.sc_live_plain.proofs.QuietLineEnds.{ends_quiet}
+use Rattle.sc_live_plain.proofs.BudgetProofs.QuietLineEnds.{ends_quiet}
 use Rattle.sc_scenario.proofs.ScenarioProofs.Lemmas.{valid_scenarios_are_bounded}
 use Rattle.sc_live_plain.specs.Definitions.{PlainLinesEndQuiet, RequestsGoOn, QuietJournalsAsk}
-use Rattle.sc_live_plain.proofs.RequestPhaseClients.{go_on}
-use Rattle.sc_live_plain.proofs.RequestsAfterQuiet.{quiet_ask}
+use Rattle.sc_live_plain.proofs.CalmProofs.RequestPhaseClients.{go_on}
+use Rattle.sc_live_plain.proofs.CalmProofs.RequestsAfterQuiet.{quiet_ask}
 
 -- In each lawful journal of a valid plain scenario at its budget no line of deliveries is cut off: each ends with no mail pending, whatever the order in which threads deliver, as long as each actor takes its mail in ascending order of number, which lawful journals of such schedules do.
 pub plain_lines_end_quiet : PlainLinesEndQuiet

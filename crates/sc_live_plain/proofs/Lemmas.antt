@@ -1,42 +1,43 @@
 -- The lemmas of this crate that others cite, under one name.
-pub use Rattle.sc_live_plain.proofs.Lists.{map_among, some_is}
-pub use Rattle.sc_live_plain.proofs.Sums.{shares, sum_mapped, none_together}
-pub use Rattle.sc_live_plain.proofs.SpacedOrders.{calm_spaced as calm_lines_are_spaced, roomy_calm as roomy_scenarios_are_calm, plain_lines_calm}
-pub use Rattle.sc_live_plain.proofs.PlainJournals.{of_player}
-pub use Rattle.sc_live_plain.proofs.PlainSteps.{node_born, node_number, in_numbers, to_numbers, client_number, value_others, gone_others, started_still, each_numbered, one_of_sum}
-pub use Rattle.sc_live_plain.proofs.MailMarks.{taken_once}
-pub use Rattle.sc_live_plain.proofs.PlainBeginnings.{IsStage, stage, frames_of, of_groups}
-pub use Rattle.sc_live_plain.proofs.RowViews.{Journal, replica_is, replica_none, replica_others}
-pub use Rattle.sc_live_plain.proofs.AnsweredRequests.{replies_more, first_delivery, many_line}
-pub use Rattle.sc_live_plain.proofs.IdleLeaders.{leader_idle}
-pub use Rattle.sc_live_plain.proofs.WaitingRequestJournals.{client_is}
-pub use Rattle.sc_live_plain.proofs.SlotCounts.{at_found, out_each, with_each, one_if, one_yes, one_no, with_at}
-pub use Rattle.sc_live_plain.proofs.ExecutedCalls.{IsServed, call_plain}
-pub use Rattle.sc_live_plain.proofs.PlainEntries.{recorded_after, counted_call, learnt_call}
-pub use Rattle.sc_live_plain.proofs.RepeatedMail.{mail_of}
-pub use Rattle.sc_live_plain.proofs.LeadingReplicas.{in_range, range_yes, IsHeld, range_behind}
-pub use Rattle.sc_live_plain.proofs.Pumps.{call_is}
-pub use Rattle.sc_live_plain.proofs.LeaderExecutions.{IsRun}
-pub use Rattle.sc_live_plain.proofs.AcceptAndLearnRows.{as_voter, learn_is, learnt_plain, learnt_follower, learnt_next}
-pub use Rattle.sc_live_plain.proofs.Replicas.{put_found}
-pub use Rattle.sc_live_plain.proofs.ReplicaRows.{leading_at, replica_row, DidRefuse, DidQueue, DidCount, following_at, none_stops, Does}
-pub use Rattle.sc_live_plain.proofs.NodeRows.{IsFor, for_node, NodeRow, mail_is, others_after}
-pub use Rattle.sc_live_plain.proofs.PlainKnownGroups.{IsBefore, parts_of, chosen_is, among_last}
-pub use Rattle.sc_live_plain.proofs.PlainClients.{asking}
-pub use Rattle.sc_live_plain.proofs.GroupCircle.{round}
-pub use Rattle.sc_live_plain.proofs.InductionBase.{born_plain, born_found, few_clients}
-pub use Rattle.sc_live_plain.proofs.ExampleBudget.{calm_at_budget}
-unfoldable pub use Rattle.sc_live_plain.proofs.ExampleBudget.{asks, lines_of, ordered}
-pub use Rattle.sc_live_plain.proofs.QuietFrames.{quiet_stand_plain as quiet_groups_stand_plain}
-pub use Rattle.sc_live_plain.proofs.KnownGroups.{learn_in_turn as clients_learn_in_turn, name_in, id_of, learn_in_turn, gap, near_behind}
-pub use Rattle.sc_live_plain.proofs.CalmRows.{may_pump, serves_all, runs, follows}
-pub use Rattle.sc_live_plain.proofs.CalmNodes.{nodes_calm as nodes_stay_calm, stays_by, Turns, step_is, StepsAside, aside_step, turns, aside_is, aside_answer}
-pub use Rattle.sc_live_plain.proofs.CalmClients.{clients_calm as clients_stay_calm, unasked, waiting_home}
-pub use Rattle.sc_live_plain.proofs.MoreCalmRequests.{aside_mark, takes_only, go_only}
-pub use Rattle.sc_live_plain.proofs.RequestPhaseClients.{asking_row}
-pub use Rattle.sc_live_plain.proofs.RequestsAfterQuiet.{quiet_ask}
-pub use Rattle.sc_live_plain.proofs.CalmWaitingRequests.{AreSought, IsSought, sought_row}
-pub use Rattle.sc_live_plain.proofs.RequestLines.{lines_answered}
+pub use Rattle.sc_live_plain.proofs.RowsProofs.Lists.{map_among, some_is}
+pub use Rattle.sc_live_plain.proofs.RowsProofs.Sums.{shares, sum_mapped, none_together}
+pub use Rattle.sc_live_plain.proofs.PlainProofs.SpacedOrders.{calm_spaced as calm_lines_are_spaced, roomy_calm as roomy_scenarios_are_calm, plain_lines_calm}
+pub use Rattle.sc_live_plain.proofs.PlainProofs.PlainJournals.{of_player}
+pub use Rattle.sc_live_plain.proofs.PlainProofs.PlainSteps.{node_born, node_number, in_numbers, to_numbers, client_number, value_others, gone_others, started_still, each_numbered, one_of_sum}
+pub use Rattle.sc_live_plain.proofs.RowsProofs.MailMarks.{taken_once}
+pub use Rattle.sc_live_plain.proofs.PlainProofs.PlainBeginnings.{IsStage, stage, frames_of, of_groups}
+pub use Rattle.sc_live_plain.proofs.RowsProofs.RowViews.{Journal, replica_is, replica_none, replica_others}
+pub use Rattle.sc_live_plain.proofs.PlainProofs.AnsweredRequests.{replies_more, first_delivery, many_line}
+pub use Rattle.sc_live_plain.proofs.LeadersProofs.IdleLeaders.{leader_idle}
+pub use Rattle.sc_live_plain.proofs.PlainProofs.WaitingRequestJournals.{client_is}
+pub use Rattle.sc_live_plain.proofs.RowsProofs.SlotCounts.{at_found, out_each, with_each, one_if, one_yes, one_no, with_at}
+pub use Rattle.sc_live_plain.proofs.LeadersProofs.ExecutedCalls.{IsServed, call_plain, entered_frame}
+pub use Rattle.sc_live_plain.proofs.LeadersProofs.PlainEntries.{recorded_after, counted_call, learnt_call}
+pub use Rattle.sc_live_plain.proofs.RowsProofs.RepeatedMail.{mail_of}
+pub use Rattle.sc_live_plain.proofs.LeadersProofs.LeadingReplicas.{in_range, range_yes, IsHeld, range_behind}
+pub use Rattle.sc_live_plain.proofs.LeadersProofs.Pumps.{call_is}
+pub use Rattle.sc_live_plain.proofs.LeadersProofs.LeaderExecutions.{IsRun}
+pub use Rattle.sc_live_plain.proofs.RowsProofs.AcceptAndLearnRows.{as_voter, learn_is, learnt_plain, learnt_follower, learnt_next, accept_is}
+pub use Rattle.sc_live_plain.proofs.RowsProofs.Replicas.{put_found}
+pub use Rattle.sc_live_plain.proofs.RowsProofs.ReplicaRows.{leading_at, replica_row, DidRefuse, DidQueue, DidCount, following_at, none_stops, Does}
+pub use Rattle.sc_live_plain.proofs.RowsProofs.NodeRows.{IsFor, for_node, NodeRow, mail_is, others_after}
+pub use Rattle.sc_live_plain.proofs.PlainProofs.PlainKnownGroups.{IsBefore, parts_of, chosen_is, among_last}
+pub use Rattle.sc_live_plain.proofs.PlainProofs.PlainClients.{asking}
+pub use Rattle.sc_live_plain.proofs.PlainProofs.GroupCircle.{round}
+pub use Rattle.sc_live_plain.proofs.PlainProofs.InductionBase.{born_plain, born_found, few_clients}
+pub use Rattle.sc_live_plain.proofs.BudgetProofs.ExampleBudget.{calm_at_budget}
+unfoldable pub use Rattle.sc_live_plain.proofs.BudgetProofs.ExampleBudget.{asks, lines_of, ordered}
+pub use Rattle.sc_live_plain.proofs.CalmProofs.QuietFrames.{quiet_stand_plain as quiet_groups_stand_plain}
+pub use Rattle.sc_live_plain.proofs.CalmProofs.KnownGroups.{learn_in_turn as clients_learn_in_turn, name_in, id_of, learn_in_turn, gap, near_behind, set_names, started_names}
+pub use Rattle.sc_live_plain.proofs.CalmProofs.CalmRows.{may_pump, serves_all, runs, follows}
+pub use Rattle.sc_live_plain.proofs.CalmProofs.CalmNodes.{nodes_calm as nodes_stay_calm, stays_by, Turns, step_is, StepsAside, aside_step, turns, aside_is, aside_answer}
+pub use Rattle.sc_live_plain.proofs.CalmProofs.CalmClients.{clients_calm as clients_stay_calm, unasked, waiting_home}
+pub use Rattle.sc_live_plain.proofs.CalmProofs.MoreCalmRequests.{aside_mark, takes_only, go_only}
+pub use Rattle.sc_live_plain.proofs.CalmProofs.RequestPhaseClients.{asking_row}
+pub use Rattle.sc_live_plain.proofs.CalmProofs.RequestsAfterQuiet.{quiet_ask}
+pub use Rattle.sc_live_plain.proofs.CalmProofs.CalmWaitingRequests.{AreSought, IsSought, sought_row}
+pub use Rattle.sc_live_plain.proofs.CalmProofs.RequestLines.{lines_answered, asked_node}
 pub use Rattle.sc_live_plain.proofs.Laws.{plain_lines_end_quiet, requests_go_on, quiet_journals_ask}
-pub use Rattle.sc_live_plain.proofs.LastLineEnds.{all_plain, last_lines_quiet}
-pub use Rattle.sc_live_plain.proofs.QuietLineEnds.{lines_plain}
+pub use Rattle.sc_live_plain.proofs.BudgetProofs.LastLineEnds.{all_plain, last_lines_quiet}
+pub use Rattle.sc_live_plain.proofs.BudgetProofs.QuietLineEnds.{lines_plain}
+pub use Rattle.sc_live_plain.proofs.BudgetProofs.LightJournals.{is_node_born}

@@ -1,4 +1,4 @@
 pub mod OrderEntryVotes
-pub mod MemberChanges
+pub mod EntryMembers
 pub mod LoneEntries
 pub mod Lemmas

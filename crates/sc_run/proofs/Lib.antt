@@ -1,5 +1,6 @@
 mod Plays
 mod Readings
+mod ReportedOrders
 mod Shown
 pub mod Told
 mod WithinBudget

@@ -28,6 +28,7 @@ use Rattle.sc_cli.specs.declared.said.Said.TheVariants.{Ended as HasEnded, Fille
 use Rattle.sc_run.specs.Budgets.{BudgetsSuffice}
 use Rattle.sc_run.specs.declared.done.Text.{Text}
 use Rattle.sc_run.specs.Played.{mail_weight, HasPlayedToEnd, HasFilled}
+use Rattle.sc_run.proofs.ReportedOrders.{lines_have_happened}
 use Rattle.sc_run.specs.Run.{journal_limit, Comes, IsFullText}
 
 -- an answer other than out of memory
@@ -97,7 +98,7 @@ pub comes_ended : (Shows : List (Row Mail OrderLine) → List (List ℕ) → Typ
     HasPlayedToEnd scenario journal_limit cut quiet skips journal parties → Shows journal text.lines → text.journal ≡ Some journal → text.parties ≡ parties → Comes Shows scenario (said_of cut) text
 comes_ended Shows scenario cut quiet skips journal parties text e lines journal_is parties_is = inl (record {
   journal = journal;
-  reports = record { lawful = e.lawful; whole = e.whole; within = e.within; sound = e.sound; refuses = e.refuses; lines = lines; journal_is = journal_is; parties_are = parties_is ∙ e.parties_are };
+  reports = record { lawful = e.lawful; whole = e.whole; within = e.within; sound = e.sound; refuses = e.refuses; results = lines_have_happened scenario journal e.refuses; lines = lines; journal_is = journal_is; parties_are = parties_is ∙ e.parties_are };
   said_is = ap said_of e.cut_is;
   settled = λ within. ap said_of (e.settled within);
   answered = λ calm ended. e.uncut calm (ended_uncut cut ended) (let counts = journal_counts mail_weight journal in let within = e.within in omega (arith, counts, within));

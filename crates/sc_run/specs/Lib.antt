@@ -3,5 +3,6 @@ pub mod Audited
 pub mod Budgets
 pub mod Played
 pub mod Refusals
+pub mod ReportedOrders
 pub mod Run
 pub mod Shown

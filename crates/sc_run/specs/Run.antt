@@ -18,6 +18,7 @@ use Rattle.sc_json_text.specs.rows.RowText.{IsHeld}
 use Rattle.sc_json_journal.specs.file.Stored.{file_lines, IsBadFile}
 use Rattle.sc_meaning.specs.sound.Soundness.{IsSoundThroughout}
 use Rattle.sc_law_refusal.specs.refusal.Journals.{RefusesWithCause}
+use Rattle.sc_run.specs.ReportedOrders.{LinesHaveHappened}
 use Rattle.sc_meaning.specs.sound.Players.{system_of, schedule, Lawful, Whole, parties, as_nodes}
 use Rattle.sc_world.specs.Replays.{IsBadRow}
 use Rattle.sc_world.specs.Summary.{summary_of}
@@ -74,13 +75,14 @@ ShowsReport scenario journal lines = lines ≡ report_lines (summary_of scenario
 abbrev pub ShowsFile : List ℕ → List (Row Mail OrderLine) → List (List ℕ) → Type 0
 ShowsFile text journal lines = (lines ≡ file_lines text journal) × Each IsHeld journal
 
--- The text shows a journal of a scenario that is lawful, whole and within the limit, of which each prefix is sound and each refusal has its cause, and the parties are the replays of their rows.
+-- The text shows a journal of a scenario that is lawful, whole and within the limit, of which each prefix is sound, each refusal has its cause, and each result that a report of it gives of an order has happened, and the parties are the replays of their rows.
 pub record ReportsJournal (Shows : List (Row Mail OrderLine) → List (List ℕ) → Type 0) (scenario : Scenario) (journal : List (Row Mail OrderLine)) (text : Text) : Type 0 where
   pub lawful : Lawful as_nodes two_words scenario journal
   pub whole : Whole as_nodes two_words scenario journal
   pub within : journal_bytes mail_weight journal ≤ journal_limit
   pub sound : IsSoundThroughout as_nodes scenario journal
   pub refuses : RefusesWithCause as_nodes scenario journal
+  pub results : LinesHaveHappened scenario journal
   pub lines : Shows journal text.lines
   pub journal_is : text.journal ≡ Some journal
   pub parties_are : text.parties ≡ parties as_nodes scenario journal

@@ -1,5 +1,5 @@
 -- A calm scenario whose order is carried out, computed: a node joins the group of one member, and then the client puts a value and gets it. Scenario and report are stored as `calm_join`.
-use Rattle.std.proofs.Common.{◌≡◌, ℕ, List, [], ◌∷◌, Some, None, inl, inr, refl, subst}
+use Rattle.std.proofs.Common.{◌≡◌, ℕ, List, [], ◌∷◌, take, Some, None, inl, inr, refl, subst}
 use Rattle.std.specs.Prelude.{false, length}
 use Rattle.sc_words.specs.declared.commands.cores.Base.{Base}
 use Rattle.sc_words.specs.declared.commands.commands.Command.TheVariants.{Call, Join as Joins}
@@ -18,10 +18,11 @@ use Rattle.sc_scenario.specs.declared.scenario.scenarios.Scenario.{Scenario}
 use Rattle.sc_meaning.specs.sound.Example.{alone, put_it, get_it, ballot, mail, row}
 use Rattle.sc_meaning.specs.sound.Players.{births, system_of, schedule, as_nodes, route_of}
 use Rattle.sc_meaning.specs.sound.Requests.{kept_replies}
+use Rattle.sc_law_refusal.specs.results.ReportedResults.{ReportsWhatHappened}
 use Rattle.sc_live_plain.specs.Budget.{AreAnswered}
 use Rattle.sc_live_plain.specs.CalmBudget.{IsCalmAtBudget}
 use Rattle.sc_live_answers.specs.ReportedOrders.{AreOrdersReported, IsReported}
-use Rattle.sc_live_plain.proofs.ExampleBudget.{asks, calm_at_budget, lines_of, ordered}
+use Rattle.sc_live_plain.proofs.BudgetProofs.ExampleBudget.{asks, calm_at_budget, lines_of, ordered}
 
 -- node 2 is ordered to join
 abbrev join_it : OrderLine
@@ -35,12 +36,16 @@ joined = record (ordered join_it) { nodes = 2 }
 abbrev joined_base : Base
 joined_base = record alone { core = record alone.core { members = 1 ∷ 2 ∷ [] } }
 
+-- the row that executes the order's entry, and reports it
+abbrev third : Row Mail OrderLine
+third = row 1 (Deliver 2) (record { from = 1; to = 0; body = Tells 1 Done } ∷ mail 1 2 (Install lone_name 1 joined_base ((1 ∷ []) ∷ (1 ∷ []) ∷ (1 ∷ []) ∷ (1 ∷ 2 ∷ []) ∷ [])))
+
 -- the rows: the order is offered, accepted and carried out, which the third row reports; then each request is, and the new member learns it
 rows : List (Row Mail OrderLine)
 rows =
     row 1 (Told join_it) (mail 1 1 (Accept lone_name ballot 1 (Joins 2 1)))
     ∷ row 1 (Deliver 1) (mail 1 1 (Accepted lone_name ballot 1))
-    ∷ row 1 (Deliver 2) (record { from = 1; to = 0; body = Tells 1 Done } ∷ mail 1 2 (Install lone_name 1 joined_base ((1 ∷ []) ∷ (1 ∷ []) ∷ (1 ∷ []) ∷ (1 ∷ 2 ∷ []) ∷ [])))
+    ∷ third
     ∷ row 2 (Deliver 4) []
     ∷ row 33 Go (mail 33 1 (Request lone_name 1 1 put_it))
     ∷ row 1 (Deliver 5) (mail 1 1 (Accept lone_name ballot 2 (Call 1 1 put_it)))
@@ -96,3 +101,8 @@ reported node line a =
         ]
       ]
     ]
+
+-- what the third row reports has happened: after the first two the group's log has the order's entry, whose effect is Changed
+happened : ReportsWhatHappened as_nodes joined (take 2 rows) third
+unfolding rows ordered lines_of
+happened = (record { base = alone; stands = inl refl; prefix = []; entry = Joins 2 1; later = []; log_is = refl; ends = record { own = refl; at_once = tt; effect = refl } }, (tt, tt))

@@ -57,7 +57,7 @@ fn ended<R: Wait + Abort>(rt: &R, alloc: Global, company: Company<Player>) -> (u
     requires none { joined_ports company.net ≡ [] }
 {
     let mut company = company;
-    let _ = gather(rt, &mut company.net, &mut company.shells).expect(rt, "memory");
+    let _ = gather(rt, &mut company.net, &mut company.shells);
     let (journal, actors) = close(rt, alloc, company).expect(rt, "memory");
     let left = (makers(journal.as_slice()), players(actors.as_slice()));
     forget(journal);

@@ -105,11 +105,20 @@ fn met<R: Threads + Wait + Abort + Sync>(
     (end, gate.late.load(Ordering::SeqCst))
 }
 
+// Returns how the round ends, and ends the test where one of the two waited in vain.
+fn met_in_time<R: Threads + Wait + Abort + Sync>(rt: &R, alloc: Global, way: Way) -> Rounds {
+    let (end, late) = met(rt, alloc, way, 2, 1_000_000);
+    if late != 0 {
+        panic!(rt; "a worker did not meet the other within 1,000,000 turns of waiting");
+    }
+    end
+}
+
 #[test]
 fn workers_work_at_the_same_time(rt: HostRuntime) {
     let end = Rounds::Limit { used: 2 };
     for way in [Way::Runs, Way::Queue] {
-        assert!(rt; met(&rt, rt.alloc(), way, 2, 1_000_000) == (end, 0));
+        assert!(rt; met_in_time(&rt, rt.alloc(), way) == end);
         assert!(rt; met(&rt, rt.alloc(), way, 1, 1_000) == (end, 1));
     }
 }

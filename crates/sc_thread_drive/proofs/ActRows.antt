@@ -22,7 +22,7 @@ use Rattle.sc_thread_work.specs.shell.Answers.{MayHappen}
 use Rattle.sc_thread_work.specs.declared.shell.shells.Shell.{Shell}
 use Rattle.sc_thread_work.specs.declared.shell.turns.Turn.{Turn}
 use Rattle.sc_thread_work.specs.declared.shell.turns.Turn.TheVariants.{Did, Empty, Full, Spent, OutOfMemory}
-use Rattle.sc_thread_work.specs.shell.Shells.{Happens, Takes, IsReplay, Replays, state, row_at, Fetches}
+use Rattle.sc_thread_work.specs.shell.Shells.{Happens, Takes, IsReplay, Replays, state, row_at, Fetches, Finds}
 use Rattle.sc_thread_work.proofs.ShellProofs.Taking.{input_steady}
 use Rattle.sc_thread_workers.specs.Crews.{Still, AllStill, AllOf, IsAhead}
 use Rattle.sc_thread_workers.specs.Ends.{IsGathered}
@@ -137,7 +137,7 @@ module _ {A M O : Type 0} {g : Ghosts A M O} {h : MailGhosts M} where
         (nothing x.1.0.made, passes event (input_of [] event) x.0 is x.1.0 x.1.1.1, runs_is x.0)
     event_leaves event Spent may x = (spent_company x.0 x.1 x.2, nothing (ap made x.2), halted_is x.0)
     event_leaves event (Empty told) may x = absurd x.1
-    event_leaves event OutOfMemory may x = tt
+    event_leaves event OutOfMemory may x = runs_is x.0
 
     module _ (n : ℕ) where
       -- the fetch saw the journal
@@ -161,21 +161,24 @@ module _ {A M O : Type 0} {g : Ghosts A M O} {h : MailGhosts M} where
       got_is f same = sym (ap (option_map Got) (ap (λ l. numbered (mails l) f.number) (sym same) ∙ f.mail_is))
 
       -- what a turn did
-      pub turn_leaves : (turn : Turn) → Takes (state met) (state t) n turn → AfterTurn births k n net next ss after turn
-      turn_leaves (Did at) x =
+      pub turn_leaves : (turn : Turn) → Takes (state met) (state t) n turn → (turn ≡ OutOfMemory → Finds met.port t.port n) → AfterTurn births k n net next ss after turn
+      turn_leaves (Did at) x finds =
           let row = row_at (state met) (Deliver x.1.number) (Some (Got x.1.mail)) in
           let same = fetch_did x.1 row refl x.2.0 in (
             company_after births net mid next ss after k t c lt met was ahead stays looked len rest gathered rows (λ spent. absurd (true≢false (sym spent ∙ x.2.3))) (λ e. keeps (get_or births k e).actor (λ _. replays_met e (inl x.0)) (inl x.2.3)),
             (x.1.number, kth_is x.1 same, row_added (Deliver x.1.number) (Some (Got x.1.mail)) x.0 (got_is x.1 same) x.2.0),
             fits row x.2.0 x.2.6,
           )
-      turn_leaves (Full bytes) x =
+      turn_leaves (Full bytes) x finds =
           let same = fetch_looked x.1 x.2.0 in
           (nothing x.2.0.made, (x.1.number, kth_is x.1 same, passes (Deliver x.1.number) (Some (Got x.1.mail)) x.0 (got_is x.1 same) x.2.0 x.2.1.1))
-      turn_leaves (Empty told) x = (
+      turn_leaves (Empty told) x finds = (
         company_after births net mid next ss after k t c lt met was ahead stays looked len rest gathered rows (λ spent. absurd (true≢false (sym spent ∙ x.1.4))) (λ e. keeps (get_or births k e).actor (λ _. replays_met e (inl x.0)) (inl x.1.4)),
         nothing x.1.0.made,
         λ d. (λ i. kth_pending h.receiver (actors_are i) (sym (sees_same x.1.0) i) (sym (who_is d) i) n) ∙ x.1.2,
       )
-      turn_leaves Spent x = (spent_company x.0 x.1 x.2, nothing (ap made x.2), halted_is x.0)
-      turn_leaves OutOfMemory x = tt
+      turn_leaves Spent x finds = (spent_company x.0 x.1 x.2, nothing (ap made x.2), halted_is x.0)
+      turn_leaves OutOfMemory x finds =
+          let f : Finds met.port t.port n = finds refl in
+          let same : f.rows ≡ seen net = between (seen net) f.rows (seen t.port) (starts_trans f.rows (seen met.port) (seen net) f.later ahead.begins) f.before (sees_same x.1) in
+          λ d none. f.some ((λ i. kth_pending h.receiver (sym actors_are i) (same i) (who_is d i) n) ∙ none)

@@ -15,10 +15,10 @@ use Rattle.sc_thread_ledger.specs.Pending.{kth_pending}
 use Rattle.sc_thread_ports.specs.declared.exchange.ports.Port.{Port}
 use Rattle.sc_thread_ports.specs.exchange.Ports.{seen}
 use Rattle.sc_thread_work.specs.declared.shell.shells.Shell.{Shell}
-use Rattle.sc_thread_work.specs.declared.shell.turns.Turn.TheVariants.{Did, Empty, Full, Spent}
+use Rattle.sc_thread_work.specs.declared.shell.turns.Turn.TheVariants.{Did, Empty, Full, Spent, OutOfMemory}
 use Rattle.sc_thread_workers.specs.Crews.{crew_numbers}
 use Rattle.sc_thread_drive.specs.Numbers.{is_in}
-use Rattle.sc_thread_drive.specs.declared.company.Stop.TheVariants.{Full as TooMuch}
+use Rattle.sc_thread_ledger.specs.declared.errors.PostError.TheVariants.{JournalFull, OutOfMemory as NoMemory}
 use Rattle.sc_thread_drive.specs.Companies.{IsCompany}
 use Rattle.sc_thread_drive.specs.Acts.{HasHalted, AfterEvent, AfterTurn}
 use Rattle.sc_thread_drive.specs.Stepping.{IsPlace, IsNowhere, Stepped, unless_crashed}
@@ -68,19 +68,31 @@ module _ {A M O : Type 0} {g : Ghosts A M O} {h : MailGhosts M} where
       happens_did event n t = (t.0, (row_of g.table (get_or births place e) (seen net) event, may_is event t.3, t.1 e), t.2)
 
       -- its row would pass the limit
-      pub happens_full : (event : Event O) (n : ℕ) → AfterEvent births place event net next ss after (Full n) → Stepped (sys words births net ss c) (unless_crashed (sys words births net ss c) (seen net) who event) net next after (Err TooMuch)
+      pub happens_full : (event : Event O) (n : ℕ) → AfterEvent births place event net next ss after (Full n) → Stepped (sys words births net ss c) (unless_crashed (sys words births net ss c) (seen net) who event) net next after (Err (JournalFull n))
       happens_full event n t = ((row_of g.table (get_or births place e) (seen net) event, may_is event t.2, t.1 e), t.0)
 
       -- the actor has crashed
       pub happens_spent : (event : Event O) → AfterEvent births place event net next ss after Spent → Stepped (sys words births net ss c) (unless_crashed (sys words births net ss c) (seen net) who event) net next after (Ok false)
       happens_spent event t = (t.0, ap (λ b. cond b None (acts (sys words births net ss c) (seen net) who event)) (halted true t.2), t.1)
 
+      -- the actor has crashed, and nothing was done
+      pub happens_halted : (event : Event O) → HasHalted ss place true → Stepped (sys words births net ss c) (unless_crashed (sys words births net ss c) (seen net) who event) net net ss (Ok false)
+      happens_halted event is = (c, ap (λ b. cond b None (acts (sys words births net ss c) (seen net) who event)) (halted true is), refl)
+
+      -- memory ran out
+      pub happens_lacks : (event : Event O) → HasHalted ss place false → Stepped (sys words births net ss c) (unless_crashed (sys words births net ss c) (seen net) who event) net next after (Err NoMemory)
+      happens_lacks event runs = (row_of g.table (get_or births place e) (seen net) event, may_is event runs)
+
+      -- memory ran out at an event of an actor that has not crashed
+      pub text_lacks : (event : Event O) → Stepped (sys words births net ss c) (acts (sys words births net ss c) (seen net) who event) net next after (Err NoMemory)
+      text_lacks event = (row_of g.table (get_or births place e) (seen net) event, act_is event)
+
       -- a Go, of an actor that has not crashed
       pub event_answers_did : (event : Event O) (n : ℕ) → AfterEvent births place event net next ss after (Did n) → Stepped (sys words births net ss c) (acts (sys words births net ss c) (seen net) who event) net next after (Ok true)
       event_answers_did event n t = (t.0, (row_of g.table (get_or births place e) (seen net) event, act_is event, t.1 e), t.2)
 
       -- its row would pass the limit
-      pub full_text : (event : Event O) (n : ℕ) → AfterEvent births place event net next ss after (Full n) → Stepped (sys words births net ss c) (acts (sys words births net ss c) (seen net) who event) net next after (Err TooMuch)
+      pub full_text : (event : Event O) (n : ℕ) → AfterEvent births place event net next ss after (Full n) → Stepped (sys words births net ss c) (acts (sys words births net ss c) (seen net) who event) net next after (Err (JournalFull n))
       full_text event n t = ((row_of g.table (get_or births place e) (seen net) event, act_is event, t.1 e), t.0)
 
       -- the k-th pending mail
@@ -95,8 +107,16 @@ module _ {A M O : Type 0} {g : Ghosts A M O} {h : MailGhosts M} where
       delivers_did k n t = (t.0, (row_of g.table (get_or births place e) (seen net) (Deliver t.1.0), delivers k t.1.0 (t.1.1 d), t.1.2 e), t.2)
 
       -- its row would pass the limit
-      pub delivers_full : (k n : ℕ) → AfterTurn births place k net next ss after (Full n) → Stepped (sys words births net ss c) (line_row (sys words births net ss c) (seen net) (DeliverLine who k)) net next after (Err TooMuch)
+      pub delivers_full : (k n : ℕ) → AfterTurn births place k net next ss after (Full n) → Stepped (sys words births net ss c) (line_row (sys words births net ss c) (seen net) (DeliverLine who k)) net next after (Err (JournalFull n))
       delivers_full k n t = ((row_of g.table (get_or births place e) (seen net) (Deliver t.1.0), delivers k t.1.0 (t.1.1 d), t.1.2 e), t.0)
+
+      -- memory ran out, with a mail pending
+      pub delivers_lacks : (k : ℕ) → AfterTurn births place k net next ss after OutOfMemory → Stepped (sys words births net ss c) (line_row (sys words births net ss c) (seen net) (DeliverLine who k)) net next after (Err NoMemory)
+      delivers_lacks k t = by (kth_pending h.receiver net.actors (seen net) (get_or ss place d).port.who k) refl
+        where
+          by : (o : Option ℕ) → kth_pending h.receiver net.actors (seen net) (get_or ss place d).port.who k ≡ o → Stepped (sys words births net ss c) (line_row (sys words births net ss c) (seen net) (DeliverLine who k)) net next after (Err NoMemory)
+          by None is = absurd (t d is)
+          by (Some number) is = (row_of g.table (get_or births place e) (seen net) (Deliver number), delivers k number is)
 
       -- no k-th mail is pending
       pub serves_empty : (k n : ℕ) → AfterTurn births place k net next ss after (Empty n) → kth (waiting (sys words births net ss c) (seen net) (Some who)) k ≡ None

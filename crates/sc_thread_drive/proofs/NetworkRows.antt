@@ -24,7 +24,7 @@ use Rattle.sc_thread_workers.specs.Ends.{IsGathered}
 use Rattle.sc_thread_workers.proofs.Lists.{one_of}
 use Rattle.sc_thread_workers.proofs.Crews.{still_all_go, still_sound, still_rows}
 use Rattle.sc_thread_workers.proofs.Serving.{numbers_go}
-use Rattle.sc_thread_drive.specs.declared.company.Stop.TheVariants.{Full as TooMuch, OutOfMemory}
+use Rattle.sc_thread_ledger.specs.declared.errors.PostError.TheVariants.{JournalFull, OutOfMemory}
 use Rattle.sc_thread_drive.specs.Numbers.{is_in, apart}
 use Rattle.sc_thread_drive.specs.Companies.{IsCompany}
 use Rattle.sc_thread_drive.specs.Stepping.{IsPlace, IsNowhere, Stepped}
@@ -38,7 +38,7 @@ use Rattle.std.proofs.lemmas.Bool.{and_parts, eqb-true, lt-ltb}
 use Rattle.sc_thread_ports.specs.declared.exchange.fates.Fate.{Fate}
 use Rattle.sc_thread_ports.specs.declared.exchange.fates.Fate.TheVariants.{Lost, Repeated}
 use Rattle.sc_thread_drive.specs.Changing.{Changes}
-use Rattle.sc_thread_drive.specs.declared.company.Stop.{Stop}
+use Rattle.sc_thread_ledger.specs.declared.errors.PostError.{PostError}
 use Rattle.sc_thread_ports.proofs.ExchangeProofs.Knowing.{looked_trans, stays_trans}
 use Rattle.sc_thread_ports.proofs.TurnProofs.Lists.{starts_trans}
 
@@ -192,8 +192,8 @@ module _ {A M O : Type 0} {g : Ghosts A M O} {h : MailGhosts M} where
           fits_next Lost number changed,
         )
 
-        loses_full : Looked first mid → first.limit < journal_bytes h.weighs (seen mid) + row_bytes h.weighs (change {M = M} {O = O} Lost number) → Stepped (sys words births net ss c) (line_row (sys words births net ss c) (seen net) (DropLine who k)) net next after (Err TooMuch)
-        loses_full l2 more =
+        loses_full : (bytes : ℕ) → Looked first mid → first.limit < journal_bytes h.weighs (seen mid) + row_bytes h.weighs (change {M = M} {O = O} Lost number) → Stepped (sys words births net ss c) (line_row (sys words births net ss c) (seen net) (DropLine who k)) net next after (Err (JournalFull bytes))
+        loses_full bytes l2 more =
             ((network (Drop number), ap (option_map (λ mail. network (Drop mail))) (kth_there who k place (Some number) at (refused_first l2) is), passes_net l2 Lost number more), refused_same l2)
 
         -- a mail that is pending may be lost
@@ -206,11 +206,11 @@ module _ {A M O : Type 0} {g : Ghosts A M O} {h : MailGhosts M} where
             true≢false (sym there ∙ ((λ i. is_pending h.receiver (sym l.stays.exchange.1 i) (same i) number) ∙ no_more.may))
 
         -- what a loss came to
-        pub loses_so : (step : Result Bool Stop) → Changes Lost number first mid step → Stepped (sys words births net ss c) (line_row (sys words births net ss c) (seen net) (DropLine who k)) net next after step
+        pub loses_so : (step : Result Bool PostError) → Changes Lost number first mid step → Stepped (sys words births net ss c) (line_row (sys words births net ss c) (seen net) (DropLine who k)) net next after step
         loses_so (Ok true) x = loses_done x
         loses_so (Ok false) x = absurd (never_undone x)
-        loses_so (Err TooMuch) x = loses_full x.0 x.1
-        loses_so (Err OutOfMemory) x = tt
+        loses_so (Err (JournalFull bytes)) x = loses_full bytes x.0 x.1
+        loses_so (Err OutOfMemory) x = (network (Drop number), ap (option_map (λ mail. network (Drop mail))) (kth_there who k place (Some number) at (refused_first x.0) is))
 
       module _ (who place number : ℕ) (at : IsPlace ss who place) (is : Some who ≡ option_map h.receiver (numbered (mails (seen first)) number)) where
         -- the mail was sent to this actor
@@ -263,14 +263,16 @@ module _ {A M O : Type 0} {g : Ghosts A M O} {h : MailGhosts M} where
             let x = sent_to (refused_first l2) in
             (refused_there l2, repeat_is x false (may_same x false (may_at (seen mid) first.actors false (refused_mid l2) l.stays.exchange.1 no_more)), refused_same l2)
 
-        repeats_full : (l2 : Looked first mid) → first.limit < journal_bytes h.weighs (seen mid) + row_bytes h.weighs (change {M = M} {O = O} Repeated number) → may_repeat h.receiver first.actors (seen mid) number ≡ true → Stepped (sys words births net ss c) (line_row (sys words births net ss c) (seen net) (AgainLine number)) net next after (Err TooMuch)
-        repeats_full l2 more may =
+        repeats_full : (bytes : ℕ) (l2 : Looked first mid) → first.limit < journal_bytes h.weighs (seen mid) + row_bytes h.weighs (change {M = M} {O = O} Repeated number) → may_repeat h.receiver first.actors (seen mid) number ≡ true → Stepped (sys words births net ss c) (line_row (sys words births net ss c) (seen net) (AgainLine number)) net next after (Err (JournalFull bytes))
+        repeats_full bytes l2 more may =
             let x = sent_to (refused_first l2) in
             ((network (Again number), repeat_is x true (may_same x true (may_at (seen mid) first.actors true (refused_mid l2) l.stays.exchange.1 may)), passes_net l2 Repeated number more), refused_same l2)
 
         -- what a repeat came to
-        pub repeats_so : (step : Result Bool Stop) → Changes Repeated number first mid step → Stepped (sys words births net ss c) (line_row (sys words births net ss c) (seen net) (AgainLine number)) net next after step
+        pub repeats_so : (step : Result Bool PostError) → Changes Repeated number first mid step → Stepped (sys words births net ss c) (line_row (sys words births net ss c) (seen net) (AgainLine number)) net next after step
         repeats_so (Ok true) x = repeats_done x
         repeats_so (Ok false) x = repeats_undone x.looked x.may
-        repeats_so (Err TooMuch) x = repeats_full x.0 x.1 x.2
-        repeats_so (Err OutOfMemory) x = tt
+        repeats_so (Err (JournalFull bytes)) x = repeats_full bytes x.0 x.1 x.2
+        repeats_so (Err OutOfMemory) x =
+            let y = sent_to (refused_first x.0) in
+            (network (Again number), repeat_is y true (may_same y true (may_at (seen mid) first.actors true (refused_mid x.0) l.stays.exchange.1 x.1)))

@@ -22,8 +22,8 @@ use Rattle.sc_thread_ports.specs.declared.exchange.ports.Port.{Port}
 use Rattle.sc_thread_ports.specs.exchange.Ports.{seen}
 use Rattle.sc_thread_work.specs.declared.shell.shells.Shell.{Shell}
 use Rattle.sc_thread_drive.specs.declared.company.Score.{Score}
-use Rattle.sc_thread_drive.specs.declared.company.Stop.{Stop}
-use Rattle.sc_thread_drive.specs.declared.company.Stop.TheVariants.{Full}
+use Rattle.sc_thread_ledger.specs.declared.errors.PostError.{PostError}
+use Rattle.sc_thread_ledger.specs.declared.errors.PostError.TheVariants.{JournalFull}
 use Rattle.sc_thread_drive.specs.Numbers.{is_in}
 use Rattle.sc_thread_drive.specs.Companies.{IsCompany}
 use Rattle.sc_thread_drive.specs.Stepping.{Stepped}
@@ -149,8 +149,8 @@ module _ {A M O : Type 0} {g : Ghosts A M O} {h : MailGhosts M} where
         }
 
     -- a line whose row passes the limit
-    pub fills_full : StepsSo line net ss score next after (Err Full) → Fills net ss score (Once line ∷ []) next
-    fills_full stepped = λ words births lines rest at.
+    pub fills_full : (bytes : ℕ) → StepsSo line net ss score next after (Err (JournalFull bytes)) → Fills net ss score (Once line ∷ []) next
+    fills_full bytes stepped = λ words births lines rest at.
         let s = system g.table h.receiver words births in
         let t = stepped words births at.company (λ n. sym (at.told n)) in
         let row = t.0.0 in
@@ -169,7 +169,7 @@ pub go_pushed : (n who : ℕ) (ws vs : List ℕ) → vs ≡ ws ++ who ∷ [] →
 go_pushed n who ws vs is = ap (is_in n) is ∙ (list_any-append (λ w. eqb n w) ws (who ∷ []) ∙ ap (λ b. is_in n ws || b) (or-false (eqb n who)))
 
 -- a Go of one who was not told to go
-pub go_steps : {A M O : Type 0} {g : Ghosts A M O} {h : MailGhosts M} (who : ℕ) (net next : Port M O h) (ss after : List (Shell A M O g h)) (score : Score) (step : Result Bool Stop) → is_in who score.started.items ≡ false →
+pub go_steps : {A M O : Type 0} {g : Ghosts A M O} {h : MailGhosts M} (who : ℕ) (net next : Port M O h) (ss after : List (Shell A M O g h)) (score : Score) (step : Result Bool PostError) → is_in who score.started.items ≡ false →
     ((words : ℕ → ℕ → ℕ × ℕ) (births : List (Seat A)) → IsCompany births net ss → Stepped (system g.table h.receiver words births) (acts (system g.table h.receiver words births) (seen net) who Go) net next after step) → StepsSo (GoLine who) net ss score next after step
 go_steps {g = g} {h = h} who net next ss after score step no_event_answer f = λ words births company told.
     let s = system g.table h.receiver words births in

@@ -10,8 +10,8 @@ use Rattle.sc_actor.specs.System.{acts}
 use Rattle.sc_actor.specs.Walk.{Once, Storms, line_row}
 use Rattle.sc_thread_drive.specs.declared.company.Company.{Company}
 use Rattle.sc_thread_drive.specs.declared.company.Score.{Score}
-use Rattle.sc_thread_drive.specs.declared.company.Stop.{Stop}
-use Rattle.sc_thread_drive.specs.declared.company.Stop.TheVariants.{Full}
+use Rattle.sc_thread_ledger.specs.declared.errors.PostError.{PostError}
+use Rattle.sc_thread_ledger.specs.declared.errors.PostError.TheVariants.{JournalFull}
 use Rattle.sc_thread_drive.specs.Goings.{Goes, IsCalm}
 use Rattle.sc_thread_drive.specs.Numbers.{is_in}
 use Rattle.sc_thread_drive.specs.Storming.{IsStormLine}
@@ -45,11 +45,11 @@ module _ {A M O : Type 0} {g : Ghosts A M O} {h : MailGhosts M} where
     }
 
     -- its row would pass the limit
-    pub once_refused : (stop : Stop) → stop ≡ Full → RowEnds (λ s rows. line_row s rows line) c d (Err stop) → LineRefused (Once line ∷ []) c d
-    once_refused stop full ends =
-        let row : RowRefused (λ s rows. line_row s rows line) c d = subst (λ s. RowEnds (λ s rows. line_row s rows line) c d (Err s)) full ends in record {
+    pub once_refused : (stop : PostError) (bytes : ℕ) → stop ≡ JournalFull bytes → RowEnds (λ s rows. line_row s rows line) c d (Err stop) → LineRefused (Once line ∷ []) c d
+    once_refused stop bytes full ends =
+        let row : RowRefused (λ s rows. line_row s rows line) bytes c d = subst (λ s. RowEnds (λ s rows. line_row s rows line) c d (Err s)) full ends in record {
           kept = row.kept;
-          fills = fills_full line c.net d.net c.shells.items d.shells.items c.score c.score row.kept.stays.exchange.2 (λ words births company _. row.row words births company);
+          fills = fills_full line c.net d.net c.shells.items d.shells.items c.score c.score row.kept.stays.exchange.2 bytes (λ words births company _. row.row words births company);
         }
 
   module _ (who : ℕ) (c d : Company A M O g h) (fresh : is_in who c.score.started.items ≡ false) where
@@ -72,11 +72,11 @@ module _ {A M O : Type 0} {g : Ghosts A M O} {h : MailGhosts M} where
     }
 
     -- its row would pass the limit
-    pub go_refused : (stop : Stop) → stop ≡ Full → RowEnds (λ s rows. acts s rows who GoEvent) c d (Err stop) → LineRefused (Once (Go who) ∷ []) c d
-    go_refused stop full ends =
-        let row : RowRefused (λ s rows. acts s rows who GoEvent) c d = subst (λ s. RowEnds (λ s rows. acts s rows who GoEvent) c d (Err s)) full ends in record {
+    pub go_refused : (stop : PostError) (bytes : ℕ) → stop ≡ JournalFull bytes → RowEnds (λ s rows. acts s rows who GoEvent) c d (Err stop) → LineRefused (Once (Go who) ∷ []) c d
+    go_refused stop bytes full ends =
+        let row : RowRefused (λ s rows. acts s rows who GoEvent) bytes c d = subst (λ s. RowEnds (λ s rows. acts s rows who GoEvent) c d (Err s)) full ends in record {
           kept = row.kept;
-          fills = fills_full (Go who) c.net d.net c.shells.items d.shells.items c.score c.score row.kept.stays.exchange.2 (go_steps who c.net d.net c.shells.items d.shells.items c.score (Err Full) fresh row.row);
+          fills = fills_full (Go who) c.net d.net c.shells.items d.shells.items c.score c.score row.kept.stays.exchange.2 bytes (go_steps who c.net d.net c.shells.items d.shells.items c.score (Err (JournalFull bytes)) fresh row.row);
         }
 
   module _ (step : ℕ × ℕ) (line : Option (Line O)) (c m d : Company A M O g h) (rest : HasRested c m) (is : IsStormLine step m.net m.shells.items line) where
@@ -95,10 +95,10 @@ module _ {A M O : Type 0} {g : Ghosts A M O} {h : MailGhosts M} where
     storm_ended calm made row = line_then c m d (Storms step ∷ []) (Storms step ∷ []) [] (line_rested c m (Storms step ∷ []) rest) (storm_row_made calm made row)
 
     -- its row would pass the limit
-    pub storm_refused : (stop : Stop) → stop ≡ Full → RowEnds (λ s rows. option_and_then (line_row s rows) line) m d (Err stop) → LineRefused (Storms step ∷ []) c d
-    storm_refused stop full ends =
-        let row : RowRefused (λ s rows. option_and_then (line_row s rows) line) m d = subst (λ s. RowEnds (λ s rows. option_and_then (line_row s rows) line) m d (Err s)) full ends in
+    pub storm_refused : (stop : PostError) (bytes : ℕ) → stop ≡ JournalFull bytes → RowEnds (λ s rows. option_and_then (line_row s rows) line) m d (Err stop) → LineRefused (Storms step ∷ []) c d
+    storm_refused stop bytes full ends =
+        let row : RowRefused (λ s rows. option_and_then (line_row s rows) line) bytes m d = subst (λ s. RowEnds (λ s rows. option_and_then (line_row s rows) line) m d (Err s)) full ends in
         line_refused_then c m d (Storms step ∷ []) (Storms step ∷ []) (line_rested c m (Storms step ∷ []) rest) (record {
           kept = row.kept;
-          fills = storms_full step line m.net d.net m.shells.items d.shells.items m.score row.kept.stays.exchange.2 is row.row;
+          fills = storms_full step line m.net d.net m.shells.items d.shells.items m.score row.kept.stays.exchange.2 is bytes row.row;
         })

@@ -24,7 +24,7 @@ use Rattle.sc_thread_pool.specs.storm.Laws.{AreWithin, MakesItsRow}
 use Rattle.sc_thread_work.specs.declared.shell.shells.Shell.{Shell}
 use Rattle.sc_thread_workers.proofs.Lists.{one_of}
 use Rattle.sc_thread_drive.specs.declared.company.Score.{Score}
-use Rattle.sc_thread_drive.specs.declared.company.Stop.TheVariants.{Full}
+use Rattle.sc_thread_ledger.specs.declared.errors.PostError.TheVariants.{JournalFull}
 use Rattle.sc_thread_drive.specs.Companies.{IsCompany}
 use Rattle.sc_thread_drive.specs.Goings.{HasReached, Goes, Fills, DeedMade, IsCalm}
 use Rattle.sc_thread_drive.specs.Storming.{IsStormLine}
@@ -99,8 +99,8 @@ module _ {A M O : Type 0} {g : Ghosts A M O} {h : MailGhosts M} where
         }
 
     -- a step whose row passes the limit
-    pub storms_full : DeedMade line net ss next after (Err Full) → Fills net ss score (Storms step ∷ []) next
-    storms_full full = λ words births lines rest at.
+    pub storms_full : (bytes : ℕ) → DeedMade line net ss next after (Err (JournalFull bytes)) → Fills net ss score (Storms step ∷ []) next
+    storms_full bytes full = λ words births lines rest at.
         let s = system g.table h.receiver words births in
         let t = full words births at.company in
         let row = t.0.0 in

@@ -22,23 +22,24 @@ use Rattle.sc_thread_workers.specs.Crews.{AreStill, IsCrew}
 use Rattle.sc_thread_workers.specs.Ends.{IsGathered}
 use Rattle.sc_thread_workers.proofs.Crews.{stays_same}
 use Rattle.sc_thread_drive.specs.declared.company.Company.{Company}
-use Rattle.sc_thread_drive.specs.declared.company.Stop.{Stop}
-use Rattle.sc_thread_drive.specs.declared.company.Stop.TheVariants.{Full, OutOfMemory}
+use Rattle.sc_thread_ledger.specs.declared.errors.PostError.{PostError}
+use Rattle.sc_thread_ledger.specs.declared.errors.PostError.TheVariants.{JournalFull, OutOfMemory}
+use Rattle.sc_thread_drive.specs.Acts.{HasHalted}
 use Rattle.sc_thread_drive.specs.Changing.{Changes}
 use Rattle.sc_thread_drive.specs.Goings.{IsOn}
 use Rattle.sc_thread_drive.specs.Rows.{row_made}
 use Rattle.sc_thread_drive.specs.Stepping.{IsNowhere, IsPlace, unless_crashed}
-use Rattle.sc_thread_drive.specs.Working.{ActedByTurn, ActedOnEvent, AreTogether, HasFound, HasRested, MayTakeEvent, NetworkActed, NetworkActs, RowEnds}
-use Rattle.sc_thread_drive.proofs.ActorRows.{happens_nowhere, happens_did, happens_full, happens_spent, tells_nowhere, event_answers_did, full_text, halted, delivers_nowhere, delivers_none, delivers_did, delivers_empty, delivers_full, delivers_spent}
+use Rattle.sc_thread_drive.specs.Working.{ActedByTurn, ActedOnEvent, AreTogether, HasFound, HasRested, MayTakeEvent, NetworkActed, RowEnds}
+use Rattle.sc_thread_drive.proofs.ActorRows.{happens_nowhere, happens_did, happens_full, happens_halted, happens_lacks, happens_spent, tells_nowhere, event_answers_did, full_text, halted, delivers_nowhere, delivers_none, delivers_did, delivers_empty, delivers_full, delivers_lacks, delivers_spent, text_lacks}
 use Rattle.sc_thread_drive.proofs.Companies.{company_still}
 use Rattle.sc_thread_drive.proofs.Kept.{on_gathered, on_same, on_then, together_on}
 use Rattle.sc_thread_drive.proofs.NetworkKept.{change_on, stays_looked}
 use Rattle.sc_thread_drive.proofs.NetworkRows.{loses_nowhere, loses_none, loses_so, repeats_unsent, repeats_nowhere, repeats_so}
 
 -- what an error became that went on as it was
-pub same_stop : {T : Type 0} (r : Result T Stop) (stop : Stop) → IsErrAnd r (λ e. e ≡ stop) → r ≡ Err Full → stop ≡ Full
-same_stop (Ok x) stop is e = absurd is
-same_stop (Err s) stop is e = let same : s ≡ Full = cc in sym is ∙ same
+pub same_stop : {T : Type 0} (r : Result T PostError) (stop : PostError) (bytes : ℕ) → IsErrAnd r (λ e. e ≡ stop) → r ≡ Err (JournalFull bytes) → stop ≡ JournalFull bytes
+same_stop (Ok x) stop bytes is e = absurd is
+same_stop (Err s) stop bytes is e = let same : s ≡ JournalFull bytes = cc in sym is ∙ same
 
 module _ {A M O : Type 0} {g : Ghosts A M O} {h : MailGhosts M} where
   -- an event of an actor that has no shell
@@ -48,6 +49,18 @@ module _ {A M O : Type 0} {g : Ghosts A M O} {h : MailGhosts M} where
     row = λ words births company. happens_nowhere words births c.net c.net c.shells.items c.shells.items company who event out;
     score = refl;
   }
+
+  -- an event of an actor that has crashed
+  pub happens_crashed : (c : Company A M O g h) (who place : ℕ) (event : Event O) → AreTogether c → IsPlace c.shells.items who place → HasHalted c.shells.items place true → RowEnds (λ s rows. unless_crashed s rows who event) c c (Ok false)
+  happens_crashed c who place event together is halts = record {
+    on = on_same c.net c.shells.items together;
+    row = λ words births company. happens_halted words births c.net c.net c.shells.items c.shells.items company who place is event halts;
+    score = refl;
+  }
+
+  -- memory ran out before an event of one that has not
+  pub happens_not : (c : Company A M O g h) (who place : ℕ) (event : Event O) → IsPlace c.shells.items who place → HasHalted c.shells.items place false → RowEnds (λ s rows. unless_crashed s rows who event) c c (Err OutOfMemory)
+  happens_not c who place event is runs = λ words births company. happens_lacks words births c.net c.net c.shells.items c.shells.items company who place is event runs
 
   -- a Go of one
   pub goes_out : (c : Company A M O g h) (who : ℕ) → AreTogether c → IsNowhere c.shells.items who → RowEnds (λ s rows. acts s rows who GoEvent) c c (Ok false)
@@ -91,7 +104,7 @@ module _ {A M O : Type 0} {g : Ghosts A M O} {h : MailGhosts M} where
     row = λ words births company. happens_spent words births c.net d.net c.shells.items d.shells.items company who place is event (act.told births company);
     score = act.score;
   }
-  happens_so c d who place event turn.OutOfMemory is act = tt
+  happens_so c d who place event turn.OutOfMemory is act = λ words births company. happens_lacks words births c.net d.net c.shells.items d.shells.items company who place is event (act.told births company)
 
   -- a Go of one that has not crashed
   pub goes_so : (c d : Company A M O g h) (who place : ℕ) (t : Turn) → IsPlace c.shells.items who place → MayTakeEvent who c → ActedOnEvent place GoEvent t c d → RowEnds (λ s rows. acts s rows who GoEvent) c d (row_made t)
@@ -108,7 +121,7 @@ module _ {A M O : Type 0} {g : Ghosts A M O} {h : MailGhosts M} where
   }
   goes_so c d who place turn.Spent is may act =
       absurd (true≢false (sym (halted no_words may.0 c.net d.net c.shells.items d.shells.items may.1 who place is true (act.told may.0 may.1).2) ∙ may.2))
-  goes_so c d who place turn.OutOfMemory is may act = tt
+  goes_so c d who place turn.OutOfMemory is may act = λ words births company. text_lacks words births c.net d.net c.shells.items d.shells.items company who place is GoEvent
 
   -- a turn of an actor at its place
   pub delivers_so : (c d : Company A M O g h) (who place k : ℕ) (t : Turn) → IsPlace c.shells.items who place → ActedByTurn place k t c d → RowEnds (λ s rows. line_row s rows (DeliverLine who k)) c d (row_made t)
@@ -132,27 +145,16 @@ module _ {A M O : Type 0} {g : Ghosts A M O} {h : MailGhosts M} where
     row = λ words births company. delivers_spent words births c.net d.net c.shells.items d.shells.items company who place is k (act.served births company);
     score = act.score;
   }
-  delivers_so c d who place k turn.OutOfMemory is act = tt
+  delivers_so c d who place k turn.OutOfMemory is act = λ words births company. delivers_lacks words births c.net d.net c.shells.items d.shells.items company who place is k (act.served births company)
 
   -- the network did something, and all gathered
-  pub network_acts : (c d : Company A M O g h) (mid : Port M O h) (fate : Fate) (number : ℕ) (result : Result Bool Stop) → IsCrew c.net c.shells.items → Changes fate number c.net mid result
-      → AreStill mid d.net c.shells.items d.shells.items → IsGathered d.net d.shells.items → d.score ≡ c.score → NetworkActs fate number c d result
-  network_acts c d mid fate number (Ok true) crew x still gathered score = record {
-    stands = change_on c.net mid d.net c.shells.items d.shells.items fate number (Ok true) crew x still gathered;
+  pub network_acts : (c d : Company A M O g h) (mid : Port M O h) (fate : Fate) (number : ℕ) (result : Result Bool PostError) → IsCrew c.net c.shells.items → Changes fate number c.net mid result
+      → AreStill mid d.net c.shells.items d.shells.items → IsGathered d.net d.shells.items → d.score ≡ c.score → NetworkActed fate number c d result
+  network_acts c d mid fate number result crew x still gathered score = record {
+    stands = change_on c.net mid d.net c.shells.items d.shells.items fate number result crew x still gathered;
     changes = record { mid = mid; changes = x; still = still; gathered = gathered };
     score = score;
   }
-  network_acts c d mid fate number (Ok false) crew x still gathered score = record {
-    stands = change_on c.net mid d.net c.shells.items d.shells.items fate number (Ok false) crew x still gathered;
-    changes = record { mid = mid; changes = x; still = still; gathered = gathered };
-    score = score;
-  }
-  network_acts c d mid fate number (Err Full) crew x still gathered score = record {
-    stands = change_on c.net mid d.net c.shells.items d.shells.items fate number (Err Full) crew x still gathered;
-    changes = record { mid = mid; changes = x; still = still; gathered = gathered };
-    score = score;
-  }
-  network_acts c d mid fate number (Err OutOfMemory) crew x still gathered score = tt
 
   module _ (c d : Company A M O g h) (first : Port M O h) (looked : Looked c.net first) where
     -- a mail of an actor was lost
@@ -161,18 +163,19 @@ module _ {A M O : Type 0} {g : Ghosts A M O} {h : MailGhosts M} where
       lost_on true act = stays_looked c.net first d.net c.shells.items d.shells.items (Ok true) looked act.stands
       lost_on false act = stays_looked c.net first d.net c.shells.items d.shells.items (Ok false) looked act.stands
 
-      pub loses_row : (result : Result Bool Stop) → NetworkActs Lost number (record c { net = first }) d result → RowEnds (λ s rows. line_row s rows (DropLine who k)) c d result
+      pub loses_row : (result : Result Bool PostError) → NetworkActed Lost number (record c { net = first }) d result → RowEnds (λ s rows. line_row s rows (DropLine who k)) c d result
       loses_row (Ok made) act = let x = act.changes in record {
         on = lost_on made act;
         row = λ words births company. loses_so words births c.net first c.shells.items d.shells.items company looked x.still.len x.still.still x.mid d.net x.still.looked x.gathered x.gathered.rows who k place number at kth (Ok made) x.changes;
         score = act.score;
       }
-      loses_row (Err Full) act = let x = act.changes in record {
-        kept = stays_looked c.net first d.net c.shells.items d.shells.items (Err Full) looked act.stands;
-        row = λ words births company. loses_so words births c.net first c.shells.items d.shells.items company looked x.still.len x.still.still x.mid d.net x.still.looked x.gathered x.gathered.rows who k place number at kth (Err Full) x.changes;
+      loses_row (Err (JournalFull bytes)) act = let x = act.changes in record {
+        kept = stays_looked c.net first d.net c.shells.items d.shells.items (Err (JournalFull bytes)) looked act.stands;
+        row = λ words births company. loses_so words births c.net first c.shells.items d.shells.items company looked x.still.len x.still.still x.mid d.net x.still.looked x.gathered x.gathered.rows who k place number at kth (Err (JournalFull bytes)) x.changes;
         score = act.score;
       }
-      loses_row (Err OutOfMemory) act = tt
+      loses_row (Err OutOfMemory) act = let x = act.changes in
+          λ words births company. loses_so words births c.net first c.shells.items d.shells.items company looked x.still.len x.still.still x.mid d.net x.still.looked x.gathered x.gathered.rows who k place number at kth (Err OutOfMemory) x.changes
 
     -- a mail was repeated
     module _ (who place number : ℕ) (at : IsPlace c.shells.items who place) (receiver : Some who ≡ option_map h.receiver (numbered (mails (seen first)) number)) where
@@ -180,18 +183,19 @@ module _ {A M O : Type 0} {g : Ghosts A M O} {h : MailGhosts M} where
       repeated_on true act = stays_looked c.net first d.net c.shells.items d.shells.items (Ok true) looked act.stands
       repeated_on false act = stays_looked c.net first d.net c.shells.items d.shells.items (Ok false) looked act.stands
 
-      pub repeats_row : (result : Result Bool Stop) → NetworkActs Repeated number (record c { net = first }) d result → RowEnds (λ s rows. line_row s rows (AgainLine number)) c d result
+      pub repeats_row : (result : Result Bool PostError) → NetworkActed Repeated number (record c { net = first }) d result → RowEnds (λ s rows. line_row s rows (AgainLine number)) c d result
       repeats_row (Ok made) act = let x = act.changes in record {
         on = repeated_on made act;
         row = λ words births company. repeats_so words births c.net first c.shells.items d.shells.items company looked x.still.len x.still.still x.mid d.net x.still.looked x.gathered x.gathered.rows who place number at receiver (Ok made) x.changes;
         score = act.score;
       }
-      repeats_row (Err Full) act = let x = act.changes in record {
-        kept = stays_looked c.net first d.net c.shells.items d.shells.items (Err Full) looked act.stands;
-        row = λ words births company. repeats_so words births c.net first c.shells.items d.shells.items company looked x.still.len x.still.still x.mid d.net x.still.looked x.gathered x.gathered.rows who place number at receiver (Err Full) x.changes;
+      repeats_row (Err (JournalFull bytes)) act = let x = act.changes in record {
+        kept = stays_looked c.net first d.net c.shells.items d.shells.items (Err (JournalFull bytes)) looked act.stands;
+        row = λ words births company. repeats_so words births c.net first c.shells.items d.shells.items company looked x.still.len x.still.still x.mid d.net x.still.looked x.gathered x.gathered.rows who place number at receiver (Err (JournalFull bytes)) x.changes;
         score = act.score;
       }
-      repeats_row (Err OutOfMemory) act = tt
+      repeats_row (Err OutOfMemory) act = let x = act.changes in
+          λ words births company. repeats_so words births c.net first c.shells.items d.shells.items company looked x.still.len x.still.still x.mid d.net x.still.looked x.gathered x.gathered.rows who place number at receiver (Err OutOfMemory) x.changes
 
     -- the network's port only looked, and all gathered
     module _ (together : AreTogether c) (still : AreStill first d.net c.shells.items d.shells.items) (gathered : IsGathered d.net d.shells.items) (score : d.score ≡ c.score) where

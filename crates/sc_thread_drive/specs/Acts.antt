@@ -14,7 +14,7 @@ use Rattle.sc_thread_ports.specs.exchange.Ports.{seen, Stays, Looked}
 use Rattle.sc_thread_work.specs.declared.shell.shells.Shell.{Shell}
 use Rattle.sc_thread_work.specs.declared.shell.turns.Turn.{Turn}
 use Rattle.sc_thread_work.specs.declared.shell.turns.Turn.TheVariants.{Did, Empty, Full, Spent, OutOfMemory}
-use Rattle.sc_thread_work.specs.shell.Shells.{Happens, Takes, KeepsReplay, state}
+use Rattle.sc_thread_work.specs.shell.Shells.{Finds, Happens, Takes, KeepsReplay, state}
 use Rattle.sc_thread_workers.specs.Crews.{AllSound, Still, IsAhead}
 use Rattle.sc_thread_drive.specs.Companies.{IsCompany}
 
@@ -42,33 +42,33 @@ module _ {A M O : Type 0} {g : Ghosts A M O} {h : MailGhosts M} where
   abbrev pub MetAndHappened : Event O → Turn → Shell A M O g h → Shell A M O g h → Port M O h → Port M O h → Type 0
   MetAndHappened event turn s t net next = MetAndDid (λ met. Happens (state met) (state t) event turn) s t net next
 
-  -- The shell met the port, and then took a turn for its k-th pending mail, with the answer `turn`.
+  -- The shell met the port, and then took a turn for its k-th pending mail, with the answer `turn`; memory ran out only where it found such a mail.
   abbrev pub MetAndTook : ℕ → Turn → Shell A M O g h → Shell A M O g h → Port M O h → Port M O h → Type 0
-  MetAndTook k turn s t net next = MetAndDid (λ met. Takes (state met) (state t) k turn) s t net next
+  MetAndTook k turn s t net next = MetAndDid (λ met. Takes (state met) (state t) k turn × (turn ≡ OutOfMemory → Finds met.port t.port k)) s t net next
 
   -- Whether the shell at this place has posted a Crash is `halted`.
   abbrev pub HasHalted : List (Shell A M O g h) → ℕ → Bool → Type 0
   HasHalted ss place halted = (d : Shell A M O g h) → (slice_index_or ss place d).port.crashed ≡ halted
 
-  -- What an event of the actor at this place leaves, by the answer: one more row, within the limit; or no row, since it would pass the limit or the actor has crashed.
+  -- What an event of the actor at this place leaves, by the answer: one more row, within the limit; or no row, since it would pass the limit, the actor has crashed, or memory ran out, which it does only where the actor has not crashed.
   abbrev pub AfterEvent : List (Seat A) → ℕ → Event O → Port M O h → Port M O h → List (Shell A M O g h) → List (Shell A M O g h) → Turn → Type 0
   AfterEvent births place event net next ss after (Did at) = IsCompany births next after × RowAdded g.table births place event net next × (journal_bytes h.weighs (seen next) ≤ net.limit) × HasHalted ss place false
   AfterEvent births place event net next ss after (Full bytes) = (seen next ≡ seen net) × RowPasses g.table births place event net × HasHalted ss place false
   AfterEvent births place event net next ss after Spent = IsCompany births next after × (seen next ≡ seen net) × HasHalted ss place true
   AfterEvent births place event net next ss after (Empty told) = ⊥
-  AfterEvent births place event net next ss after OutOfMemory = ⊤
+  AfterEvent births place event net next ss after OutOfMemory = HasHalted ss place false
 
   -- The k-th pending mail of the actor at this place has this number.
   abbrev pub KthIs : List (Shell A M O g h) → ℕ → ℕ → Port M O h → ℕ → Type 0
   KthIs ss place k net number = (d : Shell A M O g h) → kth_pending h.receiver net.actors (seen net) (slice_index_or ss place d).port.who k ≡ Some number
 
-  -- What a turn of the actor at this place leaves, by the answer: one more row, that of the delivery of the k-th pending mail; or no row, since it would pass the limit, no such mail is pending, or the actor has crashed.
+  -- What a turn of the actor at this place leaves, by the answer: one more row, that of the delivery of the k-th pending mail; or no row, since it would pass the limit, no such mail is pending, the actor has crashed, or memory ran out, which it does only where such a mail is pending.
   abbrev pub AfterTurn : List (Seat A) → ℕ → ℕ → Port M O h → Port M O h → List (Shell A M O g h) → List (Shell A M O g h) → Turn → Type 0
   AfterTurn births place k net next ss after (Did at) = IsCompany births next after × ((number : ℕ) × KthIs ss place k net number × RowAdded g.table births place (Deliver number) net next) × (journal_bytes h.weighs (seen next) ≤ net.limit)
   AfterTurn births place k net next ss after (Full bytes) = (seen next ≡ seen net) × ((number : ℕ) × KthIs ss place k net number × RowPasses g.table births place (Deliver number) net)
   AfterTurn births place k net next ss after (Empty told) = IsCompany births next after × (seen next ≡ seen net) × ((d : Shell A M O g h) → kth_pending h.receiver net.actors (seen net) (slice_index_or ss place d).port.who k ≡ None)
   AfterTurn births place k net next ss after Spent = IsCompany births next after × (seen next ≡ seen net) × HasHalted ss place true
-  AfterTurn births place k net next ss after OutOfMemory = ⊤
+  AfterTurn births place k net next ss after OutOfMemory = (d : Shell A M O g h) → kth_pending h.receiver net.actors (seen net) (slice_index_or ss place d).port.who k ≡ None → ⊥
 
   -- What an event of the actor at this place leaves (`AfterEvent`), for all births of which the shells are those.
   abbrev pub AfterEventAll : ℕ → Event O → Port M O h → Port M O h → List (Shell A M O g h) → List (Shell A M O g h) → Turn → Type 0

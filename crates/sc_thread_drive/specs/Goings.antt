@@ -18,8 +18,8 @@ use Rattle.sc_thread_ports.specs.exchange.Ports.{seen, Stays, IsTrue}
 use Rattle.sc_thread_workers.specs.Crews.{AllOf, AllOver, AllSound, IsCrew, crew_numbers}
 use Rattle.sc_thread_work.specs.declared.shell.shells.Shell.{Shell}
 use Rattle.sc_thread_drive.specs.declared.company.Score.{Score}
-use Rattle.sc_thread_drive.specs.declared.company.Stop.{Stop}
-use Rattle.sc_thread_drive.specs.declared.company.Stop.TheVariants.{Full, OutOfMemory}
+use Rattle.sc_thread_ledger.specs.declared.errors.PostError.{PostError}
+use Rattle.sc_thread_ledger.specs.declared.errors.PostError.TheVariants.{JournalFull, OutOfMemory}
 use Rattle.sc_thread_drive.specs.Numbers.{is_in}
 use Rattle.sc_thread_drive.specs.Companies.{IsCompany, seats}
 use Rattle.sc_thread_drive.specs.Stepping.{Stepped, unless_crashed}
@@ -42,28 +42,28 @@ module _ {A M O : Type 0} {g : Ghosts A M O} {h : MailGhosts M} where
   MayGo who net ss = (births : List (Seat A)) × IsCompany births net ss × (has_crashed (seen net) who ≡ false)
 
   -- The outcome of a step that may make the row `may`, for all words and births: the row is made, or there is none, or it would pass the limit (`Stepped`).
-  abbrev pub MakesSo : (System A M O → List (Row M O) → Option (Row M O)) → Port M O h → List (Shell A M O g h) → Port M O h → List (Shell A M O g h) → Result Bool Stop → Type 0
+  abbrev pub MakesSo : (System A M O → List (Row M O) → Option (Row M O)) → Port M O h → List (Shell A M O g h) → Port M O h → List (Shell A M O g h) → Result Bool PostError → Type 0
   MakesSo may net ss next after step =
       (words : ℕ → ℕ → ℕ × ℕ) (births : List (Seat A)) → IsCompany births net ss → Stepped (system g.table h.receiver words births) (may (system g.table h.receiver words births) (seen net)) net next after step
 
   -- The outcome of a step that may make the row of this line.
-  abbrev pub LineMade : Line O → Port M O h → List (Shell A M O g h) → Port M O h → List (Shell A M O g h) → Result Bool Stop → Type 0
+  abbrev pub LineMade : Line O → Port M O h → List (Shell A M O g h) → Port M O h → List (Shell A M O g h) → Result Bool PostError → Type 0
   LineMade line = MakesSo (λ s rows. line_row s rows line)
 
   -- The outcome of a step that may make the row of this line, if there is a line.
-  abbrev pub DeedMade : Option (Line O) → Port M O h → List (Shell A M O g h) → Port M O h → List (Shell A M O g h) → Result Bool Stop → Type 0
+  abbrev pub DeedMade : Option (Line O) → Port M O h → List (Shell A M O g h) → Port M O h → List (Shell A M O g h) → Result Bool PostError → Type 0
   DeedMade line = MakesSo (λ s rows. option_and_then (line_row s rows) line)
 
   -- The outcome of a step that may make the row of this event of the actor, unless it has crashed.
-  abbrev pub EventMade : ℕ → Event O → Port M O h → List (Shell A M O g h) → Port M O h → List (Shell A M O g h) → Result Bool Stop → Type 0
+  abbrev pub EventMade : ℕ → Event O → Port M O h → List (Shell A M O g h) → Port M O h → List (Shell A M O g h) → Result Bool PostError → Type 0
   EventMade who event = MakesSo (λ s rows. unless_crashed s rows who event)
 
   -- The outcome of a step that may make the row of the actor's Go.
-  abbrev pub GoMade : ℕ → Port M O h → List (Shell A M O g h) → Port M O h → List (Shell A M O g h) → Result Bool Stop → Type 0
+  abbrev pub GoMade : ℕ → Port M O h → List (Shell A M O g h) → Port M O h → List (Shell A M O g h) → Result Bool PostError → Type 0
   GoMade who = MakesSo (λ s rows. acts s rows who GoEvent)
 
   -- The outcome of a line of one row, where the score has the actors that have a Go row.
-  abbrev pub StepsSo : Line O → Port M O h → List (Shell A M O g h) → Score → Port M O h → List (Shell A M O g h) → Result Bool Stop → Type 0
+  abbrev pub StepsSo : Line O → Port M O h → List (Shell A M O g h) → Score → Port M O h → List (Shell A M O g h) → Result Bool PostError → Type 0
   StepsSo line net ss score next after step =
       (words : ℕ → ℕ → ℕ × ℕ) (births : List (Seat A)) → IsCompany births net ss → ((who : ℕ) → has_started (seen net) who ≡ is_in who score.started.items) → Stepped (system g.table h.receiver words births) (line_row (system g.table h.receiver words births) (seen net) line) net next after step
 
@@ -105,10 +105,10 @@ module _ {A M O : Type 0} {g : Ghosts A M O} {h : MailGhosts M} where
     pub rows : IsTrue net
 
   -- What is left of the exchange after a line of one row, by the outcome; nothing is said where memory ran out.
-  abbrev pub StaysSo : Result Bool Stop → Port M O h → List (Shell A M O g h) → Port M O h → List (Shell A M O g h) → Type 0
+  abbrev pub StaysSo : Result Bool PostError → Port M O h → List (Shell A M O g h) → Port M O h → List (Shell A M O g h) → Type 0
   StaysSo (Ok true) net ss next after = IsOn net ss next after
   StaysSo (Ok false) net ss next after = IsOn net ss next after
-  StaysSo (Err Full) net ss next after = IsKept net ss next after
+  StaysSo (Err (JournalFull bytes)) net ss next after = IsKept net ss next after
   StaysSo (Err OutOfMemory) net ss next after = ⊤
 
   -- The schedule has ended: the journal is lawful, whole and within the limit; `cut`, `skips` and `quiet` are right (whether a line was cut off, how many lines were skipped, whether no mail is pending); and each actor is the replay of its rows.

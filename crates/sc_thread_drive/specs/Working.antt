@@ -15,8 +15,8 @@ use Rattle.sc_thread_ports.specs.exchange.Ports.{seen}
 use Rattle.sc_thread_ports.specs.declared.exchange.fates.Fate.{Fate}
 use Rattle.sc_thread_work.specs.declared.shell.turns.Turn.{Turn}
 use Rattle.sc_thread_drive.specs.declared.company.Company.{Company}
-use Rattle.sc_thread_drive.specs.declared.company.Stop.{Stop}
-use Rattle.sc_thread_drive.specs.declared.company.Stop.TheVariants.{Full, OutOfMemory}
+use Rattle.sc_thread_ledger.specs.declared.errors.PostError.{PostError}
+use Rattle.sc_thread_ledger.specs.declared.errors.PostError.TheVariants.{JournalFull, OutOfMemory}
 use Rattle.sc_thread_drive.specs.Acts.{IsEventAnswer, AfterTurnAll, SoundAfter, AfterEventAll}
 use Rattle.sc_thread_drive.specs.Changing.{ChangesAll}
 use Rattle.sc_thread_drive.specs.Companies.{AtBirth, IsCompany}
@@ -54,16 +54,16 @@ module _ {A M O : Type 0} {g : Ghosts A M O} {h : MailGhosts M} where
     pub score : d.score ≡ c.score
 
   -- The row `may` would pass the limit, and was not made. The score is as before.
-  pub record RowRefused (may : System A M O → List (Row M O) → Option (Row M O)) (c d : Company A M O g h) : Type 0 where
+  pub record RowRefused (may : System A M O → List (Row M O) → Option (Row M O)) (bytes : ℕ) (c d : Company A M O g h) : Type 0 where
     pub kept : StaysWhole c d
-    pub row : MakesSo may c.net c.shells.items d.net d.shells.items (Err Full)
+    pub row : MakesSo may c.net c.shells.items d.net d.shells.items (Err (JournalFull bytes))
     pub score : d.score ≡ c.score
 
-  -- The outcome of a step that may make the row `may`; where memory ran out nothing is said.
-  abbrev pub RowEnds : (System A M O → List (Row M O) → Option (Row M O)) → Company A M O g h → Company A M O g h → Result Bool Stop → Type 0
+  -- The outcome of a step that may make the row `may`; memory runs out only where there is such a row.
+  abbrev pub RowEnds : (System A M O → List (Row M O) → Option (Row M O)) → Company A M O g h → Company A M O g h → Result Bool PostError → Type 0
   RowEnds may c d (Ok made) = RowEnded may c d made
-  RowEnds may c d (Err Full) = RowRefused may c d
-  RowEnds may c d (Err OutOfMemory) = ⊤
+  RowEnds may c d (Err (JournalFull bytes)) = RowRefused may bytes c d
+  RowEnds may c d (Err OutOfMemory) = MakesSo may c.net c.shells.items d.net d.shells.items (Err OutOfMemory)
 
   -- The driver went on from the tasks `tasks` to the tasks `left`.
   pub record LineEnded (tasks left : List (Task O)) (c d : Company A M O g h) : Type 0 where
@@ -91,16 +91,10 @@ module _ {A M O : Type 0} {g : Ghosts A M O} {h : MailGhosts M} where
     pub score : d.score ≡ c.score
 
   -- The network's port lost or repeated the mail, or not, by the result, and all gathered.
-  pub record NetworkActed (fate : Fate) (number : ℕ) (c d : Company A M O g h) (result : Result Bool Stop) : Type 0 where
+  pub record NetworkActed (fate : Fate) (number : ℕ) (c d : Company A M O g h) (result : Result Bool PostError) : Type 0 where
     pub stands : StaysSo result c.net c.shells.items d.net d.shells.items
     pub changes : ChangesAll fate number c.net d.net c.shells.items d.shells.items result
     pub score : d.score ≡ c.score
-
-  -- What the network's port did to the mail (`NetworkActed`), unless memory ran out.
-  abbrev pub NetworkActs : Fate → ℕ → Company A M O g h → Company A M O g h → Result Bool Stop → Type 0
-  NetworkActs fate number c d (Ok made) = NetworkActed fate number c d (Ok made)
-  NetworkActs fate number c d (Err Full) = NetworkActed fate number c d (Err Full)
-  NetworkActs fate number c d (Err OutOfMemory) = ⊤
 
   -- All gathered once more, and no row was made.
   pub record HasRested (c d : Company A M O g h) : Type 0 where

@@ -7,8 +7,10 @@ ghost use Rattle.sc_thread_drive.specs.Stepping.{IsPlace, IsNowhere, unless_cras
 ghost use Rattle.sc_thread_drive.specs.Working.{AreTogether, MayTakeEvent, RowEnds};
 
 use crate::acts::{act_by_turn, act_on_event};
-use crate::company::{Company, Stop, row_made};
+use crate::company::{Company, row_made};
 use sc_actor::{Actor, Event, Gate, Line};
+use sc_base::Dup;
+use sc_thread_ports::PostError;
 use sc_thread_work::Shell;
 use std::alloc::Global;
 use std::sync::Wait;
@@ -34,7 +36,7 @@ pub(crate) fn happen<A: Actor, R: Wait>(
     company: &mut Company<A>,
     who: u32,
     event: Event<A::Order>,
-) -> Result<bool, Stop>
+) -> Result<bool, PostError>
     requires together { AreTogether company.old }
     requires event { MayHappen event }
     ensures { RowEnds (λ s rows. unless_crashed s rows who event) company.old company.new result }
@@ -42,7 +44,33 @@ pub(crate) fn happen<A: Actor, R: Wait>(
     let Some(place) = place_of(company.shells.as_slice(), who) else {
         return Ok(false);
     };
-    let turn = act_on_event(rt, alloc, company, place, event)?;
+    let turn = act_on_event(rt, alloc, company, place, event);
+    row_made(turn)
+}
+
+/// Lets an order be given to an actor, unless it has crashed or has no shell. Returns whether a row
+/// was made.
+pub(crate) fn tell<A: Actor, R: Wait>(
+    rt: &R,
+    alloc: Global,
+    company: &mut Company<A>,
+    who: u32,
+    order: &A::Order,
+) -> Result<bool, PostError>
+    requires together { AreTogether company.old }
+    ensures { RowEnds (λ s rows. unless_crashed s rows who (Event.Told order.now))
+        company.old company.new result }
+{
+    let Some(place) = place_of(company.shells.as_slice(), who) else {
+        return Ok(false);
+    };
+    if company.shells[place].has_crashed() {
+        return Ok(false);
+    }
+    let Ok(order) = order.dup(alloc) else {
+        return Err(PostError::OutOfMemory);
+    };
+    let turn = act_on_event(rt, alloc, company, place, Event::Told(order));
     row_made(turn)
 }
 
@@ -52,7 +80,7 @@ pub(crate) fn go<A: Actor, R: Wait>(
     alloc: Global,
     company: &mut Company<A>,
     who: u32,
-) -> Result<bool, Stop>
+) -> Result<bool, PostError>
     requires together { AreTogether company.old }
     requires runs { MayTakeEvent who company.old }
     ensures { RowEnds (λ s rows. acts s rows who Event.Go) company.old company.new result }
@@ -60,7 +88,7 @@ pub(crate) fn go<A: Actor, R: Wait>(
     let Some(place) = place_of(company.shells.as_slice(), who) else {
         return Ok(false);
     };
-    let turn = act_on_event(rt, alloc, company, place, Event::Go)?;
+    let turn = act_on_event(rt, alloc, company, place, Event::Go);
     row_made(turn)
 }
 
@@ -72,7 +100,7 @@ pub(crate) fn deliver<A: Actor, G: Gate, R: Wait>(
     who: u32,
     k: u32,
     gate: &G,
-) -> Result<bool, Stop>
+) -> Result<bool, PostError>
     requires together { AreTogether company.old }
     ensures { RowEnds (λ s rows. line_row s rows (Line.Deliver who k))
         company.old company.new result }
@@ -83,6 +111,6 @@ pub(crate) fn deliver<A: Actor, G: Gate, R: Wait>(
     let Some(place) = place_of(company.shells.as_slice(), who) else {
         return Ok(false);
     };
-    let (turn, _) = act_by_turn(rt, alloc, company, place, k, gate)?;
+    let (turn, _) = act_by_turn(rt, alloc, company, place, k, gate);
     row_made(turn)
 }

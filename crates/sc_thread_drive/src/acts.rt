@@ -1,5 +1,5 @@
 //! An event or a turn of one actor, where all gather before and after it.
-ghost use Rattle.std.specs.Prelude.{◌<◌, length, IfOk};
+ghost use Rattle.std.specs.Prelude.{◌<◌, length};
 ghost use Rattle.sc_thread_ports.specs.exchange.Ports.{SameExchange};
 ghost use Rattle.sc_thread_work.specs.shell.Answers.{MayHappen};
 ghost use Rattle.sc_thread_work.specs.shell.Shells.{port_of};
@@ -10,7 +10,6 @@ ghost use Rattle.sc_thread_drive.specs.Working.{ActedByTurn, ActedOnEvent, AreTo
 use crate::company::Company;
 use crate::gathering::gather_after;
 use sc_actor::{Actor, Event, Gate};
-use sc_base::OutOfMemory;
 use sc_thread_ports::Port;
 use sc_thread_work::{Shell, Turn};
 use std::alloc::Global;
@@ -22,13 +21,13 @@ fn meet_then_event<A: Actor, R: Wait>(
     net: &mut Port<A::Mail, A::Order>,
     shell: &mut Shell<A>,
     event: Event<A::Order>,
-) -> Result<Turn, OutOfMemory>
+) -> Turn
     requires exchange { SameExchange (port_of shell.old) net.old }
     requires event { MayHappen event }
-    ensures { IfOk result (λ turn. MetAndHappened event turn shell.old shell.new net.old net.new) }
+    ensures { MetAndHappened event result shell.old shell.new net.old net.new }
 {
-    shell.meet(rt, net)?;
-    Ok(shell.event(rt, alloc, event))
+    shell.meet(rt, net).unwrap();
+    shell.event(rt, alloc, event)
 }
 
 fn meet_then_turn<A: Actor, G: Gate, R: Wait>(
@@ -38,13 +37,13 @@ fn meet_then_turn<A: Actor, G: Gate, R: Wait>(
     shell: &mut Shell<A>,
     k: u32,
     gate: &G,
-) -> Result<Turn, OutOfMemory>
+) -> Turn
     requires exchange { SameExchange (port_of shell.old) net.old }
     requires first { 0 < k }
-    ensures { IfOk result (λ turn. MetAndTook k turn shell.old shell.new net.old net.new) }
+    ensures { MetAndTook k result shell.old shell.new net.old net.new }
 {
-    shell.meet(rt, net)?;
-    Ok(shell.turn(rt, alloc, k, gate))
+    shell.meet(rt, net).unwrap();
+    shell.turn(rt, alloc, k, gate)
 }
 
 /// Lets an event happen to the actor at a place, and then all gather.
@@ -54,11 +53,11 @@ pub(crate) fn act_on_event<A: Actor, R: Wait>(
     company: &mut Company<A>,
     place: usize,
     event: Event<A::Order>,
-) -> Result<Turn, OutOfMemory>
+) -> Turn
     requires together { AreTogether company.old }
     requires inside { place < length company.old.shells.items }
     requires event { MayHappen event }
-    ensures { IfOk result (λ turn. ActedOnEvent place event turn company.old company.new) }
+    ensures { ActedOnEvent place event result company.old company.new }
 {
     let turn = meet_then_event(
         rt,
@@ -66,9 +65,9 @@ pub(crate) fn act_on_event<A: Actor, R: Wait>(
         &mut company.net,
         &mut company.shells[place],
         event,
-    )?;
-    let _ = gather_after(rt, &mut company.net, &mut company.shells, place)?;
-    Ok(turn)
+    );
+    let _ = gather_after(rt, &mut company.net, &mut company.shells, place);
+    turn
 }
 
 /// Lets the actor at a place take a turn for its k-th pending mail, and then all gather. Returns
@@ -80,12 +79,12 @@ pub(crate) fn act_by_turn<A: Actor, G: Gate, R: Wait>(
     place: usize,
     k: u32,
     gate: &G,
-) -> Result<(Turn, Option<u32>), OutOfMemory>
+) -> (Turn, Option<u32>)
     requires together { AreTogether company.old }
     requires inside { place < length company.old.shells.items }
     requires first { 0 < k }
-    ensures found { IfOk result (λ served. IsFirst company.new.net served.1) }
-    ensures served { IfOk result (λ served. ActedByTurn place k served.0 company.old company.new) }
+    ensures found { IsFirst company.new.net result.1 }
+    ensures served { ActedByTurn place k result.0 company.old company.new }
 {
     let turn = meet_then_turn(
         rt,
@@ -94,7 +93,7 @@ pub(crate) fn act_by_turn<A: Actor, G: Gate, R: Wait>(
         &mut company.shells[place],
         k,
         gate,
-    )?;
-    let found = gather_after(rt, &mut company.net, &mut company.shells, place)?;
-    Ok((turn, found))
+    );
+    let found = gather_after(rt, &mut company.net, &mut company.shells, place);
+    (turn, found)
 }

@@ -1,10 +1,8 @@
 //! A company: the network's port, the shells of all actors, and what the walk has counted.
 ghost use Rattle.std.specs.Prelude.{◌≡◌};
-ghost use Rattle.sc_thread_drive.specs.Rows.{row_made, stop_by};
-ghost use Rattle.sc_thread_drive.specs.declared.company.Stop.TheVariants.{OutOfMemory as NoRoom};
+ghost use Rattle.sc_thread_drive.specs.Rows.{row_made};
 
 use sc_actor::Actor;
-use sc_base::OutOfMemory;
 use sc_thread_ports::{Port, PostError};
 use sc_thread_work::{Shell, Turn};
 
@@ -30,42 +28,14 @@ pub struct Company<A: Actor> {
     pub score: Score,
 }
 
-/// Why a schedule stops before its end.
-#[derive(Clone, Copy, Debug, PartialEq, Eq)]
-pub enum Stop {
-    /// The next row would pass the limit.
-    Full,
-    /// Memory ran out.
-    OutOfMemory,
-}
-
-impl From<OutOfMemory> for Stop {
-    ghost from_gives = { λ _ stop. stop ≡ NoRoom };
-
-    fn from(_error: OutOfMemory) -> Stop {
-        Stop::OutOfMemory
-    }
-}
-
-impl From<PostError> for Stop {
-    ghost from_gives = { λ error stop. stop ≡ stop_by error };
-
-    fn from(error: PostError) -> Stop {
-        match error {
-            PostError::JournalFull { .. } => Stop::Full,
-            PostError::OutOfMemory => Stop::OutOfMemory,
-        }
-    }
-}
-
 /// Returns whether a turn made a row, or why the schedule stops at it.
-pub(crate) fn row_made(turn: Turn) -> Result<bool, Stop>
+pub(crate) fn row_made(turn: Turn) -> Result<bool, PostError>
     ensures { result ≡ row_made turn }
 {
     match turn {
         Turn::Did { .. } => Ok(true),
         Turn::Empty { .. } | Turn::Spent => Ok(false),
-        Turn::Full { .. } => Err(Stop::Full),
-        Turn::OutOfMemory => Err(Stop::OutOfMemory),
+        Turn::Full { bytes } => Err(PostError::JournalFull { bytes }),
+        Turn::OutOfMemory => Err(PostError::OutOfMemory),
     }
 }

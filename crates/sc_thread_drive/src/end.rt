@@ -1,5 +1,5 @@
 //! The end of an exchange.
-ghost use Rattle.std.specs.Prelude.{◌≡◌, [], map, IfOk};
+ghost use Rattle.std.specs.Prelude.{◌≡◌, [], map, IfOk, IsOk};
 ghost use Rattle.sc_thread_ports.specs.exchange.Ports.{seen, given, joined_ports, HasJoined, SameExchange, IsTrue};
 ghost use Rattle.sc_thread_workers.specs.Crews.{AllOf, AllOver, crew_numbers};
 ghost use Rattle.sc_thread_work.specs.shell.Shells.{actor_of, port_of};
@@ -39,6 +39,7 @@ fn close_ports<A: Actor, R: Wait>(
     requires rows { IsTrue net }
     ensures journal { IfOk result (λ left. left.0 ≡ seen net) }
     ensures actors { IfOk result (λ left. left.1 ≡ map actor_of shells.items) }
+    ensures none { shells.items ≡ [] → IsOk result }
 {
     let mut all = net;
     let mut actors = Sequence::new(alloc);
@@ -67,6 +68,7 @@ pub fn close<A: Actor, R: Wait>(
     requires rows { IsTrue company.net }
     ensures journal { IfOk result (λ left. left.0 ≡ seen company.net) }
     ensures actors { IfOk result (λ left. left.1 ≡ map actor_of company.shells.items) }
+    ensures none { company.shells.items ≡ [] → IsOk result }
 {
     close_ports(rt, alloc, company.net, company.shells)
 }

@@ -1,11 +1,13 @@
 //! A `free` line: many deliveries by many workers.
-ghost use Rattle.std.specs.Prelude.{[], ◌∷◌, OnOk, IsErrOf};
+ghost use Rattle.std.specs.Prelude.{[], ◌∷◌, OnOk};
 ghost use Rattle.sc_actor.specs.Walk.{Frees};
+ghost use Rattle.sc_thread_drive.specs.Rows.{OnFull};
 ghost use Rattle.sc_thread_drive.specs.Working.{AreTogether, LineEnded, LineRefused};
 
-use crate::company::{Company, Stop};
+use crate::company::Company;
 use crate::ways::freed;
 use sc_actor::{Actor, Gate};
+use sc_thread_ports::PostError;
 use sc_thread_workers::{Rounds, Way, gather};
 use std::alloc::Global;
 use std::sync::Wait;
@@ -21,23 +23,23 @@ pub(crate) fn run_free<A: Actor, G: Gate, R: Threads + Wait + Sync>(
     most: u32,
     workers: u32,
     gate: &G,
-) -> Result<(), Stop>
+) -> Result<(), PostError>
     requires together { AreTogether company.old }
     ensures goes { OnOk result (LineEnded (Frees most ∷ []) [] company.old company.new) }
-    ensures fills { IsErrOf result Stop.Full →
-        LineRefused (Frees most ∷ []) company.old company.new }
+    ensures fills { OnFull result
+        (LineRefused (Frees most ∷ []) company.old company.new) }
 {
     let crew = workers.max(1).min(16);
     let Company { net, shells, score } = company;
     let end = freed(rt, alloc, way, net, shells, crew, most, gate)?;
-    let _ = gather(rt, net, shells)?;
+    let _ = gather(rt, net, shells);
     match end {
         Rounds::Quiet { .. } => Ok(()),
         Rounds::Limit { .. } => {
             score.unsettled = true;
             Ok(())
         }
-        Rounds::Full { .. } => Err(Stop::Full),
-        Rounds::OutOfMemory => Err(Stop::OutOfMemory),
+        Rounds::Full { bytes } => Err(PostError::JournalFull { bytes }),
+        Rounds::OutOfMemory => Err(PostError::OutOfMemory),
     }
 }

@@ -1,13 +1,12 @@
 //! Gathering of all shells: they meet the network's port and vouch for what it has seen. Here only
 //! one of them has acted, or none.
-ghost use Rattle.std.specs.Prelude.{◌<◌, length, IfOk, OnOk};
+ghost use Rattle.std.specs.Prelude.{◌<◌, length};
 ghost use Rattle.sc_thread_ports.specs.exchange.Ports.{IsTrue, IsAddressed};
 ghost use Rattle.sc_thread_workers.specs.Crews.{AllMet, AllOf, AreStill};
 ghost use Rattle.sc_thread_workers.specs.Ends.{IsFirst, IsGathered};
 ghost use Rattle.sc_thread_drive.specs.Gatherings.{OthersMet};
 
 use sc_actor::Actor;
-use sc_base::OutOfMemory;
 use sc_thread_ports::Port;
 use sc_thread_work::Shell;
 use sc_thread_workers::{meet_one, vouch};
@@ -21,18 +20,18 @@ pub(crate) fn gather_after<A: Actor, R: Wait>(
     net: &mut Port<A::Mail, A::Order>,
     shells: &mut Vec<Shell<A>>,
     place: usize,
-) -> Result<Option<u32>, OutOfMemory>
+) -> Option<u32>
     requires exchange { AllOf net.old shells.old.items }
     requires inside { place < length shells.old.items }
     requires others { OthersMet place net.old shells.old.items }
     ensures still { AreStill net.old net.new shells.old.items shells.new.items }
-    ensures gathered { OnOk result (IsGathered net.new shells.new.items) }
-    ensures found { IfOk result (λ found. IsFirst net.new found) }
+    ensures gathered { IsGathered net.new shells.new.items }
+    ensures found { IsFirst net.new result }
 {
-    meet_one(rt, net, &mut shells[place])?;
+    meet_one(rt, net, &mut shells[place]);
     let found = net.first_receiver(rt);
     vouch(net, shells);
-    Ok(found)
+    found
 }
 
 /// Lets all shells gather, where each has seen only what the port has seen and the port's rows are

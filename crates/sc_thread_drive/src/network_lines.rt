@@ -3,12 +3,12 @@ ghost use Rattle.std.specs.Prelude.{◌≡◌};
 ghost use Rattle.sc_actor.specs.Walk.{line_row};
 ghost use Rattle.sc_thread_workers.specs.Crews.{IsCrew};
 ghost use Rattle.sc_thread_drive.specs.Changing.{Changes};
-ghost use Rattle.sc_thread_drive.specs.Working.{AreTogether, NetworkActs, RowEnds};
+ghost use Rattle.sc_thread_drive.specs.Working.{AreTogether, NetworkActed, RowEnds};
 
 use crate::actor_lines::place_of;
-use crate::company::{Company, Stop};
+use crate::company::Company;
 use sc_actor::{Actor, Line, Parcel};
-use sc_thread_ports::{Fate, Port};
+use sc_thread_ports::{Fate, Port, PostError};
 use sc_thread_workers::gather;
 use std::sync::Wait;
 
@@ -18,13 +18,13 @@ fn change_one<M: Parcel + Drop, O: Drop, R: Wait>(
     net: &mut Port<M, O>,
     number: u32,
     fate: Fate,
-) -> Result<bool, Stop>
+) -> Result<bool, PostError>
     requires { net.old.who ≡ 0 }
     ensures { Changes fate number net.old net.new result }
 {
     match net.change(rt, number, fate) {
         Ok(made) => Ok(made),
-        Err(unposted) => Err(Stop::from(unposted.why)),
+        Err(unposted) => Err(unposted.why),
     }
 }
 
@@ -34,12 +34,12 @@ fn change<A: Actor, R: Wait>(
     company: &mut Company<A>,
     number: u32,
     fate: Fate,
-) -> Result<bool, Stop>
+) -> Result<bool, PostError>
     requires crew { IsCrew company.old.net company.old.shells.items }
-    ensures { NetworkActs fate number company.old company.new result }
+    ensures { NetworkActed fate number company.old company.new result }
 {
     let made = change_one(rt, &mut company.net, number, fate);
-    let _ = gather(rt, &mut company.net, &mut company.shells)?;
+    let _ = gather(rt, &mut company.net, &mut company.shells);
     made
 }
 
@@ -49,7 +49,7 @@ pub(crate) fn lose<A: Actor, R: Wait>(
     company: &mut Company<A>,
     who: u32,
     k: u32,
-) -> Result<bool, Stop>
+) -> Result<bool, PostError>
     requires together { AreTogether company.old }
     ensures { RowEnds (λ s rows. line_row s rows (Line.Drop who k))
         company.old company.new result }
@@ -61,7 +61,7 @@ pub(crate) fn lose<A: Actor, R: Wait>(
         return Ok(false);
     };
     let Some(number) = company.net.pending(rt, who, k) else {
-        let _ = gather(rt, &mut company.net, &mut company.shells)?;
+        let _ = gather(rt, &mut company.net, &mut company.shells);
         return Ok(false);
     };
     change(rt, company, number, Fate::Lost)
@@ -72,17 +72,17 @@ pub(crate) fn again<A: Actor, R: Wait>(
     rt: &R,
     company: &mut Company<A>,
     number: u32,
-) -> Result<bool, Stop>
+) -> Result<bool, PostError>
     requires together { AreTogether company.old }
     ensures { RowEnds (λ s rows. line_row s rows (Line.Again number))
         company.old company.new result }
 {
     let Some(who) = company.net.receiver(rt, number) else {
-        let _ = gather(rt, &mut company.net, &mut company.shells)?;
+        let _ = gather(rt, &mut company.net, &mut company.shells);
         return Ok(false);
     };
     let Some(_) = place_of(company.shells.as_slice(), who) else {
-        let _ = gather(rt, &mut company.net, &mut company.shells)?;
+        let _ = gather(rt, &mut company.net, &mut company.shells);
         return Ok(false);
     };
     change(rt, company, number, Fate::Repeated)

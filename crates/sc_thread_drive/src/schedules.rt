@@ -1,18 +1,20 @@
 //! A schedule driven to its end.
-ghost use Rattle.std.specs.Prelude.{◌≡◌, ◌≢◌, ℕ, [], List, OnOk, IsErrOf};
+ghost use Rattle.std.specs.Prelude.{◌≡◌, ◌≢◌, ℕ, [], List, OnOk};
 ghost use Rattle.sc_actor.specs.declared.actors.Seat.{Seat};
 ghost use Rattle.sc_actor.specs.declared.schedules.Played.TheVariants.{OutOfMemory};
 ghost use Rattle.sc_actor.specs.Walk.{tasks_of};
 ghost use Rattle.sc_texts.specs.chance.Words.{two_words};
 ghost use Rattle.sc_thread_drive.specs.Goings.{SparesGoers};
+ghost use Rattle.sc_thread_drive.specs.Rows.{OnFull};
 ghost use Rattle.sc_thread_drive.specs.Working.{AreTogether, HasOpened, IsDriven, IsStaffed, LineEnded, LineRefused, MayTakeEvent, StaysWhole};
 
-use crate::company::{Company, Stop};
+use crate::company::Company;
 use crate::free_lines::run_free;
 use crate::settle_lines::{lowest, run_settle};
 use crate::single_lines::{run_go, run_once};
 use crate::storm_lines::run_storm;
 use sc_actor::{Actor, Gate, Line, Played};
+use sc_thread_ports::PostError;
 use sc_thread_workers::{Way, gather};
 use std::alloc::Global;
 use std::sync::Wait;
@@ -26,14 +28,14 @@ fn run_line<A: Actor, G: Gate, R: Threads + Wait + Sync>(
     company: &mut Company<A>,
     line: &Line<A::Order>,
     gate: &G,
-) -> Result<(), Stop>
+) -> Result<(), PostError>
     requires together { AreTogether company.old }
     requires staffed { IsStaffed company.old }
     requires runs { (who : ℕ) → line.now ≡ Line.Go who → MayTakeEvent who company.old }
     ensures goes { OnOk result
         (LineEnded (tasks_of two_words line.now) [] company.old company.new) }
-    ensures fills { IsErrOf result Stop.Full →
-        LineRefused (tasks_of two_words line.now) company.old company.new }
+    ensures fills { OnFull result
+        (LineRefused (tasks_of two_words line.now) company.old company.new) }
 {
     match line {
         Line::Go { who } => run_go(rt, alloc, company, *who),
@@ -64,14 +66,12 @@ pub fn drive<A: Actor, G: Gate, R: Threads + Wait + Sync>(
         IsDriven two_words births lines.now company.old.net.limit company.new result }
 {
     // That the journal is empty is known only once all shells have gathered.
-    let Ok(_) = gather(rt, &mut company.net, &mut company.shells) else {
-        return Played::OutOfMemory;
-    };
+    let _ = gather(rt, &mut company.net, &mut company.shells);
     for line in lines {
         match run_line(rt, alloc, way, company, line, gate) {
             Ok(()) => {}
-            Err(Stop::Full) => return Played::Full,
-            Err(Stop::OutOfMemory) => return Played::OutOfMemory,
+            Err(PostError::JournalFull { .. }) => return Played::Full,
+            Err(PostError::OutOfMemory) => return Played::OutOfMemory,
         }
     }
     let Ok(found) = lowest(rt, company) else {

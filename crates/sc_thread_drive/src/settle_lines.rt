@@ -1,16 +1,18 @@
 //! A `settle` line: many deliveries, each of the lowest-numbered pending mail of all actors.
-ghost use Rattle.std.specs.Prelude.{◌<◌, [], ◌∷◌, IfOk, OnOk, IsErrOf, Some};
+ghost use Rattle.std.specs.Prelude.{◌≡◌, ℕ, ◌<◌, [], ◌∷◌, IfOk, IsOk, OnOk, Some};
 ghost use Rattle.sc_actor.specs.Walk.{Settles};
 ghost use Rattle.sc_thread_workers.specs.Ends.{IsFirst};
 ghost use Rattle.sc_thread_drive.specs.Lowest.{FindsLowest, IsFirstPlaced};
+ghost use Rattle.sc_thread_drive.specs.Rows.{OnFull};
+ghost use Rattle.sc_thread_drive.specs.Stepping.{IsNowhere};
 ghost use Rattle.sc_thread_drive.specs.Working.{AreTogether, HasFound, HasSettledOne, IsStaffed, LineEnded, LineRefused};
 
 use crate::actor_lines::place_of;
 use crate::acts::act_by_turn;
-use crate::company::{Company, Stop};
+use crate::company::Company;
 use sc_actor::{Actor, Gate};
 use sc_base::OutOfMemory;
-use sc_thread_ports::Spot;
+use sc_thread_ports::{PostError, Spot};
 use sc_thread_work::{Shell, Turn};
 use sc_thread_workers::gather;
 use std::alloc::Global;
@@ -38,7 +40,7 @@ fn look_on<A: Actor, R: Wait>(
     ensures { IfOk result (HasFound company.old company.new) }
 {
     let look = company.net.look(rt)?;
-    let _ = gather(rt, &mut company.net, &mut company.shells)?;
+    let _ = gather(rt, &mut company.net, &mut company.shells);
     Ok(first_placed(company.shells.as_slice(), look.pending.as_slice()))
 }
 
@@ -53,7 +55,9 @@ fn placed<A: Actor, R: Wait>(
 ) -> Result<Option<usize>, OutOfMemory>
     requires together { AreTogether company.old }
     requires first { IsFirst company.old.net found }
-    ensures { IfOk result (HasFound company.old company.new) }
+    ensures found { IfOk result (HasFound company.old company.new) }
+    ensures none { ((who : ℕ) → found ≡ Some who → ¬ IsNowhere company.old.shells.items who) →
+        IsOk result }
 {
     let Some(who) = found else {
         return Ok(None);
@@ -73,7 +77,7 @@ pub(crate) fn lowest<A: Actor, R: Wait>(
     requires together { AreTogether company.old }
     ensures { IfOk result (HasFound company.old company.new) }
 {
-    let found = gather(rt, &mut company.net, &mut company.shells)?;
+    let found = gather(rt, &mut company.net, &mut company.shells);
     placed(rt, company, found)
 }
 
@@ -86,24 +90,24 @@ fn settle_step<A: Actor, G: Gate, R: Wait>(
     left: u32,
     place: usize,
     gate: &G,
-) -> Result<Option<usize>, Stop>
+) -> Result<Option<usize>, PostError>
     requires together { AreTogether company.old }
     requires staffed { IsStaffed company.old }
     requires finds { FindsLowest company.old.net company.old.shells.items (Some place) }
     requires left { 0 < left }
     ensures goes { IfOk result (HasSettledOne left company.old company.new) }
-    ensures fills { IsErrOf result Stop.Full →
-        LineRefused (Settles left ∷ []) company.old company.new }
+    ensures fills { OnFull result
+        (LineRefused (Settles left ∷ []) company.old company.new) }
 {
-    let (turn, found) = act_by_turn(rt, alloc, company, place, 1, gate)?;
+    let (turn, found) = act_by_turn(rt, alloc, company, place, 1, gate);
     match turn {
         Turn::Did { .. } => {
             let next = placed(rt, company, found)?;
             Ok(next)
         }
-        Turn::Full { .. } => Err(Stop::Full),
+        Turn::Full { bytes } => Err(PostError::JournalFull { bytes }),
         Turn::Empty { .. } | Turn::Spent => unreachable!(),
-        Turn::OutOfMemory => Err(Stop::OutOfMemory),
+        Turn::OutOfMemory => Err(PostError::OutOfMemory),
     }
 }
 
@@ -115,12 +119,12 @@ pub(crate) fn run_settle<A: Actor, G: Gate, R: Wait>(
     company: &mut Company<A>,
     most: u32,
     gate: &G,
-) -> Result<(), Stop>
+) -> Result<(), PostError>
     requires together { AreTogether company.old }
     requires staffed { IsStaffed company.old }
     ensures goes { OnOk result (LineEnded (Settles most ∷ []) [] company.old company.new) }
-    ensures fills { IsErrOf result Stop.Full →
-        LineRefused (Settles most ∷ []) company.old company.new }
+    ensures fills { OnFull result
+        (LineRefused (Settles most ∷ []) company.old company.new) }
 {
     let mut found = lowest(rt, company)?;
     let mut left = most;

@@ -1,27 +1,29 @@
 //! Lines of one row.
-ghost use Rattle.std.specs.Prelude.{◌≡◌, ◌+◌, [], ◌∷◌, OnOk, IsErrOf};
+ghost use Rattle.std.specs.Prelude.{◌≡◌, ◌+◌, ◌<◌, ◌^◌, [], ◌∷◌, IsOk, OnOk};
 ghost use Rattle.sc_actor.specs.Walk.{Once, line_row};
 ghost use Rattle.sc_thread_drive.specs.Numbers.{is_in};
 ghost use Rattle.sc_thread_drive.specs.Goings.{IsCalm};
+ghost use Rattle.sc_thread_drive.specs.Rows.{OnFull};
 ghost use Rattle.sc_thread_drive.specs.Working.{AreTogether, LineEnded, LineRefused, MayTakeEvent, RowEnds};
 
-use crate::actor_lines::{deliver, go, happen};
-use crate::company::{Company, Score, Stop};
+use crate::actor_lines::{deliver, go, happen, tell};
+use crate::company::{Company, Score};
 use crate::network_lines::{again, lose};
 use sc_actor::{Actor, Event, Gate, Line};
-use sc_base::Dup;
+use sc_thread_ports::PostError;
 use std::alloc::Global;
 use std::sync::Wait;
 
 // Counts one more line that made no row. `Err`: the count would not fit.
-fn skip(score: &mut Score) -> Result<(), Stop>
+fn skip(score: &mut Score) -> Result<(), PostError>
     ensures skipped { OnOk result (score.new.skipped ≡ score.old.skipped + 1) }
     ensures kept { (score.new.unsettled ≡ score.old.unsettled)
         × (score.new.started.items ≡ score.old.started.items) }
-    ensures why { IsErrOf result Stop.Full → ⊥ }
+    ensures why { OnFull result ⊥ }
+    ensures none { score.old.skipped + 1 < 2 ^ 64 → IsOk result }
 {
     let Some(count) = score.skipped.checked_add(1) else {
-        return Err(Stop::OutOfMemory);
+        return Err(PostError::OutOfMemory);
     };
     score.skipped = count;
     Ok(())
@@ -34,7 +36,7 @@ pub(crate) fn step_line<A: Actor, G: Gate, R: Wait>(
     company: &mut Company<A>,
     line: &Line<A::Order>,
     gate: &G,
-) -> Result<bool, Stop>
+) -> Result<bool, PostError>
     requires together { AreTogether company.old }
     requires calm { IsCalm line.now }
     ensures { RowEnds (λ s rows. line_row s rows line.now) company.old company.new result }
@@ -45,10 +47,7 @@ pub(crate) fn step_line<A: Actor, G: Gate, R: Wait>(
         Line::Again { mail } => again(rt, company, *mail),
         Line::Tick { who } => happen(rt, alloc, company, *who, Event::Tick),
         Line::Crash { who } => happen(rt, alloc, company, *who, Event::Crash),
-        Line::Told { who, order } => {
-            let order = order.dup(alloc)?;
-            happen(rt, alloc, company, *who, Event::Told(order))
-        }
+        Line::Told { who, order } => tell(rt, alloc, company, *who, order),
         _ => unreachable!(),
     }
 }
@@ -60,12 +59,12 @@ pub(crate) fn run_once<A: Actor, G: Gate, R: Wait>(
     company: &mut Company<A>,
     line: &Line<A::Order>,
     gate: &G,
-) -> Result<(), Stop>
+) -> Result<(), PostError>
     requires together { AreTogether company.old }
     requires calm { IsCalm line.now }
     ensures goes { OnOk result (LineEnded (Once line.now ∷ []) [] company.old company.new) }
-    ensures fills { IsErrOf result Stop.Full →
-        LineRefused (Once line.now ∷ []) company.old company.new }
+    ensures fills { OnFull result
+        (LineRefused (Once line.now ∷ []) company.old company.new) }
 {
     if step_line(rt, alloc, company, line, gate)? {
         return Ok(());
@@ -87,20 +86,20 @@ pub(crate) fn run_go<A: Actor, R: Wait>(
     alloc: Global,
     company: &mut Company<A>,
     who: u32,
-) -> Result<(), Stop>
+) -> Result<(), PostError>
     requires together { AreTogether company.old }
     requires runs { MayTakeEvent who company.old }
     ensures goes { OnOk result
         (LineEnded (Once (Line.Go who) ∷ []) [] company.old company.new) }
-    ensures fills { IsErrOf result Stop.Full →
-        LineRefused (Once (Line.Go who) ∷ []) company.old company.new }
+    ensures fills { OnFull result
+        (LineRefused (Once (Line.Go who) ∷ []) company.old company.new) }
 {
     if is_listed(company.score.started.as_slice(), who) {
         return skip(&mut company.score);
     }
     if go(rt, alloc, company, who)? {
         let Ok(()) = company.score.started.push(who) else {
-            return Err(Stop::OutOfMemory);
+            return Err(PostError::OutOfMemory);
         };
         return Ok(());
     }

@@ -1,25 +1,28 @@
 //! A `storm` line: steps of one row each, which words draw.
-ghost use Rattle.std.specs.Prelude.{◌≡◌, [], ◌∷◌, option_and_then, IfOk, IfSome, OnOk, IsErrOf};
+ghost use Rattle.std.specs.Prelude.{◌≡◌, [], ◌∷◌, option_and_then, IfOk, IfSome, IsOk, OnOk};
 ghost use Rattle.sc_actor.specs.Walk.{Storms, line_row, storm_steps};
 ghost use Rattle.sc_texts.specs.chance.Words.{two_words, after_step};
 ghost use Rattle.sc_thread_workers.specs.Crews.{crew_numbers};
 ghost use Rattle.sc_thread_drive.specs.Goings.{IsCalm};
 ghost use Rattle.sc_thread_drive.specs.Storming.{IsStormLine};
+ghost use Rattle.sc_thread_drive.specs.Rows.{OnFull};
 ghost use Rattle.sc_thread_drive.specs.Working.{AreTogether, HasRested, LineEnded, LineRefused, RowEnds};
 
-use crate::company::{Company, Stop};
+use crate::company::Company;
 use crate::gathering::gather_again;
 use crate::single_lines::step_line;
 use sc_actor::{Actor, Gate, Line};
 use sc_base::OutOfMemory;
 use sc_thread_pool::{Storm, deed_at, deeds_are_rows_of_the_walk};
+use sc_thread_ports::PostError;
 use sc_thread_work::Shell;
 use std::alloc::Global;
 use std::sync::Wait;
 
 // Returns the numbers of the actors, in the order of their shells.
 fn numbers_of<A: Actor>(alloc: Global, shells: &[Shell<A>]) -> Result<Vec<u32>, OutOfMemory>
-    ensures { IfOk result (λ numbers. numbers.items ≡ crew_numbers shells.now) }
+    ensures numbers { IfOk result (λ numbers. numbers.items ≡ crew_numbers shells.now) }
+    ensures none { shells.now ≡ [] → IsOk result }
 {
     let mut numbers = Vec::new(alloc);
     for shell in shells {
@@ -59,7 +62,7 @@ fn run_deed<A: Actor, G: Gate, R: Wait>(
     company: &mut Company<A>,
     line: Option<Line<A::Order>>,
     gate: &G,
-) -> Result<bool, Stop>
+) -> Result<bool, PostError>
     requires together { AreTogether company.old }
     requires calm { IfSome line IsCalm }
     ensures { RowEnds (λ s rows. option_and_then (line_row s rows) line)
@@ -79,16 +82,16 @@ fn storm_step<A: Actor, G: Gate, R: Wait>(
     storm: &mut Storm,
     actors: &[u32],
     gate: &G,
-) -> Result<(), Stop>
+) -> Result<(), PostError>
     requires together { AreTogether company.old }
     requires actors { actors.now ≡ crew_numbers company.old.shells.items }
     ensures drawn { OnOk result (storm.new ≡ after_step storm.old) }
     ensures goes { OnOk result
         (LineEnded (Storms (two_words storm.old.number storm.old.step) ∷ []) []
         company.old company.new) }
-    ensures fills { IsErrOf result Stop.Full →
-        LineRefused (Storms (two_words storm.old.number storm.old.step) ∷ [])
-        company.old company.new }
+    ensures fills { OnFull result
+        (LineRefused (Storms (two_words storm.old.number storm.old.step) ∷ [])
+        company.old company.new) }
 {
     let line = storm_line(rt, company, storm, actors)?;
     let _ = run_deed(rt, alloc, company, line, gate)?;
@@ -103,12 +106,12 @@ pub(crate) fn run_storm<A: Actor, G: Gate, R: Wait>(
     number: u64,
     most: u32,
     gate: &G,
-) -> Result<(), Stop>
+) -> Result<(), PostError>
     requires together { AreTogether company.old }
     ensures goes { OnOk result
         (LineEnded (storm_steps (two_words number) 0 most) [] company.old company.new) }
-    ensures fills { IsErrOf result Stop.Full →
-        LineRefused (storm_steps (two_words number) 0 most) company.old company.new }
+    ensures fills { OnFull result
+        (LineRefused (storm_steps (two_words number) 0 most) company.old company.new) }
 {
     let actors = numbers_of(alloc, company.shells.as_slice())?;
     let numbers = actors.as_slice();

@@ -1,5 +1,9 @@
 //! Why a row is not appended.
+ghost use Rattle.std.specs.Prelude.{◌≡◌};
+ghost use Rattle.sc_thread_ledger.specs.declared.errors.PostError.TheVariants.{OutOfMemory as NoMemory};
+
 use sc_actor::Row;
+use sc_base::OutOfMemory;
 
 /// Why a row was not appended to a journal.
 #[derive(Debug, PartialEq, Eq, Drop)]
@@ -8,6 +12,14 @@ pub enum PostError {
     JournalFull { bytes: u64 },
     /// There was no memory for the row.
     OutOfMemory,
+}
+
+impl From<OutOfMemory> for PostError {
+    ghost from_gives = { λ _ error. error ≡ NoMemory };
+
+    fn from(_error: OutOfMemory) -> PostError {
+        PostError::OutOfMemory
+    }
 }
 
 /// A row that was not appended, with the cause.

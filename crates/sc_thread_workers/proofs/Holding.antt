@@ -4,9 +4,9 @@ use Rattle.sc_actor.specs.declared.actors.Actor.{Ghosts}
 use Rattle.sc_actor.specs.declared.actors.Parcel.{Ghosts as MailGhosts}
 use Rattle.sc_thread_work.specs.declared.shell.shells.Shell.{Shell}
 use Rattle.sc_thread_work.specs.declared.queue.rule.Item.{Item}
-use Rattle.sc_thread_work.specs.queue.Hands.{weigh, numbered, Kept}
+use Rattle.sc_thread_work.specs.queue.Hands.{weigh, numbered}
 use Rattle.sc_thread_workers.specs.Crews.{crew_numbers}
-use Rattle.sc_thread_workers.specs.Holders.{times, is_of, put_of, queued_of, taken_of, HasOneHolder, HaveOneHolder, PhasesHaveOneHolder}
+use Rattle.sc_thread_workers.specs.Holders.{times, is_of, put_of, queued_of, taken_of, HaveOneHolder, PhasesHaveOneHolder}
 
 -- one of two
 split : (queued taken : ℕ) → taken + queued ≡ 1 → ((queued ≡ 1) × (taken ≡ 0)) ⊎ ((queued ≡ 0) × (taken ≡ 1))

@@ -1,11 +1,15 @@
 -- Shells to which workers have given their turns.
-use Rattle.std.specs.Prelude.{◌≡◌, ℕ, ◌<◌, ◌⊎◌, List, length, map, sum_by, slice_index_or}
+use Rattle.std.specs.Prelude.{◌≡◌, ℕ, ◌+◌, ◌/◌, ◌<◌, ◌⊎◌, Bool, List, length, map, count_by, min, max, sum_by, slice_index_or}
 use Rattle.sc_actor.specs.declared.actors.Actor.{Ghosts}
 use Rattle.sc_actor.specs.declared.actors.Parcel.{Ghosts as MailGhosts}
 use Rattle.sc_thread_ports.specs.exchange.Ports.{made}
 use Rattle.sc_thread_work.specs.declared.shell.shells.Shell.{Shell}
 use Rattle.sc_thread_workers.specs.declared.phases.Served.{Served}
 use Rattle.sc_thread_workers.specs.Crews.{Took, MadeRows}
+
+-- The number of workers of a phase, where these flags say for which shells mail waits: one for every two of them, but two where there are two, at most `workers` and at least one.
+abbrev pub workers_for : List Bool → ℕ → ℕ
+workers_for waits workers = let many = count_by (λ wait. wait) waits in max (min (max ((many + 1) / 2) (min many 2)) workers) 1
 
 module _ {A M O : Type 0} {g : Ghosts A M O} {h : MailGhosts M} where
   -- The shell was given turns, one after the other, until `grant` of them had made a row or one made none. The result has the shell and the number of rows.

@@ -1,5 +1,5 @@
 //! Meetings of the shells with the network's port.
-ghost use Rattle.std.specs.Prelude.{◌≡◌, OnOk, IfOk};
+ghost use Rattle.std.specs.Prelude.{◌≡◌, [], IfOk, IsOk};
 ghost use Rattle.sc_thread_ports.specs.exchange.Ports.{SameExchange};
 ghost use Rattle.sc_thread_work.specs.shell.Shells.{port_of};
 ghost use Rattle.sc_thread_workers.specs.Ends.{IsGathered, IsFirst};
@@ -13,15 +13,11 @@ use std::alloc::Global;
 use std::sync::Wait;
 
 /// Lets the shell and the port exchange what they have seen.
-pub fn meet_one<A: Actor, R: Wait>(
-    rt: &R,
-    net: &mut Port<A::Mail, A::Order>,
-    shell: &mut Shell<A>,
-) -> Result<(), OutOfMemory>
+pub fn meet_one<A: Actor, R: Wait>(rt: &R, net: &mut Port<A::Mail, A::Order>, shell: &mut Shell<A>)
     requires exchange { SameExchange (port_of shell.old) net.old }
     ensures { Met shell.old shell.new net.old net.new }
 {
-    shell.meet(rt, net)
+    shell.meet(rt, net).unwrap();
 }
 
 /// Lets each shell and the port exchange what they have seen.
@@ -29,15 +25,14 @@ pub(crate) fn meet_all<A: Actor, R: Wait>(
     rt: &R,
     net: &mut Port<A::Mail, A::Order>,
     shells: &mut [Shell<A>],
-) -> Result<(), OutOfMemory>
+)
     requires exchange { AllOf net.old shells.old }
     ensures still { AreStill net.old net.new shells.old shells.new }
-    ensures met { OnOk result (HaveMet net.old net.new shells.new) }
+    ensures met { HaveMet net.old net.new shells.new }
 {
     for shell in shells.iter_mut() {
-        meet_one(rt, net, shell)?;
+        meet_one(rt, net, shell);
     }
-    Ok(())
 }
 
 /// Lets each shell of a vector and the port exchange what they have seen.
@@ -45,12 +40,12 @@ pub(crate) fn meet<A: Actor, R: Wait>(
     rt: &R,
     net: &mut Port<A::Mail, A::Order>,
     shells: &mut Vec<Shell<A>>,
-) -> Result<(), OutOfMemory>
+)
     requires exchange { AllOf net.old shells.old.items }
     ensures still { AreStill net.old net.new shells.old.items shells.new.items }
-    ensures met { OnOk result (HaveMet net.old net.new shells.new.items) }
+    ensures met { HaveMet net.old net.new shells.new.items }
 {
-    meet_all(rt, net, shells.as_mut_slice())
+    meet_all(rt, net, shells.as_mut_slice());
 }
 
 fn vouch_one<A: Actor>(net: &mut Port<A::Mail, A::Order>, shell: &mut Shell<A>)
@@ -88,21 +83,21 @@ pub fn vouch<A: Actor>(net: &mut Port<A::Mail, A::Order>, shells: &mut Vec<Shell
 /// network's.
 ///
 /// Afterwards the port has seen all that the shells have, and the rows of each actor there are
-/// those that its shell has made.
+/// those that its shell has made. No memory is taken.
 pub fn gather<A: Actor, R: Wait>(
     rt: &R,
     net: &mut Port<A::Mail, A::Order>,
     shells: &mut Vec<Shell<A>>,
-) -> Result<Option<u32>, OutOfMemory>
+) -> Option<u32>
     requires exchange { AllOf net.old shells.old.items }
     ensures still { AreStill net.old net.new shells.old.items shells.new.items }
-    ensures gathered { OnOk result (IsGathered net.new shells.new.items) }
-    ensures found { IfOk result (λ found. IsFirst net.new found) }
+    ensures gathered { IsGathered net.new shells.new.items }
+    ensures found { IsFirst net.new result }
 {
-    meet(rt, net, shells)?;
+    meet(rt, net, shells);
     let found = net.first_receiver(rt);
     vouch(net, shells);
-    Ok(found)
+    found
 }
 
 /// Returns the numbers of the shells' actors, in the order of the shells.
@@ -110,7 +105,8 @@ pub(crate) fn numbers_of<A: Actor>(
     alloc: Global,
     shells: &[Shell<A>],
 ) -> Result<Vec<u32>, OutOfMemory>
-    ensures { IfOk result (λ whos. whos.items ≡ crew_numbers shells.now) }
+    ensures numbers { IfOk result (λ whos. whos.items ≡ crew_numbers shells.now) }
+    ensures none { shells.now ≡ [] → IsOk result }
 {
     let mut whos = Vec::new(alloc);
     for shell in shells {

@@ -1,9 +1,9 @@
 //! Phases, in which workers take shells from one queue.
-ghost use Rattle.std.specs.Prelude.{◌≡◌, ◌<◌, ◌≤◌, ◌+◌, ◌*◌, ◌/◌, ◌^◌, [], length, count_by, min, max, vec_len, IfOk};
+ghost use Rattle.std.specs.Prelude.{◌≡◌, ◌<◌, ◌≤◌, ◌*◌, ◌/◌, ◌^◌, [], length, min, vec_len, IfOk};
 ghost use Rattle.sc_thread_work.specs.queue.Hands.{IsWorkedOff, known};
 ghost use Rattle.sc_thread_workers.specs.Crews.{AllSound, HasPlayed, crew_numbers};
 ghost use Rattle.sc_thread_workers.specs.Holders.{HaveOneHolder};
-ghost use Rattle.sc_thread_workers.specs.Phases.{IsServed, AllServed, shells_of, rows_of_all};
+ghost use Rattle.sc_thread_workers.specs.Phases.{IsServed, AllServed, shells_of, rows_of_all, workers_for};
 
 use crate::turns::made_row;
 use sc_actor::{Actor, Gate};
@@ -54,6 +54,8 @@ fn serve_all<A: Actor, G: Gate, R: Threads + Wait + Sync>(
     ensures len { IfOk result (λ all. vec_len all.given ≡ vec_len shells) }
     ensures each { IfOk result (λ all. AllServed grant shells.items all.given.items) }
     ensures once { IfOk result (λ all. IsWorkedOff shells.items (known all.holder)) }
+    ensures passes { IfOk result
+        (λ all. 0 < length shells.items → (known all.holder).passes ≡ workers) }
 {
     let all = work_off(
         rt,
@@ -100,12 +102,7 @@ fn grant_of(left: u32, many: usize) -> u32
 // of a phase, so one for each shell with mail takes more time than it saves.
 fn workers_for(waits: &[bool], workers: u32) -> usize
     requires { workers ≤ 16 }
-    ensures value { result
-        ≡ max
-        (min
-        (max ((count_by (λ wait. wait) waits.now + 1) / 2) (min (count_by (λ wait. wait) waits.now) 2))
-        workers)
-        1 }
+    ensures value { result ≡ workers_for waits.now workers }
     ensures most { result ≤ 16 }
 {
     let with_mail = waits.iter().filter(|wait| **wait).count();
@@ -128,7 +125,7 @@ pub(crate) struct PhaseDone<A: Actor> {
 /// with one worker, which has taken it once.
 ///
 /// `waits` says for which of the shells mail waits: there is one worker for every two such shells,
-/// and two where there are two. `Err(AllocError)`: memory ran out, and shells may be lost.
+/// and two where there are two, which the pass shows too. `Err(AllocError)`: memory ran out, and shells may be lost.
 pub(crate) fn phase<A: Actor, G: Gate, R: Threads + Wait + Sync>(
     rt: &R,
     alloc: Global,
@@ -145,6 +142,8 @@ pub(crate) fn phase<A: Actor, G: Gate, R: Threads + Wait + Sync>(
     ensures once { IfOk result (λ p. IsWorkedOff shells.old.items (known p.holder)) }
     ensures holders { IfOk result
         (λ p. HaveOneHolder (crew_numbers shells.old.items) (known p.holder).put) }
+    ensures passes { IfOk result
+        (λ p. (known p.holder).passes ≡ workers_for waits.now workers) }
 {
     let workers = workers_for(waits, workers);
     let grant = grant_of(left, shells.len());

@@ -1,5 +1,5 @@
 //! The driver of rounds and phases.
-ghost use Rattle.std.specs.Prelude.{◌≡◌, ◌<◌, ◌≤◌, ◌+◌, ◌*◌, length, All, None, Some, IfSome, vec_len};
+ghost use Rattle.std.specs.Prelude.{◌≡◌, ◌≢◌, ℕ, ◌<◌, ◌≤◌, ◌+◌, ◌*◌, [], length, All, None, Some, IfSome, vec_len};
 ghost use Rattle.std.specs.Thread.{IsSync};
 ghost use Rattle.sc_thread_work.specs.lend.Offices.{IsHelperOf, IsLenderOf, lent_by};
 ghost use Rattle.sc_thread_workers.specs.Ends.{IsEnd, StepEnd, RefusedEnd, IsGathered, CanBegin, IfCalm, IfHeld, IfKept};
@@ -103,10 +103,9 @@ fn prepare<A: Actor, R: Wait>(
     ensures begin { result ≡ None → CanBegin net.new shells.new.items whos.now × (used < limit) }
     ensures end { IfSome result
         (λ answer. StepEnd answer net.new shells.old.items shells.new.items whos.now limit used) }
+    ensures none { whos.now ≡ [] → result ≢ Some Rounds.OutOfMemory }
 {
-    let Ok(()) = meet(rt, net, shells) else {
-        return Some(Rounds::OutOfMemory);
-    };
+    meet(rt, net, shells);
     let Ok(found) = net.waiting(rt, whos) else {
         return Some(Rounds::OutOfMemory);
     };
@@ -132,13 +131,12 @@ fn ended<A: Actor, R: Wait>(
     requires exchange { AllOf net.old shells.old.items }
     ensures still { AreStill net.old net.new shells.old.items shells.new.items }
     ensures end { RefusedEnd result refused net.new shells.new.items }
+    ensures none { (bytes : ℕ) → refused ≡ Turn.Full bytes → result ≢ Rounds.OutOfMemory }
 {
     let Turn::Full { bytes } = refused else {
         return Rounds::OutOfMemory;
     };
-    let Ok(_) = gather(rt, net, shells) else {
-        return Rounds::OutOfMemory;
-    };
+    let _ = gather(rt, net, shells);
     Rounds::Full { bytes }
 }
 
@@ -184,9 +182,7 @@ fn step<A: Actor, G: Gate, R: Threads + Wait + Sync>(
         StepEnd answer net.new shells.old.items shells.new.items whos.now play.now.limit
         standing.new.used) }
 {
-    let Ok(()) = meet(rt, net, shells) else {
-        return Some(Rounds::OutOfMemory);
-    };
+    meet(rt, net, shells);
     let flags = standing.waits.as_slice();
     let left = play.limit - standing.used;
     let Some(did) = play_round(rt, gate, play, lender, flags, shells, left) else {

@@ -1,5 +1,6 @@
 pub mod Changed
 pub mod Changes
 pub mod Executing
+pub mod KeptTransactions
 pub mod Naming
 pub mod Telling

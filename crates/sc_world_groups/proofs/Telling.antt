@@ -15,3 +15,8 @@ pub told_next : (bases : List Base) (entries : List LogEntry) (i : ℕ) (entry :
 told_next bases entries i entry world within is so_far =
     ap (world_of bases) (take-suc entries i entry within) ∙ ap (λ (e : LogEntry). world_of bases (take i entries ++ e ∷ [])) (sym is)
     ∙ after_append (first_world bases) (take i entries) entry ∙ ap (λ (w : StoreWorld). told w entry) (sym so_far)
+
+-- a world without groups stays as it is
+pub none_told : (entries : List LogEntry) → world_of [] entries ≡ first_world []
+none_told [] = refl
+none_told (entry ∷ entries) = none_told entries

@@ -1,5 +1,5 @@
 //! The groups, each as its own log makes it.
-ghost use Rattle.std.specs.Prelude.{◌≡◌, ◌<◌, ◌++◌, List, length, map, set, slice_get, if◌then◌else◌, Some, None, MatchOption, IfOk, OnOk};
+ghost use Rattle.std.specs.Prelude.{◌≡◌, ◌<◌, ◌++◌, [], List, length, map, set, slice_get, if◌then◌else◌, Some, None, MatchOption, IfOk, IsOk, OnOk};
 ghost use Rattle.std.specs.Option.{option_to_list};
 ghost use Rattle.sc_group_table.specs.machine.Group.{Group, group_of};
 ghost use Rattle.sc_group_table.specs.machine.Machine.{applied};
@@ -15,7 +15,8 @@ use std::alloc::Global;
 
 /// Returns the groups that start with these records.
 pub(crate) fn born(alloc: Global, bases: &[Base]) -> Result<Vec<Machine>, OutOfMemory>
-    ensures { IfOk result (λ groups. groups.items ≡ map group_of bases.now) }
+    ensures groups { IfOk result (λ groups. groups.items ≡ map group_of bases.now) }
+    ensures none { bases.now ≡ [] → IsOk result }
 {
     let mut groups = Vec::new(alloc);
     for base in bases {

@@ -1,7 +1,8 @@
 //! The ring, as a list of cuts.
-ghost use Rattle.std.specs.Prelude.{◌≡◌, ◌++◌, Some, map, not, filter, find, IfOk, OnOk, MatchResult};
+ghost use Rattle.std.specs.Prelude.{◌≡◌, ◌++◌, [], Some, None, map, not, filter, find, IfOk, IsOk, OnOk, MatchResult};
 ghost use Rattle.std.specs.List.{flat_map};
 ghost use Rattle.std.specs.Option.{option_copied};
+ghost use Rattle.sc_meaning.specs.entries.Births.{division_of};
 ghost use Rattle.sc_meaning.specs.entries.Rings.{HaveArcs, first_cut, is_cut_of, arc_in, recut, parts_of, both_arcs, ring_moved, ring_decided, ring_divided, decided_by, ring_after};
 ghost use Rattle.sc_world_groups.specs.declared.errors.EntryError.TheVariants.{NoArc};
 
@@ -15,7 +16,8 @@ use std::alloc::Global;
 
 /// Returns the cut of each group of a scenario.
 pub fn first_cuts(alloc: Global, bases: &[Base]) -> Result<Vec<Cut>, OutOfMemory>
-    ensures { IfOk result (λ ring. ring.items ≡ map first_cut bases.now) }
+    ensures ring { IfOk result (λ ring. ring.items ≡ map first_cut bases.now) }
+    ensures none { bases.now ≡ [] → IsOk result }
 {
     let mut ring = Vec::new(alloc);
     for base in bases {
@@ -202,10 +204,12 @@ pub fn ring_after(
     effect: &Effect,
     ring: Vec<Cut>,
 ) -> Result<Vec<Cut>, EntryError>
-    ensures { MatchResult result
+    ensures ring { MatchResult result
         (λ after. after.items ≡ ring_after core.now command.now effect.now ring.items)
         (λ error. error ≡ NoArc →
         HaveArcs (ring_after core.now command.now effect.now ring.items) → ⊥) }
+    ensures none { decided_by command.now effect.now ≡ None →
+        division_of core.now command.now effect.now ≡ None → IsOk result }
 {
     let outcome = decided_by(command, effect);
     let division = division_of(core, command, effect);

@@ -1,6 +1,6 @@
 //! Cuts while the ring is changed: their arcs may have any length, so that a change needs no test.
 //! The cuts are tested once, when they become the ring.
-ghost use Rattle.std.specs.Prelude.{◌≡◌, ◌++◌, ◌∷◌, [], if◌then◌else◌, IfOk, OnOk, MatchOption, MatchResult};
+ghost use Rattle.std.specs.Prelude.{◌≡◌, ◌++◌, ◌∷◌, [], if◌then◌else◌, IfOk, IsOk, OnOk, MatchOption, MatchResult};
 ghost use Rattle.sc_base.specs.Arc.{IsArc, offset, before, from, joined};
 ghost use Rattle.sc_meaning.specs.entries.Rings.{HaveArcs, is_cut_of};
 ghost use Rattle.sc_world_groups.specs.declared.errors.EntryError.TheVariants.{NoArc};
@@ -127,7 +127,8 @@ impl Span {
 
 /// Returns the cuts of a ring as spans.
 pub(crate) fn spans_of(alloc: Global, ring: &[Cut]) -> Result<Vec<Span>, OutOfMemory>
-    ensures { IfOk result (λ spans. spans.items ≡ ring.now) }
+    ensures spans { IfOk result (λ spans. spans.items ≡ ring.now) }
+    ensures none { ring.now ≡ [] → IsOk result }
 {
     let mut spans = Vec::new(alloc);
     for cut in ring {
@@ -158,8 +159,9 @@ fn add(ring: &mut Vec<Cut>, cut: Cut) -> Result<(), OutOfMemory>
 /// Returns the ring that these spans are. Fails where it runs out of memory, and where a span is no
 /// arc.
 pub(crate) fn cuts_of(alloc: Global, spans: &[Span]) -> Result<Vec<Cut>, EntryError>
-    ensures { MatchResult result (λ ring. ring.items ≡ spans.now)
+    ensures ring { MatchResult result (λ ring. ring.items ≡ spans.now)
         (λ error. error ≡ NoArc → HaveArcs spans.now → ⊥) }
+    ensures none { spans.now ≡ [] → IsOk result }
 {
     let mut ring = Vec::new(alloc);
     for span in spans {

@@ -1,7 +1,8 @@
 //! What the entries of coordinators say of their transactions.
-ghost use Rattle.std.specs.Prelude.{◌≡◌, ◌++◌, ◌∷◌, [], map, if◌then◌else◌, Some, IfOk, OnOk};
+ghost use Rattle.std.specs.Prelude.{◌≡◌, ◌++◌, ◌∷◌, [], List, map, if◌then◌else◌, Some, None, IfOk, IsOk, OnOk};
 ghost use Rattle.std.specs.Option.{option_copied};
 ghost use Rattle.sc_words.specs.commands.Effects.{is_changed, decided_in};
+ghost use Rattle.sc_meaning.specs.declared.entries.Transaction.{Transaction};
 ghost use Rattle.sc_meaning.specs.entries.Decisions.{is_of, with_watcher, with_outcome, named_watcher, amended, concluded, begun_transaction, begun_split, transactions_after, transaction_in, decision};
 
 use sc_base::{Draw, Dup, OutOfMemory, same_draw};
@@ -109,8 +110,9 @@ fn conclude(
     tx: Draw,
     effect: &Effect,
 ) -> Result<(), OutOfMemory>
-    ensures { OnOk result (transactions.new ≡
+    ensures outcome { OnOk result (transactions.new ≡
         concluded (decided_in effect.now) tx core.now.id transactions.old) }
+    ensures none { decided_in effect.now ≡ None → IsOk result }
 {
     match effect.outcome() {
         Some(outcome) => decide_all(alloc, transactions, tx, core.id, outcome),
@@ -127,9 +129,10 @@ fn hear(
     vote: &Vote,
     effect: &Effect,
 ) -> Result<(), OutOfMemory>
-    ensures { OnOk result (transactions.new ≡ (if is_changed effect.now
+    ensures heard { OnOk result (transactions.new ≡ (if is_changed effect.now
         then amended tx core.now.id (with_watcher (named_watcher vote.now)) transactions.old
         else concluded (decided_in effect.now) tx core.now.id transactions.old)) }
+    ensures none { decided_in effect.now ≡ None → IsOk result }
 {
     if effect.is_changed() {
         watch_all(transactions, tx, core.id, named_watcher(vote));
@@ -139,6 +142,7 @@ fn hear(
 }
 
 /// Brings the transactions up to an entry of the log of a group with this record before the entry.
+/// Fails only where the entry begins a transaction or decides one.
 pub fn add_entry(
     alloc: Global,
     transactions: &mut Vec<Transaction>,
@@ -146,8 +150,10 @@ pub fn add_entry(
     command: &Command,
     effect: &Effect,
 ) -> Result<(), OutOfMemory>
-    ensures { OnOk result (transactions.new.items ≡
+    ensures after { OnOk result (transactions.new.items ≡
         transactions_after core.now command.now effect.now transactions.old.items) }
+    ensures none { ((list : List Transaction) →
+        transactions_after core.now command.now effect.now list ≡ list) → IsOk result }
 {
     match command {
         Command::Begin { tx, body, .. } => {
@@ -180,13 +186,15 @@ fn transaction_in(transactions: &[Transaction], tx: Draw) -> Option<&Transaction
         .find(|transaction| same_draw(transaction.tx, tx))
 }
 
-/// Returns what was decided of a transaction, if it was begun and is decided.
+/// Returns what was decided of a transaction, if it was begun and is decided. Fails only where it
+/// is decided.
 pub fn decision(
     alloc: Global,
     transactions: &[Transaction],
     tx: Draw,
 ) -> Result<Option<Outcome>, OutOfMemory>
-    ensures { IfOk result (λ outcome. outcome ≡ decision tx transactions.now) }
+    ensures outcome { IfOk result (λ outcome. outcome ≡ decision tx transactions.now) }
+    ensures none { decision tx transactions.now ≡ None → IsOk result }
 {
     match transaction_in(transactions, tx) {
         Some(transaction) => transaction.outcome.dup(alloc),

@@ -1,5 +1,5 @@
 //! All groups, after some entries.
-ghost use Rattle.std.specs.Prelude.{◌≡◌, ◌++◌, Some, find, map, if◌then◌else◌, IfOk, OnOk, MatchResult};
+ghost use Rattle.std.specs.Prelude.{◌≡◌, ◌++◌, [], Some, None, find, map, if◌then◌else◌, IfOk, IsOk, OnOk, MatchResult};
 ghost use Rattle.std.specs.Option.{option_map, option_copied};
 ghost use Rattle.sc_words.specs.declared.commands.commands.Command.TheVariants.{Finish};
 ghost use Rattle.sc_group_table.specs.machine.Group.{Group, base_of};
@@ -56,8 +56,9 @@ fn note(
     command: &Command,
     effect: &Effect,
 ) -> Result<(), OutOfMemory>
-    ensures { OnOk result (history.new.items ≡
+    ensures history { OnOk result (history.new.items ≡
         history.old.items ++ entry_of command.now effect.now) }
+    ensures none { entry_of command.now effect.now ≡ [] → IsOk result }
 {
     match command {
         Command::Call { client, seq, op } => {
@@ -101,7 +102,8 @@ fn change_ring(
 impl StoreWorld {
     /// Returns the world of the groups of a scenario before any entry.
     pub fn first(alloc: Global, bases: &[Base]) -> Result<StoreWorld, OutOfMemory>
-        ensures { IfOk result (λ world. world ≡ first_world bases.now) }
+        ensures world { IfOk result (λ world. world ≡ first_world bases.now) }
+        ensures none { bases.now ≡ [] → IsOk result }
     {
         Ok(StoreWorld {
             groups: born(alloc, bases)?,
@@ -113,10 +115,12 @@ impl StoreWorld {
     }
 
     /// Takes one more entry. Fails where it runs out of memory, and where the entry would leave a
-    /// cut that is no arc; then the world may only be dropped.
+    /// cut that is no arc; then the world may only be dropped. It never fails where the entry's
+    /// group was not created.
     pub fn add_entry(&mut self, entry: &LogEntry) -> Result<(), EntryError>
-        ensures { MatchResult result (λ _. self.new ≡ told self.old entry.now)
+        ensures told { MatchResult result (λ _. self.new ≡ told self.old entry.now)
             (λ error. error ≡ NoArc → HaveArcs (told self.old entry.now).ring → ⊥) }
+        ensures none { named_group entry.now.group self.old.groups ≡ None → IsOk result }
     {
         match self.take(entry) {
             Ok(_effect) => Ok(()),
@@ -126,12 +130,13 @@ impl StoreWorld {
 
     /// Takes one more entry, and returns its effect, if its group was created. Fails where it runs
     /// out of memory, and where the entry would leave a cut that is no arc; then the world may only
-    /// be dropped.
+    /// be dropped. It never fails where the entry's group was not created.
     pub fn take(&mut self, entry: &LogEntry) -> Result<Option<Effect>, EntryError>
-        ensures { MatchResult result
+        ensures told { MatchResult result
             (λ effect. (self.new ≡ told self.old entry.now) ×
             (effect ≡ effect_in self.old entry.now))
             (λ error. error ≡ NoArc → HaveArcs (told self.old entry.now).ring → ⊥) }
+        ensures none { named_group entry.now.group self.old.groups ≡ None → IsOk result }
     {
         match place_of(self.groups.as_slice(), entry.group) {
             None => Ok(None),
@@ -201,9 +206,11 @@ impl StoreWorld {
     }
 
     /// Returns the effective record of a group, if it was created: as its own log makes it, and as
-    /// the outcome of its transaction, decided by another group, makes it.
+    /// the outcome of its transaction, decided by another group, makes it. Fails only where the
+    /// group was created.
     pub fn effective(&self, name: Draw) -> Result<Option<Base>, OutOfMemory>
-        ensures { IfOk result (λ base. base ≡ option_map base_of (effective self.now name)) }
+        ensures base { IfOk result (λ base. base ≡ option_map base_of (effective self.now name)) }
+        ensures none { named_group name self.now.groups ≡ None → IsOk result }
     {
         match self.group(name) {
             None => Ok(None),
@@ -283,7 +290,8 @@ pub fn world_of(
     entries: &[LogEntry],
 ) -> Result<StoreWorld, OutOfMemory>
     requires { CoverThroughout bases.now entries.now }
-    ensures { IfOk result (λ world. world ≡ world_of bases.now entries.now) }
+    ensures world { IfOk result (λ world. world ≡ world_of bases.now entries.now) }
+    ensures none { bases.now ≡ [] → IsOk result }
 {
     let mut world = StoreWorld::first(alloc, bases)?;
     for entry in entries {

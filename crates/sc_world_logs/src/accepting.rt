@@ -1,9 +1,10 @@
 //! What rows accept, and for which group.
-ghost use Rattle.std.specs.Prelude.{◌≡◌, map, ◌++◌, ◌&&◌, IfOk, OnOk};
+ghost use Rattle.std.specs.Prelude.{◌≡◌, map, ◌++◌, [], ◌&&◌, IfOk, IsOk, OnOk};
 ghost use Rattle.std.specs.List.{list_any};
 ghost use Rattle.std.specs.Option.{option_copied};
 ghost use Rattle.sc_actor.specs.Mail.{numbered};
 ghost use Rattle.sc_base.specs.Same.{same_draw};
+ghost use Rattle.sc_base.specs.declared.names.Draw.{Draw};
 ghost use Rattle.sc_meaning.specs.sound.Accepts.{is_accepted, accepts_of, accepts_at, accepts};
 ghost use Rattle.sc_world_logs.specs.Acceptances.{steps_of, steps_by};
 
@@ -75,8 +76,9 @@ fn accepted_by(
     row: &Row<Mail, OrderLine>,
     body: &MailBody,
 ) -> Result<Option<(Draw, Acceptance)>, OutOfMemory>
-    ensures { IfOk result (λ accepted. (group : Draw) →
+    ensures accepted { IfOk result (λ accepted. (group : Draw) →
         accepts_of group row.now body.now ≡ steps_by group accepted) }
+    ensures none { ((group : Draw) → accepts_of group row.now body.now ≡ []) → IsOk result }
 {
     match body {
         MailBody::Accept {
@@ -101,15 +103,18 @@ fn accepted_by(
 }
 
 /// Returns what a row accepts, with the group that it is accepted for. `sent` is the mail that was
-/// sent before the row, in order. The only error is out of memory.
+/// sent before the row, in order. The only error is out of memory, where the row accepts a command.
 pub fn accepted_in(
     alloc: Global,
     sent: &[&Mail],
     row: &Row<Mail, OrderLine>,
 ) -> Result<Option<(Draw, Acceptance)>, OutOfMemory>
-    ensures { IfOk result (λ accepted. (group : Draw) →
+    ensures accepted { IfOk result (λ accepted. (group : Draw) →
         accepts_at group (map (λ mail. mail.now) sent.now) row.now row.now.event
         ≡ steps_by group accepted) }
+    ensures none { ((group : Draw) →
+        accepts_at group (map (λ mail. mail.now) sent.now) row.now row.now.event ≡ [])
+        → IsOk result }
 {
     let Event::Deliver(number) = &row.event else {
         return Ok(None);
@@ -127,8 +132,9 @@ fn note_accept(
     body: &MailBody,
     found: &mut Vec<Acceptance>,
 ) -> Result<(), OutOfMemory>
-    ensures { OnOk result (steps_of found.new.items ≡
+    ensures found { OnOk result (steps_of found.new.items ≡
         accepts_of group row.now body.now ++ steps_of found.old.items) }
+    ensures none { accepts_of group row.now body.now ≡ [] → IsOk result }
 {
     match body {
         MailBody::Accept {
@@ -171,9 +177,11 @@ fn note_row(
     row: &Row<Mail, OrderLine>,
     found: &mut Vec<Acceptance>,
 ) -> Result<(), OutOfMemory>
-    ensures { OnOk result (steps_of found.new.items ≡
+    ensures found { OnOk result (steps_of found.new.items ≡
         accepts_at group (map (λ mail. mail.now) sent.now) row.now row.now.event
         ++ steps_of found.old.items) }
+    ensures none { accepts_at group (map (λ mail. mail.now) sent.now) row.now row.now.event ≡ []
+        → IsOk result }
 {
     let Event::Deliver(number) = &row.event else {
         return Ok(());
@@ -186,8 +194,9 @@ fn note_row(
 
 /// Appends the mail of one more row to the mail that was sent so far.
 pub fn add_mails<'a>(sent: &mut Vec<&'a Mail>, more: &'a [Mail]) -> Result<(), OutOfMemory>
-    ensures { OnOk result (map (λ mail. mail.now) sent.new.items ≡
+    ensures sent { OnOk result (map (λ mail. mail.now) sent.new.items ≡
         map (λ mail. mail.now) sent.old.items ++ more.now) }
+    ensures none { more.now ≡ [] → IsOk result }
 {
     for mail in more {
         sent.push(mail)?;
@@ -202,7 +211,8 @@ pub(crate) fn accepts(
     group: Draw,
     rows: &[Row<Mail, OrderLine>],
 ) -> Result<Vec<Acceptance>, OutOfMemory>
-    ensures { IfOk result (λ found. steps_of found.items ≡ accepts group rows.now) }
+    ensures found { IfOk result (λ found. steps_of found.items ≡ accepts group rows.now) }
+    ensures none { rows.now ≡ [] → IsOk result }
 {
     let mut sent = Vec::new(alloc);
     let mut found = Vec::new(alloc);

@@ -1,5 +1,5 @@
 //! Acceptances by their slots.
-ghost use Rattle.std.specs.Prelude.{◌≡◌, ◌++◌, ◌∷◌, [], ℕ, List, IfOk, OnOk};
+ghost use Rattle.std.specs.Prelude.{◌≡◌, ◌++◌, ◌∷◌, [], ℕ, List, IfOk, IsOk, OnOk};
 ghost use Rattle.std.specs.Ordering.{nat_cmp};
 ghost use Rattle.std.specs.BTreeMap.{get_by};
 ghost use Rattle.sc_world_logs.specs.declared.accepting.Acceptance.{Acceptance};
@@ -36,9 +36,10 @@ pub(crate) fn add(
 
 /// Returns the acceptances by their slots.
 pub(crate) fn by_slot(alloc: Global, found: Vec<Acceptance>) -> Result<BySlot, OutOfMemory>
-    ensures { IfOk result (λ index.
+    ensures index { IfOk result (λ index.
         IsIndexed (λ slot. listed_in (λ kept. kept.items) (get_by (nat_cmp slot) index))
         found.items) }
+    ensures none { found.items ≡ [] → IsOk result }
 {
     let mut index = BTreeMap::new(alloc);
     for acceptance in found {

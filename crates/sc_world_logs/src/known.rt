@@ -1,5 +1,5 @@
 //! What is kept of a group: its decided log, and what the log is computed from.
-ghost use Rattle.std.specs.Prelude.{◌≡◌, ◌&&◌, ◌+◌, ◌-◌, ◌<◌, ◌++◌, ◌∷◌, [], ℕ, List, true, length, take, slice_get, Option, Some, None, IfOk, OnOk};
+ghost use Rattle.std.specs.Prelude.{◌≡◌, ◌&&◌, ◌+◌, ◌-◌, ◌<◌, ◌++◌, ◌∷◌, [], ℕ, List, true, false, length, take, slice_get, Option, Some, None, IfOk, IsOk, OnOk};
 ghost use Rattle.sc_words.specs.declared.commands.commands.Command.{Command};
 ghost use Rattle.sc_group_table.specs.machine.Group.{Group, group_of};
 ghost use Rattle.sc_group_table.specs.machine.Machine.{applied};
@@ -13,6 +13,7 @@ ghost use Rattle.sc_meaning.specs.sound.GroupsOf.{children_of};
 ghost use Rattle.sc_meaning.specs.sound.Logs.{rule_of};
 ghost use Rattle.std.specs.Ordering.{nat_cmp};
 ghost use Rattle.std.specs.BTreeMap.{get_by};
+ghost use Rattle.sc_base.specs.Same.{same_draw};
 ghost use Rattle.sc_base.specs.declared.names.Draw.{Draw};
 ghost use Rattle.sc_words.specs.declared.commands.orders.OrderLine.{OrderLine};
 ghost use Rattle.sc_mail.specs.declared.bodies.Mail.{Mail};
@@ -120,7 +121,8 @@ fn grow(known: &mut Known, command: Command) -> Result<bool, OutOfMemory>
 
 // Returns the slot after the log. Where a `u32` does not hold its number, it reports out of memory.
 fn next_slot(log: &[Command]) -> Result<u32, OutOfMemory>
-    ensures { IfOk result (λ slot. slot ≡ length log.now + 1) }
+    ensures slot { IfOk result (λ slot. slot ≡ length log.now + 1) }
+    ensures few { length log.now < 4294967295 → IsOk result }
 {
     if log.len() >= 4_294_967_295 {
         return Err(OutOfMemory);
@@ -233,16 +235,17 @@ fn take(alloc: Global, known: &mut Known, acceptance: &Acceptance) -> Result<boo
 
 /// Takes in an acceptance for the group with this name, where that is the known group. Where it
 /// returns true, what is kept is what the rows with the accepting row show, and the log creates the
-/// same children as before. The only error is out of memory.
+/// same children as before. The only error is out of memory, where the group is the known one.
 pub fn take_in(
     alloc: Global,
     known: &mut Known,
     name: Draw,
     acceptance: &Acceptance,
 ) -> Result<bool, OutOfMemory>
-    ensures { IfOk result (λ calm. calm ≡ true → (rows after : List (Row Mail OrderLine)) →
+    ensures known { IfOk result (λ calm. calm ≡ true → (rows after : List (Row Mail OrderLine)) →
         Adds (Some (name, acceptance.now)) rows after → IsKnown rows known.old →
         StaysKnown rows after known.old known.new) }
+    ensures none { same_draw known.old.base.core.id name ≡ false → IsOk result }
 {
     if same_draw(known.base.core.id, name) {
         let calm = take(alloc, known, acceptance)?;

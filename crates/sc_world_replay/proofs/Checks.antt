@@ -1,10 +1,10 @@
 -- How given rows stand with the walk.
 use Rattle.std.proofs.Common.{◌≡◌, ℕ, suc, ◌+◌, ◌-◌, ◌<◌, ◌≤◌, ◌^◌, List, [], ◌∷◌, ◌++◌, length, Bool, true, false, not, cond, eqb, take, drop, drop-cons, get_or, refl, sym, ◌∙◌, ap, subst, arith, add-one, append-nil, append_assoc, length-append, Option, None, Some, ◌||◌}
-use Rattle.std.specs.Prelude.{is_none, option_and_then}
+use Rattle.std.specs.Prelude.{is_none, option_and_then, slice_get}
 use Rattle.std.proofs.Math.ListN.{drop_of_length-le}
 use Rattle.std.proofs.Math.Seq.{take-append_seam}
 use Rattle.std.proofs.lemmas.Bool.{ne_eqb, false≢true}
-use Rattle.std.proofs.lemmas.Option.{same_Some}
+use Rattle.std.proofs.lemmas.Option.{none-some, same_Some, slice_get-get_or, slice_get_past}
 use Rattle.sc_actor.specs.declared.rows.Row.{Row}
 use Rattle.sc_actor.specs.declared.actors.Seat.{Seat}
 use Rattle.sc_actor.specs.declared.schedules.Line.{Line}
@@ -273,6 +273,19 @@ pub record IsNextRow {M O : Type 0} (taken rows : List (Row M O)) (row : Row M O
 -- the row at the end of those taken is the next
 pub next_row : {M O : Type 0} (taken rows : List (Row M O)) (row : Row M O) (at : ℕ) → at ≡ length taken → at < length rows → row ≡ get_or rows at row → IsNextRow taken rows row
 next_row taken rows row at e lt is = record { more = subst (λ n. n < length rows) e lt; is = subst (λ n. row ≡ get_or rows n row) e is }
+
+-- the rows end where all are taken
+pub no_row_next : {M O : Type 0} (taken rows : List (Row M O)) (row : Row M O) → length taken ≡ length rows → slice_get rows (length taken) ≡ Some row → ⊥
+no_row_next taken rows row ended is = none-some row (sym (slice_get_past rows (length taken) (omega (arith, ended))) ∙ is)
+
+-- a line of many does nothing where it can make no delivery at the next row
+pub chooses_none : {A M O : Type 0} (receiver : M → ℕ) (old stage : Stage A M O) (rows : List (Row M O)) (free : Bool) (row : Row M O) (action : Action O)
+    → ((next : Row M O) → slice_get rows (length old.rows) ≡ Some next → chosen_action receiver (numbers_of old.seats.items) old.rows free next.who ≡ None) → stage ≡ old
+    → IsNextRow stage.rows rows row → Some action ≡ chosen_action receiver (numbers_of stage.seats.items) stage.rows free row.who → ⊥
+chooses_none {A} {M} {O} receiver old stage rows free row action never same next chosen =
+    let here : slice_get rows (length old.rows) ≡ Some row =
+    ap (λ (s : Stage A M O). slice_get rows (length s.rows)) (sym same) ∙ slice_get-get_or rows (length stage.rows) row next.more ∙ ap Some (sym next.is) in
+    none-some action (sym (chosen ∙ ap (λ (s : Stage A M O). chosen_action receiver (numbers_of s.seats.items) s.rows free row.who) same ∙ never row here))
 
 -- a stage begins with no row taken
 pub taking_begin : {A M O : Type 0} (receiver : M → ℕ) (stage : Stage A M O) (rows : List (Row M O)) → stage.rows ≡ [] → stage.mails.items ≡ [] → stage.pending.items ≡ [] → stage.started.items ≡ [] → stage.crashed.items ≡ [] → length rows < 2 ^ 31 → length (mails rows) < 2 ^ 31 → IsTaking receiver stage rows

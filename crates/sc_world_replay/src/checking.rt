@@ -1,6 +1,7 @@
 //! The check of given rows against a schedule, line by line.
-ghost use Rattle.std.specs.Prelude.{◌≡◌, ◌<◌, ◌≤◌, ◌+◌, ◌^◌, ◌-◌, ◌%◌, [], ◌∷◌, true, ℕ, length, None, IfOk, IfSome, OnOk, IsOk, MatchBool};
+ghost use Rattle.std.specs.Prelude.{◌≡◌, ◌<◌, ◌≤◌, ◌+◌, ◌^◌, ◌-◌, ◌%◌, [], ◌∷◌, true, ℕ, length, slice_get, Some, None, IfOk, IfSome, OnOk, IsOk, MatchBool};
 ghost use Rattle.sc_actor.specs.Mail.{mails};
+ghost use Rattle.sc_actor.specs.declared.rows.Row.{Row};
 ghost use Rattle.sc_actor.specs.System.{numbers_of};
 ghost use Rattle.sc_actor.specs.Walk.{Once, Storms, storm_steps, tasks_of};
 ghost use Rattle.sc_texts.specs.chance.Words.{two_words};
@@ -120,6 +121,11 @@ where
         IsChecked (rules_of A.table A.Mail.receiver) stage.old (many free most ∷ []) stage.new
         rows.now checked) }
     ensures skipped { OnOk result (stage.new.skipped ≡ stage.old.skipped) }
+    ensures zero { most ≡ 0 → IsOk result }
+    ensures none { ((row : Row A.Mail A.Order) →
+        slice_get rows.now (length stage.old.rows) ≡ Some row →
+        chosen_action A.Mail.receiver (numbers_of stage.old.seats.items) stage.old.rows free row.who
+        ≡ None) → IsOk result }
 {
     for done in 0..most {
         let _ = done;
@@ -164,6 +170,7 @@ where
         (words.0 % 16) words.1
         ≡ None → IsOk result }
     ensures ended { length stage.old.rows ≡ length rows.now → IsOk result }
+    ensures stays { length stage.old.rows ≡ length rows.now → stage.new.rows ≡ stage.old.rows }
 {
     let Some(action) = storm_action(stage, words.0 % 16, words.1) else {
         return Ok(Checked::On);
@@ -197,6 +204,8 @@ where
         IsChecked (rules_of A.table A.Mail.receiver) stage.old
         (storm_steps (two_words number) 0 most) stage.new rows.now checked) }
     ensures skipped { OnOk result (stage.new.skipped ≡ stage.old.skipped) }
+    ensures zero { most ≡ 0 → IsOk result }
+    ensures ended { length stage.old.rows ≡ length rows.now → IsOk result }
 {
     let mut chance = Chance::start(number);
     for done in 0..most {
@@ -229,6 +238,8 @@ where
         stage.new
         rows.now checked) }
     ensures skipped { OnOk result (stage.new.skipped ≤ stage.old.skipped + 1) }
+    ensures ended { ((who : ℕ) (order : A.Order) → line.now ≡ Line.Told who order → ⊥) →
+        length stage.old.rows ≡ length rows.now → IsOk result }
 {
     match line {
         Line::Settle { most } => check_many(alloc, stage, *most, false, rows),

@@ -53,25 +53,9 @@ birth_whole row name members n m r =
     plain_has_no_float 22 (fields ((codes "birth", birth_json name members) ∷ (codes "row", number_json row) ∷ []))
     (refl, (refl, draw_plain 20 name n, refl, (refl, nodes_plain 19 members m, tt, tt)), refl, (refl, r, tt, tt))
 
-pub entry_whole : (row : ℕ) (entry : LogEntry) (effect : Option Effect) → FitsCommand entry.command → OptionFits FitsEffect effect → FitsDraw entry.group → FitsU32 entry.slot → row < 2 ^ 64
-    → has_float (fields ((codes "entry", entry_json entry effect) ∷ (codes "row", number_json row) ∷ [])) ≡ false
-entry_whole row entry effect c e g s r =
-    plain_has_no_float 22 (fields ((codes "entry", entry_json entry effect) ∷ (codes "row", number_json row) ∷ [])) (
-      refl,
-      (refl, command_plain 12 entry.command c, refl, (refl, option_plain 20 effect_json FitsEffect effect_plain effect e, refl, (refl, draw_plain 20 entry.group g, refl, (refl, u32_plain entry.slot s, tt, tt)))),
-      refl,
-      (refl, r, tt, tt),
-    )
-
-pub history_whole : (row : ℕ) (entry : Entry) → FitsU16 entry.client → FitsOp entry.op → FitsReply entry.reply → FitsU32 entry.seq → row < 2 ^ 64
-    → has_float (fields ((codes "history", history_json entry) ∷ (codes "row", number_json row) ∷ [])) ≡ false
-history_whole row entry c o p s r =
-    plain_has_no_float 22 (fields ((codes "history", history_json entry) ∷ (codes "row", number_json row) ∷ [])) (
-      refl,
-      (refl, u16_plain entry.client c, refl, (refl, op_plain 18 entry.op o, refl, (refl, reply_plain 19 entry.reply p, refl, (refl, u32_plain entry.seq s, tt, tt)))),
-      refl,
-      (refl, r, tt, tt),
-    )
+-- an effect
+pub effect_whole : (effect : Effect) → FitsEffect effect → has_float (effect_json effect) ≡ false
+effect_whole effect fits = plain_has_no_float 20 (effect_json effect) (effect_plain effect fits)
 
 hold_plain : (lock : Hold) → FitsHold lock → IsPlain 20 (hold_json lock)
 hold_plain TheHold.Free fits = refl
@@ -105,24 +89,6 @@ record_whole row group fits r =
           (refl, hold_plain group.lock fits.lock, refl, (refl, nodes_plain 19 group.members fits.members, refl, (refl, draw_plain 20 group.name fits.name, refl, (refl, draw_plain 20 group.pred fits.pred, refl, (refl, draw_plain 20 group.succ fits.succ, tt, tt))))),
         ),
       ),
-      refl,
-      (refl, r, tt, tt),
-    )
-
--- ... of a group of the ring
-pub record FitsRingGroup (group : RingGroup) : Type 0 where
-  pub arc : FitsArc group.arc
-  pub name : FitsDraw group.name
-  pub pairs : FitsU64 group.pairs
-  pub pred : FitsDraw group.pred
-  pub succ : FitsDraw group.succ
-
-pub ring_group_whole : (row : ℕ) (group : RingGroup) → FitsRingGroup group → row < 2 ^ 64
-    → has_float (fields ((codes "group", ring_group_json group) ∷ (codes "row", number_json row) ∷ [])) ≡ false
-ring_group_whole row group fits r =
-    plain_has_no_float 22 (fields ((codes "group", ring_group_json group) ∷ (codes "row", number_json row) ∷ [])) (
-      refl,
-      (refl, arc_plain 19 group.arc fits.arc, refl, (refl, draw_plain 20 group.name fits.name, refl, (refl, fits.pairs, refl, (refl, draw_plain 20 group.pred fits.pred, refl, (refl, draw_plain 20 group.succ fits.succ, tt, tt))))),
       refl,
       (refl, r, tt, tt),
     )

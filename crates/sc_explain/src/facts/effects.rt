@@ -1,12 +1,15 @@
 //! The effect of an entry as JSON.
-ghost use Rattle.std.specs.Prelude.{◌≡◌, IfOk, OnOk};
+ghost use Rattle.std.specs.Prelude.{◌≡◌, ◌++◌, IfOk, OnOk};
+ghost use Rattle.std.specs.Option.{option_copied};
 ghost use Rattle.serde_json.specs.Data.{object, put, no_members};
 ghost use Rattle.serde_json.specs.View.{view};
+ghost use Rattle.serde_json.specs.Written.{compact_text};
 ghost use Rattle.sc_words.specs.declared.commands.effects.Effect.TheVariants.{NotMine};
-ghost use Rattle.sc_json_text.specs.rows.Shapes.{variant};
+ghost use Rattle.sc_json_text.specs.rows.Shapes.{option_json, variant};
 ghost use Rattle.sc_explain.specs.facts.Effects.{effect_json, FitsEffect};
 
 use crate::facts::writing::{add, unit, variant_of, wrapped};
+use crate::texts::{add_json, add_next, add_word};
 use sc_base::{OutOfMemory, RingArc};
 use sc_json_write::ToJson;
 use sc_words::{Effect, Link};
@@ -40,9 +43,9 @@ fn not_mine(alloc: Global, arc: &RingArc, succ: &Link) -> Result<Json, OutOfMemo
     wrapped(alloc, "NotMine", Json::Object(members))
 }
 
-/// Returns the JSON of an effect.
+// Returns the JSON of an effect.
 #[tactic(auto, unfolding(crate::specs::facts::Effects::effect_json, crate::specs::facts::Effects::FitsEffect))]
-pub(crate) fn effect_json(alloc: Global, effect: &Effect) -> Result<Json, OutOfMemory>
+fn effect_json(alloc: Global, effect: &Effect) -> Result<Json, OutOfMemory>
     ensures json { IfOk result (λ json. view json ≡ effect_json effect.now) }
     ensures fits { OnOk result (FitsEffect effect.now) }
 {
@@ -58,5 +61,42 @@ pub(crate) fn effect_json(alloc: Global, effect: &Effect) -> Result<Json, OutOfM
         Effect::Voted(vote) => variant_of(alloc, "Voted", vote),
         Effect::Decided(outcome) => variant_of(alloc, "Decided", outcome),
         Effect::Refused(why) => variant_of(alloc, "Refused", why),
+    }
+}
+
+fn by_json(alloc: Global, text: &mut Vec<u8>, effect: &Effect) -> Result<(), OutOfMemory>
+    ensures { OnOk result (text.new.items ≡
+        text.old.items ++ compact_text (effect_json effect.now)) }
+{
+    let json = effect_json(alloc, effect)?;
+    add_json(alloc, text, &json)
+}
+
+// Appends an effect to a text: that a request was carried out piece by piece, any other by its JSON.
+fn add_known(alloc: Global, text: &mut Vec<u8>, effect: &Effect) -> Result<(), OutOfMemory>
+    ensures { OnOk result (text.new.items ≡
+        text.old.items ++ compact_text (effect_json effect.now)) }
+{
+    match effect {
+        Effect::Done(reply) => {
+            add_next(text, br#"{"Done":"#, reply)?;
+            add_word(text, b"}")
+        }
+        _ => by_json(alloc, text, effect),
+    }
+}
+
+/// Appends an effect to a text, or `null` where there is none.
+pub(crate) fn add_effect(
+    alloc: Global,
+    text: &mut Vec<u8>,
+    effect: Option<&Effect>,
+) -> Result<(), OutOfMemory>
+    ensures { OnOk result (text.new.items ≡
+        text.old.items ++ compact_text (option_json effect_json (option_copied effect.entry))) }
+{
+    match effect {
+        None => add_word(text, b"null"),
+        Some(effect) => add_known(alloc, text, effect),
     }
 }

@@ -3,18 +3,16 @@ ghost use Rattle.std.specs.Prelude.{◌≡◌, ◌∷◌, [], codes, IfOk, OnOk}
 ghost use Rattle.std.specs.Option.{option_copied};
 ghost use Rattle.serde_json.specs.View.{view};
 ghost use Rattle.sc_base.specs.Among.{Each};
-ghost use Rattle.sc_json_text.specs.rows.Commands.{FitsCommand};
-ghost use Rattle.sc_json_text.specs.rows.Held.{FitsArc, FitsMembers, FitsU16, FitsU32, FitsU64, OptionFits};
+ghost use Rattle.sc_json_text.specs.rows.Held.{FitsArc, FitsMembers, OptionFits};
 ghost use Rattle.sc_json_text.specs.rows.Names.{FitsDraw};
-ghost use Rattle.sc_json_text.specs.rows.Ops.{FitsOp, FitsReply};
 ghost use Rattle.sc_json_text.specs.rows.Shapes.{fields, list_json, number_json, option_json};
-ghost use Rattle.sc_explain.specs.facts.Effects.{effect_json, FitsEffect};
-ghost use Rattle.sc_explain.specs.facts.Facts.{birth_json, entry_json, history_json, record_json, ring_group_json, hold_json, cut_json, FitsCut, FitsHold};
+ghost use Rattle.sc_explain.specs.facts.Facts.{birth_json, record_json, hold_json, cut_json, FitsCut, FitsHold};
 ghost use Rattle.sc_explain.specs.facts.Facts.{birth_line, entry_line, history_line, record_line, ring_group_line, ring_line};
 
-use crate::facts::effects::effect_json;
+use crate::facts::effects::add_effect;
 use crate::facts::facts::{GroupRecord, Hold, RingGroup};
 use crate::facts::writing::{add, line_of, put, unit, variant_of};
+use crate::texts::{add_command, add_next, add_word};
 use sc_base::{Draw, Members, OutOfMemory};
 use sc_json_write::ToJson;
 use sc_meaning::{Cut, LogEntry};
@@ -22,6 +20,9 @@ use sc_scenario::ReportLine;
 use sc_words::{Effect, Entry};
 use serde_json::{Map, Value as Json};
 use std::alloc::Global;
+
+// The room that is made for a line at once, in bytes: most lines have fewer.
+const USUAL: usize = 192;
 
 // Returns the JSON of the line of a birth.
 fn birth_json(alloc: Global, row: u64, name: Draw, members: &Members) -> Result<Json, OutOfMemory>
@@ -52,41 +53,6 @@ pub fn birth_line(
     line_of(alloc, &json)
 }
 
-fn effect_if_any(alloc: Global, effect: Option<&Effect>) -> Result<Json, OutOfMemory>
-    ensures json { IfOk result (λ json. view json ≡ option_json effect_json (option_copied effect.entry)) }
-    ensures fits { OnOk result (OptionFits FitsEffect (option_copied effect.entry)) }
-{
-    match effect {
-        None => Ok(Json::Null),
-        Some(effect) => effect_json(alloc, effect),
-    }
-}
-
-// Returns the JSON of the line of an entry of a log.
-fn entry_json(
-    alloc: Global,
-    row: u64,
-    entry: &LogEntry,
-    effect: Option<&Effect>,
-) -> Result<Json, OutOfMemory>
-    ensures json { IfOk result (λ json. view json ≡ fields
-        ((codes "entry", entry_json entry.now (option_copied effect.entry))
-        ∷ (codes "row", number_json row) ∷ [])) }
-    ensures fits { OnOk result (FitsCommand entry.now.command ×
-        OptionFits FitsEffect (option_copied effect.entry) × FitsDraw entry.now.group ×
-        FitsU32 entry.now.slot) }
-{
-    let mut fact = Map::new(alloc);
-    add(&mut fact, alloc, "command", &entry.command)?;
-    put(&mut fact, alloc, "effect", effect_if_any(alloc, effect)?)?;
-    add(&mut fact, alloc, "group", &entry.group)?;
-    add(&mut fact, alloc, "slot", &entry.slot)?;
-    let mut line = Map::new(alloc);
-    put(&mut line, alloc, "entry", Json::Object(fact))?;
-    add(&mut line, alloc, "row", &row)?;
-    Ok(Json::Object(line))
-}
-
 /// Returns the line of an entry of a log, which the row of this number decided, with the effect of
 /// the entry, or `null` where there is none.
 pub fn entry_line(
@@ -97,34 +63,30 @@ pub fn entry_line(
 ) -> Result<ReportLine, OutOfMemory>
     ensures { IfOk result (λ line. line ≡ entry_line row entry.now (option_copied effect.entry)) }
 {
-    let json = entry_json(alloc, row, entry, effect)?;
-    line_of(alloc, &json)
-}
-
-// Returns the JSON of the line of an entry of the history.
-fn history_json(alloc: Global, row: u64, entry: &Entry) -> Result<Json, OutOfMemory>
-    ensures json { IfOk result (λ json. view json ≡ fields
-        ((codes "history", history_json entry.now) ∷ (codes "row", number_json row) ∷ [])) }
-    ensures fits { OnOk result (FitsU16 entry.now.client × FitsOp entry.now.op × FitsReply entry.now.reply ×
-        FitsU32 entry.now.seq) }
-{
-    let mut fact = Map::new(alloc);
-    add(&mut fact, alloc, "client", &entry.client)?;
-    add(&mut fact, alloc, "op", &entry.op)?;
-    add(&mut fact, alloc, "reply", &entry.reply)?;
-    add(&mut fact, alloc, "seq", &entry.seq)?;
-    let mut line = Map::new(alloc);
-    put(&mut line, alloc, "history", Json::Object(fact))?;
-    add(&mut line, alloc, "row", &row)?;
-    Ok(Json::Object(line))
+    let mut text = Vec::with_capacity(alloc, USUAL)?;
+    add_word(&mut text, br#"{"entry":{"command":"#)?;
+    add_command(alloc, &mut text, &entry.command)?;
+    add_word(&mut text, br#","effect":"#)?;
+    add_effect(alloc, &mut text, effect)?;
+    add_next(&mut text, br#","group":"#, &entry.group)?;
+    add_next(&mut text, br#","slot":"#, &entry.slot)?;
+    add_next(&mut text, br#"},"row":"#, &row)?;
+    add_word(&mut text, b"}\n")?;
+    Ok(ReportLine::from_vec(text))
 }
 
 /// Returns the line of an entry of the history, which the row of this number decided.
 pub fn history_line(alloc: Global, row: u64, entry: &Entry) -> Result<ReportLine, OutOfMemory>
     ensures { IfOk result (λ line. line ≡ history_line row entry.now) }
 {
-    let json = history_json(alloc, row, entry)?;
-    line_of(alloc, &json)
+    let mut text = Vec::with_capacity(alloc, USUAL)?;
+    add_next(&mut text, br#"{"history":{"client":"#, &entry.client)?;
+    add_next(&mut text, br#","op":"#, &entry.op)?;
+    add_next(&mut text, br#","reply":"#, &entry.reply)?;
+    add_next(&mut text, br#","seq":"#, &entry.seq)?;
+    add_next(&mut text, br#"},"row":"#, &row)?;
+    add_word(&mut text, b"}\n")?;
+    Ok(ReportLine::from_vec(text))
 }
 
 fn hold_json(alloc: Global, lock: &Hold) -> Result<Json, OutOfMemory>
@@ -169,25 +131,6 @@ pub fn record_line(alloc: Global, row: u64, group: &GroupRecord) -> Result<Repor
     line_of(alloc, &json)
 }
 
-// Returns the JSON of the line of a group of the ring.
-fn ring_group_json(alloc: Global, row: u64, group: &RingGroup) -> Result<Json, OutOfMemory>
-    ensures json { IfOk result (λ json. view json ≡ fields
-        ((codes "group", ring_group_json group.now) ∷ (codes "row", number_json row) ∷ [])) }
-    ensures fits { OnOk result (FitsArc group.now.arc × FitsDraw group.now.name × FitsU64 group.now.pairs ×
-        FitsDraw group.now.pred × FitsDraw group.now.succ) }
-{
-    let mut fact = Map::new(alloc);
-    add(&mut fact, alloc, "arc", &group.arc)?;
-    add(&mut fact, alloc, "name", &group.name)?;
-    add(&mut fact, alloc, "pairs", &group.pairs)?;
-    add(&mut fact, alloc, "pred", &group.pred)?;
-    add(&mut fact, alloc, "succ", &group.succ)?;
-    let mut line = Map::new(alloc);
-    put(&mut line, alloc, "group", Json::Object(fact))?;
-    add(&mut line, alloc, "row", &row)?;
-    Ok(Json::Object(line))
-}
-
 /// Returns the line of a group of the ring, as the row of this number left it.
 pub fn ring_group_line(
     alloc: Global,
@@ -196,8 +139,15 @@ pub fn ring_group_line(
 ) -> Result<ReportLine, OutOfMemory>
     ensures { IfOk result (λ line. line ≡ ring_group_line row group.now) }
 {
-    let json = ring_group_json(alloc, row, group)?;
-    line_of(alloc, &json)
+    let mut text = Vec::with_capacity(alloc, USUAL)?;
+    add_next(&mut text, br#"{"group":{"arc":"#, &group.arc)?;
+    add_next(&mut text, br#","name":"#, &group.name)?;
+    add_next(&mut text, br#","pairs":"#, &group.pairs)?;
+    add_next(&mut text, br#","pred":"#, &group.pred)?;
+    add_next(&mut text, br#","succ":"#, &group.succ)?;
+    add_next(&mut text, br#"},"row":"#, &row)?;
+    add_word(&mut text, b"}\n")?;
+    Ok(ReportLine::from_vec(text))
 }
 
 fn cut_json(alloc: Global, cut: &Cut) -> Result<Json, OutOfMemory>

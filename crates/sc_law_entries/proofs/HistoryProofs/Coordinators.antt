@@ -4,9 +4,10 @@ use Rattle.std.proofs.Common.{◌≡◌, ℕ, ◌<◌, ◌^◌, Bool, true, fals
 use Rattle.std.specs.Option.{option_map}
 use Rattle.std.specs.FinMap.{empty}
 use Rattle.std.proofs.lemmas.Bool.{and_parts, cases_Bool, cond-true, cond-false, cond_both, eqb-false}
-use Rattle.sc_base.specs.Definitions.{CanCut, before, from, holds, same_draw}
+use Rattle.sc_base.specs.Definitions.{CanCut, before, from, holds}
 use Rattle.sc_base.specs.declared.names.Draw.{Draw}
-use Rattle.sc_base.proofs.Lemmas.{draw_is}
+use Rattle.sc_base.proofs.Lemmas.{same_name}
+use Rattle.sc_law_walks.proofs.Lemmas.{vote_step, watch_step}
 use Rattle.sc_words.specs.declared.commands.bodies.Body.{Body}
 use Rattle.sc_words.specs.declared.commands.bodies.Body.TheVariants as At
 use Rattle.sc_words.specs.declared.commands.commands.Command.TheVariants.{RecordVote, RecordWatch, Split}
@@ -19,7 +20,6 @@ use Rattle.sc_words.specs.declared.commands.orders.OrderRefusal.{OrderRefusal}
 use Rattle.sc_words.specs.declared.commands.orders.OrderRefusal.TheVariants.{BadBoundary}
 use Rattle.sc_words.specs.declared.commands.votes.Frozen.{Frozen}
 use Rattle.sc_words.specs.declared.commands.votes.Heard.{Heard}
-use Rattle.sc_words.specs.declared.commands.votes.Outcome.{Outcome}
 use Rattle.sc_words.specs.declared.commands.votes.Outcome.TheVariants.{Merged, Moved, Migrated, Divided}
 use Rattle.sc_words.specs.declared.commands.votes.Past.{Past}
 use Rattle.sc_words.specs.declared.commands.votes.Past.TheVariants as Cast
@@ -27,7 +27,7 @@ use Rattle.sc_words.specs.declared.commands.votes.Vote.{Vote}
 use Rattle.sc_words.specs.declared.commands.votes.Vote.TheVariants as Says
 use Rattle.sc_words.specs.commands.Definitions.{is_alone}
 use Rattle.sc_words.specs.ideal.Definitions.{contents_after}
-use Rattle.sc_group_table.specs.machine.Definitions.{Group, applied, split_group, locked_in, refusal_of, refused_in, can_cut, can_join, can_migrate, can_repart, can_split, closing_group, giving_group, giving_plan, has_key_of, may_merge, merge_plan, merged_group, merged_route, migrate_plan, migrated_group, part_gift, repart_plan, split_plan, taken, taking_group, taking_plan, child_of, has_named, left_group, aborted, asks_watcher, begun_group, committed, decided, granted, heard_group, is_coordinating, participant_answered, released, vote_recorded, watch_answered, watch_recorded}
+use Rattle.sc_group_table.specs.machine.Definitions.{Group, applied, split_group, locked_in, refusal_of, refused_in, can_cut, can_join, can_repart, can_split, closing_group, giving_group, has_key_of, merged_group, merged_route, migrated_group, part_gift, taken, taking_group, child_of, has_named, left_group, aborted, begun_group, decided, heard_group, is_coordinating}
 use Rattle.sc_meaning.specs.entries.Definitions.{division_in, begun_split, decision, named_watcher, arc_in, ring_divided, StoreWorld, named_group}
 use Rattle.sc_meaning.specs.declared.entries.Division.{Division}
 use Rattle.sc_law_entries.specs.history.Definitions.{RequestOf, MatchesHoldings, holding_of, IsItsOwn, IsParty, MayHear, MayHearWatcher, MaySplit, holdings_in}
@@ -41,12 +41,6 @@ use Rattle.sc_law_entries.proofs.HistoryProofs.Participants.{cut_is, gains, join
 use Rattle.sc_law_entries.proofs.HistoryProofs.Parties.{next_before, others_held}
 use Rattle.sc_law_entries.proofs.HistoryProofs.PlanHoldings.{plans_move}
 use Rattle.sc_law_entries.proofs.HistoryProofs.Staying.{Goes, free_by, idles, none_committed, order_cases, stays}
-
--- a plan that is made, or not
-plan_cases : (P : Group × Effect → Type 0) (b : Bool) (planned group : Group) (outcome : Outcome) (tx : Draw) → (b ≡ true → P (decided planned tx outcome)) → P (group, Was.NoEffect tx)
-    → P (committed (cond b (Some (planned, outcome)) None) group tx)
-plan_cases P true planned group outcome tx go quiet = go refl
-plan_cases P false planned group outcome tx go quiet = quiet
 
 -- ---- a participant's vote
 
@@ -76,20 +70,18 @@ module _ (request : RequestOf) (world : StoreWorld) (name : Draw) (group : Group
       abbrev next : Group
       next = party.next
 
-      merges : (order : ℕ) → Hears (granted At.Merge group tx order frozen by)
-      merges order =
-          cond_both (same_draw frozen.succ.group group.core.id) _ _ Hears
-          (λ _. plan_cases Hears (may_merge group frozen) (closing_group group frozen) group (Merged (merged_route group.core frozen)) tx
-          (λ _. merge_goes request world name group found (RecordVote tx vote by) tx (Merged (merged_route group.core frozen)) (closing_group group frozen) frozen refl refl refl refl refl own party coordinates
-          (merged_route group.core frozen) refl (ap (λ f. holding_of (closing_group group f)) party.handed ∙ (plans_move.joins group next).closing))
-          quiet)
-          (λ _. stays request world name group found (RecordVote tx vote by) (heard_group group tx At.Merge order (record { frozen = frozen; by = by }), Was.Changed) refl refl (λ other. refl)
-          (λ t. ap commit_in (watcher_known world.transactions tx group.core.id t (named_watcher vote))) (sym coordinates) refl refl)
+      closes : Hears (decided (closing_group group frozen) tx (Merged (merged_route group.core frozen)))
+      closes =
+          merge_goes request world name group found (RecordVote tx vote by) tx (Merged (merged_route group.core frozen)) (closing_group group frozen) frozen refl refl refl refl refl own party coordinates
+          (merged_route group.core frozen) refl (ap (λ f. holding_of (closing_group group f)) party.handed ∙ (plans_move.joins group next).closing)
 
-      gives : (at : ℕ) → at < 2 ^ 32 → holds group.core.arc at ≡ true → Hears (committed (giving_plan group at frozen) group tx)
-      gives at fits within =
-          plan_cases Hears (can_repart group.core at frozen) (giving_group group at frozen) group (Moved at (Some (part_gift group at))) tx
-          (λ can. (
+      hears : (order : ℕ) → Hears (heard_group group tx At.Merge order (record { frozen = frozen; by = by }), Was.Changed)
+      hears order =
+          stays request world name group found (RecordVote tx vote by) (heard_group group tx At.Merge order (record { frozen = frozen; by = by }), Was.Changed) refl refl (λ other. refl)
+          (λ t. ap commit_in (watcher_known world.transactions tx group.core.id t (named_watcher vote))) (sym coordinates) refl refl
+
+      gives : (at : ℕ) → at < 2 ^ 32 → holds group.core.arc at ≡ true → can_repart group.core at frozen ≡ true → Hears (decided (giving_group group at frozen) tx (Moved at (Some (part_gift group at))))
+      gives at fits within can =
           let tested : can_cut group.core.arc at ≡ true = sym (cond-true (holds group.core.arc at) (can_cut group.core.arc at) (can_cut frozen.arc at && can_join group.core.arc (before frozen.arc at)) within) ∙ can in
           let cut = cut_is group.core.arc at tested in
           let own_is = own_group world name group found (RecordVote tx vote by) (group, Was.NoEffect tx) refl refl in
@@ -106,13 +98,10 @@ module _ (request : RequestOf) (world : StoreWorld) (name : Draw) (group : Group
           at (Some (part_gift group at)) refl
           (ap (λ f. holding_of (giving_group group at f)) party.handed ∙ (plans_move.gives group next party.offer at party.offered within).own)
           (gains group next tx party.offer at party.lock party.offered within tested meet none)
-          fits cut meet))
-          quiet
+          fits cut meet
 
-      takes : (at : ℕ) → at < 2 ^ 32 → holds group.core.arc at ≡ false → Hears (committed (taking_plan group at frozen) group tx)
-      takes at fits out =
-          plan_cases Hears (can_repart group.core at frozen && not (has_key_of group.pairs (taken at frozen).pairs)) (taking_group group at frozen) group (Moved at None) tx
-          (λ can. (
+      takes : (at : ℕ) → at < 2 ^ 32 → holds group.core.arc at ≡ false → (can_repart group.core at frozen && not (has_key_of group.pairs (taken at frozen).pairs)) ≡ true → Hears (decided (taking_group group at frozen) tx (Moved at None))
+      takes at fits out can =
           let tested : (can_cut frozen.arc at && can_join group.core.arc (before frozen.arc at)) ≡ true =
           sym (cond-false (holds group.core.arc at) (can_cut group.core.arc at) (can_cut frozen.arc at && can_join group.core.arc (before frozen.arc at)) out)
           ∙ (and_parts (can_repart group.core at frozen) (not (has_key_of group.pairs (taken at frozen).pairs)) can).0 in
@@ -124,42 +113,28 @@ module _ (request : RequestOf) (world : StoreWorld) (name : Draw) (group : Group
           at None refl
           (ap (λ f. holding_of (taking_group group at f)) party.handed ∙ (plans_move.takes group next at out).own)
           (loses next tx party.offer at party.lock cuts ∙ (plans_move.takes group next at out).lost)
-          fits (cut_is next.core.arc at cuts) (join_is group.core.arc (before next.core.arc at) meets)))
-          quiet
+          fits (cut_is next.core.arc at cuts) (join_is group.core.arc (before next.core.arc at) meets)
 
-      reparts : (at : ℕ) → at < 2 ^ 32 → Hears (committed (repart_plan group at frozen) group tx)
-      reparts at fits =
-          cond_both (holds group.core.arc at) (giving_plan group at frozen) (taking_plan group at frozen) (λ plan. Hears (committed plan group tx)) (gives at fits) (takes at fits)
-
-      migrates : (node : ℕ) → Hears (committed (migrate_plan group node frozen) group tx)
+      migrates : (node : ℕ) → Hears (decided (migrated_group group node frozen) tx (Migrated node))
       migrates node =
-          plan_cases Hears (can_migrate group.core node frozen) (migrated_group group node frozen) group (Migrated node) tx
-          (λ _. migrate_goes request world name group found (RecordVote tx vote by) tx (Migrated node) (migrated_group group node frozen) frozen refl refl refl refl refl own party coordinates
-          node refl refl (welcomes next tx party.offer node party.lock))
-          quiet
+          migrate_goes request world name group found (RecordVote tx vote by) tx (Migrated node) (migrated_group group node frozen) frozen refl refl refl refl refl own party coordinates
+          node refl refl (welcomes next tx party.offer node party.lock)
 
-      by_body : (body : Body) (order : ℕ) (heard : Option Heard) → group.core.lock ≡ Coordinating tx body order heard → Hears (granted body group tx order frozen by)
-      by_body At.Merge order heard lock = merges order
-      by_body (At.Repart at) order heard lock = reparts at (may.fits at order heard lock)
-      by_body (At.Migrate node) order heard lock = migrates node
-      by_body (At.Split at child) order heard lock = quiet
-
-    by_vote : (cast : Vote) → vote ≡ cast → (body : Body) (order : ℕ) (heard : Option Heard) → group.core.lock ≡ Coordinating tx body order heard → Hears (participant_answered cast body group tx order by)
-    by_vote (Says.Yes frozen) e body order heard lock = by_body frozen e body order heard lock
-    by_vote (Says.No why) e body order heard lock = aborts
-
-  by_lock : (lock : Lock) → group.core.lock ≡ lock → Hears (vote_recorded lock group tx vote by)
-  by_lock Free e = quiet
-  by_lock (Promised locked offer) e = quiet
-  by_lock (Watching locked watch) e = quiet
-  by_lock (Coordinating locked body order heard) e =
-      cond_both (same_draw locked tx) _ _ Hears
-      (λ same. cond_both (asks_watcher body heard) _ _ Hears (λ _. quiet)
-      (λ _. by_vote (ap (λ l. is_coordinating l tx) e ∙ same) vote refl body order heard (e ∙ ap (λ x. Coordinating x body order heard) (draw_is locked tx same))))
-      (λ _. quiet)
+  -- who coordinates a transaction
+  it_is : (body : Body) (order : ℕ) (heard : Option Heard) → group.core.lock ≡ Coordinating tx body order heard → is_coordinating group.core.lock tx ≡ true
+  it_is body order heard lock = ap (λ l. is_coordinating l tx) lock ∙ same_name tx tx refl
 
   pub vote_goes : Goes request world name group found (RecordVote tx vote by) (applied group (RecordVote tx vote by))
-  vote_goes = by_lock group.core.lock refl
+  vote_goes =
+      vote_step group tx vote by Hears (record {
+        quiet = quiet;
+        hears = λ order lock frozen votes other. hears (it_is At.Merge order None lock) frozen votes order;
+        aborts = λ body order lock why votes. aborts (it_is body order None lock);
+        closes = λ order lock frozen votes two can. closes (it_is At.Merge order None lock) frozen votes;
+        gives = λ at order lock frozen votes within can. gives (it_is (At.Repart at) order None lock) frozen votes at (may.fits at order None lock) within can;
+        takes = λ at order lock frozen votes out can. takes (it_is (At.Repart at) order None lock) frozen votes at (may.fits at order None lock) out can;
+        migrates = λ node order lock frozen votes can. migrates (it_is (At.Migrate node) order None lock) frozen votes node;
+      })
 
 -- ---- a watcher's vote
 
@@ -174,54 +149,37 @@ module _ (request : RequestOf) (world : StoreWorld) (name : Draw) (group : Group
   watch_aborts is = stays request world name group found (RecordWatch tx vote by) (aborted group tx) refl refl (λ other. refl)
       (λ t. abort_concluded world.transactions tx group.core.id t (none_committed world tx (may.own is).uncommitted)) (sym (coordinator_held world.transactions group tx group.core.lock refl is)) refl refl
 
-  watched_merge : is_coordinating group.core.lock tx ≡ true → (order : ℕ) (heard : Heard) → group.core.lock ≡ Coordinating tx At.Merge order (Some heard) → vote ≡ Cast.Yes → HearsWatch (committed (merge_plan group heard.frozen) group tx)
+  watched_merge : is_coordinating group.core.lock tx ≡ true → (order : ℕ) (heard : Heard) → group.core.lock ≡ Coordinating tx At.Merge order (Some heard) → vote ≡ Cast.Yes → HearsWatch (decided (merged_group group heard.frozen) tx (Merged (merged_route group.core heard.frozen)))
   watched_merge is order heard lock cast =
       let frozen = heard.frozen in
       let party = may.party order heard lock cast in
-      plan_cases HearsWatch (may_merge group frozen) (merged_group group frozen) group (Merged (merged_route group.core frozen)) tx
-      (λ _. merge_goes request world name group found (RecordWatch tx vote by) tx (Merged (merged_route group.core frozen)) (merged_group group frozen) frozen refl refl refl refl refl (may.own is) party
+      merge_goes request world name group found (RecordWatch tx vote by) tx (Merged (merged_route group.core frozen)) (merged_group group frozen) frozen refl refl refl refl refl (may.own is) party
       (coordinator_held world.transactions group tx group.core.lock refl is)
-      (merged_route group.core frozen) refl (ap (λ f. holding_of (merged_group group f)) party.handed ∙ (plans_move.joins group party.next).merged))
-      still
+      (merged_route group.core frozen) refl (ap (λ f. holding_of (merged_group group f)) party.handed ∙ (plans_move.joins group party.next).merged)
 
   watched_split : is_coordinating group.core.lock tx ≡ true → (at : ℕ) (child : Draw) (order : ℕ) (heard : Option Heard) → group.core.lock ≡ Coordinating tx (At.Split at child) order heard → vote ≡ Cast.Yes
-      → HearsWatch (committed (split_plan group at child) group tx)
-  watched_split is at child order heard lock cast =
+      → can_split group.core at ≡ true → HearsWatch (decided (left_group group at child) tx Divided)
+  watched_split is at child order heard lock cast can =
       let facts = may.division at child order heard lock cast in
-      plan_cases HearsWatch (can_split group.core at) (left_group group at child) group Divided tx
-      (λ can. division_goes request world name group found (RecordWatch tx vote by) (decided (left_group group at child) tx Divided) at child refl
+      division_goes request world name group found (RecordWatch tx vote by) (decided (left_group group at child) tx Divided) at child refl
       (ap (λ l. option_map (λ (d : Division). child_of group d.at d.child) (division_in l)) lock) facts.1
       (ap (λ l. ring_divided (division_in l) group.core.id world.ring) lock)
       refl (coordinator_held world.transactions group tx group.core.lock refl is) refl
       (λ other g there. others_held world.transactions tx group.core.id Divided g g.core.lock refl (λ offer e. facts.2 other g offer there e))
-      refl refl facts.0 (cut_is group.core.arc at (and_parts (can_cut group.core.arc at) (nat_le 2 (length group.core.members)) can).0))
-      still
+      refl refl facts.0 (cut_is group.core.arc at (and_parts (can_cut group.core.arc at) (nat_le 2 (length group.core.members)) can).0)
 
-  watch_body : is_coordinating group.core.lock tx ≡ true → (body : Body) (order : ℕ) (heard : Option Heard) → group.core.lock ≡ Coordinating tx body order heard → vote ≡ Cast.Yes → HearsWatch (released body heard group tx)
-  watch_body is At.Merge order None lock cast = still
-  watch_body is At.Merge order (Some heard) lock cast = watched_merge is order heard lock cast
-  watch_body is (At.Repart at) order heard lock cast = still
-  watch_body is (At.Migrate node) order heard lock cast = still
-  watch_body is (At.Split at child) order heard lock cast = watched_split is at child order heard lock cast
-
-  watch_vote : is_coordinating group.core.lock tx ≡ true → (cast : Past) → vote ≡ cast → (body : Body) (order : ℕ) (heard : Option Heard) → group.core.lock ≡ Coordinating tx body order heard → HearsWatch (watch_answered cast body heard group tx)
-  watch_vote is Cast.Yes e body order heard lock = watch_body is body order heard lock e
-  watch_vote is (Cast.No why) e body order heard lock = watch_aborts is
-  watch_vote is Cast.Ended e body order heard lock = watch_aborts is
-
-  watch_lock : (lock : Lock) → group.core.lock ≡ lock → HearsWatch (watch_recorded lock group tx vote)
-  watch_lock Free e = still
-  watch_lock (Promised locked offer) e = still
-  watch_lock (Watching locked watch) e = still
-  watch_lock (Coordinating locked body order heard) e =
-      cond_both (same_draw locked tx) _ _ HearsWatch
-      (λ same. cond_both (asks_watcher body heard) _ _ HearsWatch
-      (λ _. watch_vote (ap (λ l. is_coordinating l tx) e ∙ same) vote refl body order heard (e ∙ ap (λ x. Coordinating x body order heard) (draw_is locked tx same)))
-      (λ _. still))
-      (λ _. still)
+  -- who coordinates a transaction
+  its_own : (body : Body) (order : ℕ) (heard : Option Heard) → group.core.lock ≡ Coordinating tx body order heard → is_coordinating group.core.lock tx ≡ true
+  its_own body order heard lock = ap (λ l. is_coordinating l tx) lock ∙ same_name tx tx refl
 
   pub watch_goes : Goes request world name group found (RecordWatch tx vote by) (applied group (RecordWatch tx vote by))
-  watch_goes = watch_lock group.core.lock refl
+  watch_goes =
+      watch_step group tx vote HearsWatch (record {
+        quiet = still;
+        aborts = λ body order got lock no_yes. watch_aborts (its_own body order got lock);
+        divides = λ at child order got lock votes can. watched_split (its_own (At.Split at child) order got lock) at child order got lock votes can;
+        merges = λ order heard lock votes can. watched_merge (its_own At.Merge order (Some heard) lock) order heard lock votes;
+      })
 
 -- ---- a split
 

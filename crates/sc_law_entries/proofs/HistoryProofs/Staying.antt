@@ -8,9 +8,8 @@ use Rattle.sc_words.specs.declared.commands.bodies.Offer.{Offer}
 use Rattle.sc_words.specs.declared.commands.bodies.Watch.{Watch}
 use Rattle.sc_words.specs.declared.commands.commands.Command.{Command}
 use Rattle.sc_words.specs.declared.commands.commands.Command.TheVariants.{Noop, Join, Leave, Begin, Prepared, GiveUp, Watched}
-use Rattle.sc_words.specs.declared.commands.cores.Core.{Core}
 use Rattle.sc_words.specs.declared.commands.cores.Lock.{Lock}
-use Rattle.sc_words.specs.declared.commands.cores.Lock.TheVariants.{Free, Coordinating, Promised, Watching}
+use Rattle.sc_words.specs.declared.commands.cores.Lock.TheVariants.{Promised, Watching}
 use Rattle.sc_words.specs.declared.commands.effects.Effect.{Effect}
 use Rattle.sc_words.specs.declared.commands.effects.Effect.TheVariants as Was
 use Rattle.sc_words.specs.declared.commands.links.Route.{Route}
@@ -18,7 +17,7 @@ use Rattle.sc_words.specs.declared.commands.orders.OrderRefusal.{OrderRefusal}
 use Rattle.sc_words.specs.declared.commands.orders.OrderRefusal.TheVariants.{NotLeader}
 use Rattle.sc_words.specs.declared.commands.votes.No.{No}
 use Rattle.sc_words.specs.declared.commands.votes.Outcome.{Outcome}
-use Rattle.sc_group_table.specs.machine.Definitions.{Group, entry_of, applied, locked_in, ordered, refusal_of, refused_in, with_node, without_node, has_named, aborted, begun_group, is_coordinating, bound_by, has_voted, no_of, offer_no, past_of, vote_of, voted_on, watch_no, watch_vote_of}
+use Rattle.sc_group_table.specs.machine.Definitions.{Group, entry_of, applied, ordered, refusal_of, with_node, without_node, has_named, aborted, begun_group, is_coordinating, bound_by, has_voted, offer_no, past_of, vote_of, voted_on, watch_no, watch_vote_of}
 use Rattle.sc_meaning.specs.entries.Definitions.{birth_of, begun_transaction, decision, is_commit, arc_in, ring_after, StoreWorld, named_group, with_result}
 use Rattle.sc_meaning.specs.declared.entries.Transaction.{Transaction}
 use Rattle.sc_law_entries.specs.history.Definitions.{RequestOf, Unmoved, holding_of, HasKnownTable, IsMoveTo, IsUncommitted}
@@ -26,6 +25,7 @@ use Rattle.sc_law_entries.proofs.HistoryProofs.Elsewhere.{elsewhere, held_by, it
 use Rattle.sc_law_entries.proofs.HistoryProofs.Finishing.{coordinator_held, free_held, promised_held, votes_held, watching_held, with_votes}
 use Rattle.sc_law_entries.proofs.HistoryProofs.Outcomes.{abort_concluded, commit_in, one_begun, same_party}
 use Rattle.sc_meaning.proofs.EntriesProofs.Lemmas.{draw_cases}
+pub use Rattle.sc_law_walks.proofs.Lemmas.{free_by, yes_free as free_by_no}
 
 -- ---- what is decided, by commits
 
@@ -88,20 +88,6 @@ pub order_cases : (P : Group × Effect → Type 0) (gone : Option Route) (why : 
 order_cases P (Some into) why after group quiet go = quiet (NotLeader None)
 order_cases P None (Some why) after group quiet go = quiet why
 order_cases P None None after group quiet go = go refl refl
-
--- an order that is not refused is one of a free group
-pub free_by : (lock : Lock) (core : Core) (c : Command) → refused_in (locked_in lock) core c ≡ None → lock ≡ Free
-free_by Free core c e = refl
-free_by (Coordinating tx body order heard) core c e = cc
-free_by (Promised tx offer) core c e = cc
-free_by (Watching tx watch) core c e = cc
-
-pub free_by_no : (gone : Option Route) (lock : Lock) (why : Option No) → no_of gone (locked_in lock) why ≡ None → lock ≡ Free
-free_by_no (Some into) lock why e = cc
-free_by_no None Free why e = refl
-free_by_no None (Coordinating tx body order heard) why e = cc
-free_by_no None (Promised tx offer) why e = cc
-free_by_no None (Watching tx watch) why e = cc
 
 module _ (request : RequestOf) (world : StoreWorld) (name : Draw) (group : Group) (found : named_group name world.groups ≡ Some group) where
   pub noop_goes : Goes request world name group found Noop (applied group Noop)

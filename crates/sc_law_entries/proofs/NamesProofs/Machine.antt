@@ -1,18 +1,16 @@
 -- The group machine names nothing new: what stands in a group after a command, and in its effect, stood in the group before, or in the command.
-use Rattle.std.proofs.Common.{ℕ, ◌&&◌, ◌||◌, not, nat_le, nat_lt, eqb, List, [], ◌∷◌, length, map, Option, Some, None}
-use Rattle.std.specs.FinMap.{get}
+use Rattle.std.proofs.Common.{ℕ, ◌&&◌, ◌||◌, not, nat_le, nat_lt, eqb, List, [], ◌∷◌, length, map, Option, Some, None, inl, inr, sym, subst}
 use Rattle.sc_base.specs.Definitions.{Each, holds, end_of, same_draw, is_member, united}
-use Rattle.sc_node_table.specs.Values.{Draw, Op, Noted, Body, Offer, Watch, Command, Noop, Call, Join, Leave, Split, Begin, Prepared, RecordVote, GiveUp, Finish, Watched, RecordWatch, Base, Core, Lock, Free, Coordinating, Promised, Watching, Effect, Link, Route, OrderRefusal, Frozen, Gift, Heard, No, Outcome, Past, Vote}
+use Rattle.sc_node_table.specs.Values.{Draw, Body, Offer, Watch, Command, Join, Leave, Split, Begin, Prepared, RecordVote, GiveUp, Finish, Watched, RecordWatch, Base, Core, Lock, Free, Coordinating, Promised, Watching, Effect, Link, Route, OrderRefusal, Frozen, No, Outcome, Past}
 use Rattle.sc_words.specs.commands.Definitions.{is_alone}
-use Rattle.sc_words.specs.ideal.Definitions.{key_of, holds_key}
 use Rattle.sc_words.specs.declared.commands.bodies.Body.TheVariants as At
+use Rattle.sc_words.specs.declared.commands.effects.Effect.TheVariants as Was
 use Rattle.sc_words.specs.declared.commands.votes.Outcome.TheVariants as Is
 use Rattle.sc_words.specs.declared.commands.votes.Past.TheVariants as Cast
-use Rattle.sc_words.specs.declared.commands.votes.Vote.TheVariants as Says
 use Rattle.sc_words.proofs.PaxosProofs.Lemmas.{Each-append}
-use Rattle.sc_group_table.specs.machine.Definitions.{ordered_child, released_child, answered_child, watched_child, child_by, Group, served_by_note, served, called, split_group, ordered_by, applied, locked_in, limit_refused, body_refused, refused_free, refused_in, refusal_of, ordered, with_node, without_node, splits_at_once, left_link, right_link, left_group, child_of, has_named, Plan, can_cut, has_key_of, can_split, may_merge, can_repart, taken, can_migrate, split_plan, merged_core, merged_link, merge_plan, closing_plan, repart_plan, migrate_plan, asks_watcher, is_coordinating, begun_group, decided, committed, granted, participant_answered, vote_recorded, released, watch_answered, watch_recorded, has_voted, size_no, body_no, offer_no, watch_no, no_of, vote_of, watch_vote_of, past_of, bound_by, voted_on, offer_voted, watched, can_gain, moved, participant_after, pred_after, watcher_after, closed, party_freed, settled_in, finished}
-use Rattle.sc_law_walks.proofs.Lemmas.{either_way}
-use Rattle.sc_law_entries.specs.names.Definitions.{Opt, BodyNames, OfferNames, WatchNames, NoNames, VoteNames, PastNames, OutcomeNames, HeardNames, LockNames, CoreNames, CommandNames, RefusalNames, EffectNames}
+use Rattle.sc_group_table.specs.machine.Definitions.{gone_group, gained_group, lost_group, welcomed_group, closing_group, merged_group, giving_group, taking_group, migrated_group, ordered_child, released_child, answered_child, watched_child, child_by, Group, applied, locked_in, limit_refused, body_refused, refused_free, refused_in, refusal_of, with_node, without_node, splits_at_once, left_link, right_link, left_group, child_of, has_named, can_split, merged_core, merged_link, begun_group, decided, has_voted, size_no, body_no, offer_no, watch_no, no_of, vote_of, watch_vote_of, past_of, bound_by, pred_after, watcher_after, closed, party_freed}
+use Rattle.sc_law_walks.proofs.Lemmas.{either_way, Names, ChangesNothing, voting_group, MachineWalk, machine_step}
+use Rattle.sc_law_entries.specs.names.Definitions.{Opt, BodyNames, WatchNames, NoNames, PastNames, OutcomeNames, LockNames, CoreNames, CommandNames, RefusalNames, EffectNames}
 
 -- of each of a list that is mapped
 pub Each-map : {X Y : Type 0} (P : X → Type 0) (Q : Y → Type 0) (f : X → Y) → ((x : X) → P x → Q (f x)) → (xs : List X) → Each P xs → Each Q (map f xs)
@@ -36,33 +34,6 @@ module _ (K : Draw → Type 0) where
 
   abbrev GoneOf : Option Route → Type 0
   GoneOf o = Opt (λ (into : Route). K into.group) o
-
-  pub record PlanOf (p : Group × Outcome) : Type 0 where
-    pub core : CoreNames K p.0.core
-    pub outcome : OutcomeNames K p.1
-
-  abbrev PlanNames : Plan → Type 0
-  PlanNames plan = Opt PlanOf plan
-
-  abbrev GroupOf : Option Group → Type 0
-  GroupOf o = Opt (λ (g : Group). CoreNames K g.core) o
-
-  -- ---- calls
-
-  note_names : (o : Option Noted) (group : Group) (client seq : ℕ) (op : Op) → CoreNames K group.core → StepNames (served_by_note o group client seq op)
-  note_names None group client seq op k = record { core = k; effect = tt }
-  note_names (Some noted) group client seq op k =
-      either_way StepNames (nat_lt noted.seq seq) _ _ (record { core = k; effect = tt }) (either_way StepNames (eqb noted.seq seq) _ _ (record { core = k; effect = tt }) (record { core = k; effect = tt }))
-
-  served_names : (group : Group) (client seq : ℕ) (op : Op) → CoreNames K group.core → StepNames (served group client seq op)
-  served_names group client seq op k = either_way StepNames (holds_key group.core.arc (key_of op)) _ _ (note_names (get group.clients client) group client seq op k) (record { core = k; effect = k.succ })
-
-  called_names : (gone : Option Route) (lock : Lock) (group : Group) (client seq : ℕ) (op : Op) → GoneOf gone → LockNames K lock → CoreNames K group.core → StepNames (called gone lock group client seq op)
-  called_names (Some into) lock group client seq op g l k = record { core = k; effect = g }
-  called_names None Free group client seq op g l k = served_names group client seq op k
-  called_names None (Watching tx watch) group client seq op g l k = served_names group client seq op k
-  called_names None (Coordinating tx body order heard) group client seq op g l k = record { core = k; effect = l.0 }
-  called_names None (Promised tx offer) group client seq op g l k = record { core = k; effect = l.0 }
 
   -- ---- orders
 
@@ -96,14 +67,6 @@ module _ (K : Draw → Type 0) where
   pub refusal_names : (core : Core) (command : Command) → CoreNames K core → RefusedOf (refusal_of core command)
   refusal_names core command k = refusal_in (locked_in core.lock) core command (locked_names core.lock k.lock)
 
-  ordered_names : (gone : Option Route) (why : Option OrderRefusal) (after group : Group) → RefusedOf why → CoreNames K after.core → CoreNames K group.core → StepNames (ordered gone why after group)
-  ordered_names (Some into) why after group w a k = record { core = k; effect = tt }
-  ordered_names None (Some why) after group w a k = record { core = k; effect = w }
-  ordered_names None None after group w a k = record { core = a; effect = tt }
-
-  drawn_names : (draw : Draw) (why : Option OrderRefusal) (after group : Group) → K draw → RefusedOf why → CoreNames K after.core → CoreNames K group.core → StepNames (ordered_by (Some draw) why after group)
-  drawn_names draw why after group d w a k = either_way StepNames (has_named group.core draw) _ _ (record { core = k; effect = d }) (ordered_names group.core.gone why after group w a k)
-
   begun_names : (group : Group) (tx : Draw) (body : Body) (order : ℕ) → K tx → BodyNames K body → CoreNames K group.core → CoreNames K (begun_group group tx body order).core
   begun_names group tx body order t b k = record { id = k.id; succ = k.succ; pred = k.pred; lock = (t, b, tt); decided = k.decided; voted = k.voted; born = k.born; gone = k.gone }
 
@@ -135,13 +98,6 @@ module _ (K : Draw → Type 0) where
     gone = tt;
   }
 
-  abbrev Kept : Group → Type 0
-  Kept g = CoreNames K g.core
-
-  split_names : (group : Group) (at : ℕ) (child : Draw) (order : ℕ) → K child → CoreNames K group.core → CoreNames K (split_group group at child order).core
-  split_names group at child order c k =
-      either_way Kept (is_alone group.core) (left_group group at child) (begun_group group child (At.Split at child) order) (left_names group at child c k) (begun_names group child (At.Split at child) order c c k)
-
   with_names : (group : Group) (node : ℕ) → CoreNames K group.core → CoreNames K (with_node group node).core
   with_names group node k = record { id = k.id; succ = k.succ; pred = k.pred; lock = k.lock; decided = k.decided; voted = k.voted; born = k.born; gone = k.gone }
 
@@ -165,13 +121,6 @@ module _ (K : Draw → Type 0) where
     effect = o;
   }
 
-  committed_names : (plan : Plan) (group : Group) (tx : Draw) → PlanNames plan → K tx → CoreNames K group.core → StepNames (committed plan group tx)
-  committed_names None group tx p t k = record { core = k; effect = t }
-  committed_names (Some plan) group tx p t k = decided_names plan.0 tx plan.1 t p.outcome p.core
-
-  split_plan_names : (group : Group) (at : ℕ) (child : Draw) → K child → CoreNames K group.core → PlanNames (split_plan group at child)
-  split_plan_names group at child c k = either_way PlanNames (can_split group.core at) _ _ (record { core = left_names group at child c k; outcome = tt }) tt
-
   merged_names : (core : Core) (frozen : Frozen) → K frozen.succ.group → CoreNames K core → CoreNames K (merged_core core frozen)
   merged_names core frozen f k = record {
     id = k.id;
@@ -183,63 +132,6 @@ module _ (K : Draw → Type 0) where
     born = k.born;
     gone = k.gone;
   }
-
-  merge_names : (group : Group) (frozen : Frozen) → K frozen.succ.group → CoreNames K group.core → PlanNames (merge_plan group frozen)
-  merge_names group frozen f k = either_way PlanNames (may_merge group frozen) _ _ (record { core = merged_names group.core frozen f k; outcome = k.id }) tt
-
-  closing_names : (group : Group) (frozen : Frozen) → K frozen.succ.group → CoreNames K group.core → PlanNames (closing_plan group frozen)
-  closing_names group frozen f k =
-      let m = merged_names group.core frozen f k in
-      either_way PlanNames (may_merge group frozen) _ _
-      (record { core = record { id = k.id; succ = m.succ; pred = k.id; lock = k.lock; decided = k.decided; voted = k.voted; born = k.born; gone = k.gone }; outcome = k.id }) tt
-
-  repart_names : (group : Group) (at : ℕ) (frozen : Frozen) → CoreNames K group.core → PlanNames (repart_plan group at frozen)
-  repart_names group at frozen k =
-      either_way PlanNames (holds group.core.arc at) _ _
-      (either_way PlanNames (can_repart group.core at frozen) _ _ (record { core = record { id = k.id; succ = k.succ; pred = k.pred; lock = k.lock; decided = k.decided; voted = k.voted; born = k.born; gone = k.gone }; outcome = tt }) tt)
-      (either_way PlanNames (can_repart group.core at frozen && not (has_key_of group.pairs (taken at frozen).pairs)) _ _ (record { core = record { id = k.id; succ = k.succ; pred = k.pred; lock = k.lock; decided = k.decided; voted = k.voted; born = k.born; gone = k.gone }; outcome = tt }) tt)
-
-  migrate_names : (group : Group) (node : ℕ) (frozen : Frozen) → CoreNames K group.core → PlanNames (migrate_plan group node frozen)
-  migrate_names group node frozen k =
-      either_way PlanNames (can_migrate group.core node frozen) _ _ (record { core = record { id = k.id; succ = k.succ; pred = k.pred; lock = k.lock; decided = k.decided; voted = k.voted; born = k.born; gone = k.gone }; outcome = tt }) tt
-
-  granted_names : (body : Body) (group : Group) (tx : Draw) (order : ℕ) (frozen : Frozen) (by : ℕ) → K tx → K frozen.succ.group → CoreNames K group.core → StepNames (granted body group tx order frozen by)
-  granted_names At.Merge group tx order frozen by t f k =
-      either_way StepNames (same_draw frozen.succ.group group.core.id) _ _ (committed_names (closing_plan group frozen) group tx (closing_names group frozen f k) t k)
-      (record { core = record { id = k.id; succ = k.succ; pred = k.pred; lock = (t, tt, f); decided = k.decided; voted = k.voted; born = k.born; gone = k.gone }; effect = tt })
-  granted_names (At.Repart at) group tx order frozen by t f k = committed_names (repart_plan group at frozen) group tx (repart_names group at frozen k) t k
-  granted_names (At.Migrate node) group tx order frozen by t f k = committed_names (migrate_plan group node frozen) group tx (migrate_names group node frozen k) t k
-  granted_names (At.Split at child) group tx order frozen by t f k = record { core = k; effect = t }
-
-  answered_names : (vote : Vote) (body : Body) (group : Group) (tx : Draw) (order by : ℕ) → K tx → VoteNames K vote → CoreNames K group.core → StepNames (participant_answered vote body group tx order by)
-  answered_names (Says.Yes frozen) body group tx order by t v k = granted_names body group tx order frozen by t v k
-  answered_names (Says.No why) body group tx order by t v k = decided_names group tx Is.Abort t tt k
-
-  vote_names : (lock : Lock) (group : Group) (tx : Draw) (vote : Vote) (by : ℕ) → K tx → VoteNames K vote → CoreNames K group.core → StepNames (vote_recorded lock group tx vote by)
-  vote_names Free group tx vote by t v k = record { core = k; effect = t }
-  vote_names (Promised locked offer) group tx vote by t v k = record { core = k; effect = t }
-  vote_names (Watching locked watch) group tx vote by t v k = record { core = k; effect = t }
-  vote_names (Coordinating locked body order heard) group tx vote by t v k =
-      either_way StepNames (same_draw locked tx) _ _ (either_way StepNames (asks_watcher body heard) _ _ (record { core = k; effect = t }) (answered_names vote body group tx order by t v k)) (record { core = k; effect = t })
-
-  released_names : (body : Body) (heard : Option Heard) (group : Group) (tx : Draw) → K tx → BodyNames K body → HeardNames K heard → CoreNames K group.core → StepNames (released body heard group tx)
-  released_names At.Merge (Some heard) group tx t b h k = committed_names (merge_plan group heard.frozen) group tx (merge_names group heard.frozen h k) t k
-  released_names At.Merge None group tx t b h k = record { core = k; effect = t }
-  released_names (At.Repart at) heard group tx t b h k = record { core = k; effect = t }
-  released_names (At.Migrate node) heard group tx t b h k = record { core = k; effect = t }
-  released_names (At.Split at child) heard group tx t b h k = committed_names (split_plan group at child) group tx (split_plan_names group at child b k) t k
-
-  watch_answer : (vote : Past) (body : Body) (heard : Option Heard) (group : Group) (tx : Draw) → K tx → BodyNames K body → HeardNames K heard → CoreNames K group.core → StepNames (watch_answered vote body heard group tx)
-  watch_answer Cast.Yes body heard group tx t b h k = released_names body heard group tx t b h k
-  watch_answer (Cast.No why) body heard group tx t b h k = decided_names group tx Is.Abort t tt k
-  watch_answer Cast.Ended body heard group tx t b h k = decided_names group tx Is.Abort t tt k
-
-  watch_names : (lock : Lock) (group : Group) (tx : Draw) (vote : Past) → LockNames K lock → K tx → CoreNames K group.core → StepNames (watch_recorded lock group tx vote)
-  watch_names Free group tx vote l t k = record { core = k; effect = t }
-  watch_names (Promised locked offer) group tx vote l t k = record { core = k; effect = t }
-  watch_names (Watching locked watch) group tx vote l t k = record { core = k; effect = t }
-  watch_names (Coordinating locked body order heard) group tx vote l t k =
-      either_way StepNames (same_draw locked tx) _ _ (either_way StepNames (asks_watcher body heard) _ _ (watch_answer vote body heard group tx t l.1 l.2 k) (record { core = k; effect = t })) (record { core = k; effect = t })
 
   -- ---- the other parties
 
@@ -265,45 +157,20 @@ module _ (K : Draw → Type 0) where
   bound_names None bond lock b l = b
   bound_names (Some why) bond lock b l = l
 
-  voted_names : (why : Option No) (bond : Lock) (group : Group) (tx : Draw) → NoOf why → LockNames K bond → K tx → CoreNames K group.core → StepNames (voted_on why bond group tx)
-  voted_names why bond group tx w b t k =
-      either_way StepNames (has_voted group.core tx) _ _ (record { core = k; effect = t })
-      (record {
-        core = record {
-          id = k.id;
-          succ = k.succ;
-          pred = k.pred;
-          lock = bound_names why bond group.core.lock b k.lock;
-          decided = k.decided;
-          voted = Each-append (λ (v : Draw × Past). K v.0 × PastNames K v.1) group.core.voted ((tx, past_of why) ∷ []) k.voted ((t, past_names why w), tt);
-          born = k.born;
-          gone = k.gone;
-        };
-        effect = past_names why w;
-      })
-
-  offer_names : (group : Group) (tx : Draw) (offer : Offer) → K tx → OfferNames K offer → CoreNames K group.core → StepNames (offer_voted group tx offer)
-  offer_names group tx offer t o k =
-      voted_names (vote_of group.core offer) (Promised tx offer) group tx
-      (no_names group.core.gone (locked_in group.core.lock) (offer_no group.core offer) (locked_names group.core.lock k.lock) (either_way NoOf (eqb group.core.arc.lo (end_of offer.arc)) _ _ (body_no_names offer.body group.core offer) tt))
-      (t, o) t k
-
-  watched_names : (group : Group) (tx : Draw) (watch : Watch) → K tx → WatchNames K watch → CoreNames K group.core → StepNames (watched group tx watch)
-  watched_names group tx watch t w k =
-      voted_names (watch_vote_of group.core watch) (Watching tx watch) group tx
-      (no_names group.core.gone (locked_in group.core.lock) (watch_no group.core watch) (locked_names group.core.lock k.lock) (either_way NoOf (same_draw group.core.pred.group watch.old) _ _ tt tt))
-      (t, w) t k
-
-  moved_names : (gift : Option Gift) (group : Group) (offer : Offer) (at : ℕ) → CoreNames K group.core → GroupOf (moved gift group offer at)
-  moved_names (Some gift) group offer at k = either_way GroupOf (can_gain group.core offer at && not (has_key_of group.pairs gift.pairs)) _ _ (record { id = k.id; succ = k.succ; pred = k.pred; lock = k.lock; decided = k.decided; voted = k.voted; born = k.born; gone = k.gone }) tt
-  moved_names None group offer at k = either_way GroupOf (can_cut group.core.arc at) _ _ (record { id = k.id; succ = k.succ; pred = k.pred; lock = k.lock; decided = k.decided; voted = k.voted; born = k.born; gone = k.gone }) tt
-
-  participant_names : (outcome : Outcome) (group : Group) (offer : Offer) → OutcomeNames K outcome → CoreNames K group.core → GroupOf (participant_after outcome group offer)
-  participant_names Is.Abort group offer o k = k
-  participant_names (Is.Merged into) group offer o k = record { id = k.id; succ = k.succ; pred = k.pred; lock = k.lock; decided = k.decided; voted = k.voted; born = k.born; gone = o }
-  participant_names (Is.Moved at gift) group offer o k = moved_names gift group offer at k
-  participant_names (Is.Migrated node) group offer o k = either_way GroupOf (nat_le (length (united group.core.members (node ∷ []))) 9) _ _ (record { id = k.id; succ = k.succ; pred = k.pred; lock = k.lock; decided = k.decided; voted = k.voted; born = k.born; gone = k.gone }) tt
-  participant_names Is.Divided group offer o k = tt
+  voting_names : (why : Option No) (bond : Lock) (group : Group) (tx : Draw) → NoOf why → LockNames K bond → K tx → CoreNames K group.core → StepNames (voting_group group tx why bond, Was.Voted (past_of why))
+  voting_names why bond group tx w b t k = record {
+    core = record {
+      id = k.id;
+      succ = k.succ;
+      pred = k.pred;
+      lock = bound_names why bond group.core.lock b k.lock;
+      decided = k.decided;
+      voted = Each-append (λ (v : Draw × Past). K v.0 × PastNames K v.1) group.core.voted ((tx, past_of why) ∷ []) k.voted ((t, past_names why w), tt);
+      born = k.born;
+      gone = k.gone;
+    };
+    effect = past_names why w;
+  }
 
   pred_names : (outcome : Outcome) (next pred : Link) → K next.group → K pred.group → K (pred_after outcome next pred).group
   pred_names Is.Abort next pred n p = p
@@ -329,38 +196,73 @@ module _ (K : Draw → Type 0) where
     gone = k.gone;
   }
 
-  settled_names : (after : Option Group) (group : Group) (tx : Draw) (outcome : Outcome) → GroupOf after → K tx → OutcomeNames K outcome → CoreNames K group.core → StepNames (settled_in after group tx outcome)
-  settled_names None group tx outcome a t o k = record { core = k; effect = t }
-  settled_names (Some after) group tx outcome a t o k = record { core = freed_names after tx t a; effect = o }
-
   watcher_names : (outcome : Outcome) (group : Group) (watch : Watch) → WatchNames K watch → CoreNames K group.core → CoreNames K (watcher_after outcome group watch).core
   watcher_names outcome group watch w k =
       record { id = k.id; succ = k.succ; pred = pred_names outcome watch.next group.core.pred w.next k.pred; lock = k.lock; decided = k.decided; voted = k.voted; born = k.born; gone = k.gone }
 
-  finished_names : (lock : Lock) (group : Group) (tx : Draw) (outcome : Outcome) → LockNames K lock → K tx → OutcomeNames K outcome → CoreNames K group.core → StepNames (finished lock group tx outcome)
-  finished_names Free group tx outcome l t o k = record { core = k; effect = t }
-  finished_names (Coordinating locked body order heard) group tx outcome l t o k = record { core = k; effect = t }
-  finished_names (Promised locked offer) group tx outcome l t o k =
-      either_way StepNames (same_draw locked tx) _ _ (settled_names (participant_after outcome group offer) group tx outcome (participant_names outcome group offer o k) t o k) (record { core = k; effect = t })
-  finished_names (Watching locked watch) group tx outcome l t o k =
-      either_way StepNames (same_draw locked tx) _ _ (record { core = freed_names (watcher_after outcome group watch) tx t (watcher_names outcome group watch l.1 k); effect = o }) (record { core = k; effect = t })
-
   -- ---- one command
+
+  -- the transaction that a command names
+  named : (tx : Draw) (c : Command) → Names tx c → CommandNames K c → K tx
+  named tx (Split at child order) e n = subst K e n
+  named tx (Begin t body order) e n = subst K e n.0
+  named tx (Prepared t offer) e n = subst K e n.0
+  named tx (RecordVote t vote by) e n = subst K e n.0
+  named tx (GiveUp t) e n = subst K e n
+  named tx (Finish t outcome) e n = subst K e n.0
+  named tx (Watched t watch) e n = subst K e n.0
+  named tx (RecordWatch t vote by) e n = subst K e n.0
+  named tx _ e n = absurd e
+
+  -- what is said where nothing changes
+  said_names : (group : Group) → CoreNames K group.core → (c : Command) (effect : Effect) → ChangesNothing group c effect → CommandNames K c → EffectNames K effect
+  said_names group k c (Was.NotMine arc succ) from n = subst (λ (link : Link). K link.group) from.1 k.succ
+  said_names group k c (Was.Gone into) from n = subst GoneOf from k.gone
+  said_names group k c (Was.NoEffect tx) (inl e) n = subst TxOf e (locked_names group.core.lock k.lock)
+  said_names group k c (Was.NoEffect tx) (inr names) n = named tx c names n
+  said_names group k c (Was.Refused why) (inl e) n = subst (RefusalNames K) (sym e) tt
+  said_names group k c (Was.Refused why) (inr e) n = subst RefusedOf e (refusal_names group.core c k)
+  said_names group k c (Was.Voted vote) from n = absurd from
+  said_names group k c (Was.Decided outcome) from n = absurd from
+  said_names group k c _ from n = tt
+
+  -- what may come of a command
+  machine_names : (group : Group) → CoreNames K group.core → MachineWalk group (λ c x. CommandNames K c → StepNames x)
+  machine_names group k = record {
+    same = λ c effect from n. record { core = k; effect = said_names group k c effect from n };
+    serves = λ client seq op n. record { core = k; effect = tt };
+    joins = λ node order a n. record { core = with_names group node k; effect = tt };
+    leaves = λ node order a n. record { core = without_names group node k; effect = tt };
+    splits = λ at child order a new alone n. record { core = left_names group at child n k; effect = tt };
+    begins_split = λ at child order a new other n. record { core = begun_names group child (At.Split at child) order n n k; effect = tt };
+    begins = λ tx body order a new n. record { core = begun_names group tx body order n.0 n.1 k; effect = tt };
+    offers = λ tx offer new n. voting_names (vote_of group.core offer) (Promised tx offer) group tx
+        (no_names group.core.gone (locked_in group.core.lock) (offer_no group.core offer) (locked_names group.core.lock k.lock) (either_way NoOf (eqb group.core.arc.lo (end_of offer.arc)) _ _ (body_no_names offer.body group.core offer) tt))
+        n n.0 k;
+    watches = λ tx watch new n. voting_names (watch_vote_of group.core watch) (Watching tx watch) group tx
+        (no_names group.core.gone (locked_in group.core.lock) (watch_no group.core watch) (locked_names group.core.lock k.lock) (either_way NoOf (same_draw group.core.pred.group watch.old) _ _ tt tt))
+        n n.0 k;
+    hears = λ tx order lock frozen by other n. record { core = record { id = k.id; succ = k.succ; pred = k.pred; lock = (n.0, tt, n.1); decided = k.decided; voted = k.voted; born = k.born; gone = k.gone }; effect = tt };
+    aborts = λ c tx ends body order got lock n. decided_names group tx Is.Abort (subst (LockNames K) lock k.lock).0 tt k;
+    divides = λ tx at child order got lock by can n. decided_names (left_group group at child) tx Is.Divided n.0 tt (left_names group at child (subst (LockNames K) lock k.lock).1 k);
+    merges = λ tx order heard lock by may n. decided_names (merged_group group heard.frozen) tx _ n.0 k.id (merged_names group.core heard.frozen (subst (LockNames K) lock k.lock).2 k);
+    closes = λ tx order lock frozen by two may n. (
+        let m = merged_names group.core frozen n.1 k in
+        decided_names (closing_group group frozen) tx _ n.0 k.id (record { id = k.id; succ = m.succ; pred = k.id; lock = k.lock; decided = k.decided; voted = k.voted; born = k.born; gone = k.gone }));
+    gives = λ tx at order lock frozen by here can n. decided_names (giving_group group at frozen) tx _ n.0 tt (record { id = k.id; succ = k.succ; pred = k.pred; lock = k.lock; decided = k.decided; voted = k.voted; born = k.born; gone = k.gone });
+    takes = λ tx at order lock frozen by there can n. decided_names (taking_group group at frozen) tx _ n.0 tt (record { id = k.id; succ = k.succ; pred = k.pred; lock = k.lock; decided = k.decided; voted = k.voted; born = k.born; gone = k.gone });
+    migrates = λ tx node order lock frozen by can n. decided_names (migrated_group group node frozen) tx _ n.0 tt (record { id = k.id; succ = k.succ; pred = k.pred; lock = k.lock; decided = k.decided; voted = k.voted; born = k.born; gone = k.gone });
+    stays = λ tx offer lock n. record { core = freed_names group tx n.0 k; effect = tt };
+    goes = λ tx offer lock into n. record { core = freed_names (gone_group group into) tx n.0 (record { id = k.id; succ = k.succ; pred = k.pred; lock = k.lock; decided = k.decided; voted = k.voted; born = k.born; gone = n.1 }); effect = n.1 };
+    gains = λ tx offer lock at gift can n. record { core = freed_names (gained_group group offer at gift) tx n.0 (record { id = k.id; succ = k.succ; pred = k.pred; lock = k.lock; decided = k.decided; voted = k.voted; born = k.born; gone = k.gone }); effect = tt };
+    loses = λ tx offer lock at can n. record { core = freed_names (lost_group group at) tx n.0 (record { id = k.id; succ = k.succ; pred = k.pred; lock = k.lock; decided = k.decided; voted = k.voted; born = k.born; gone = k.gone }); effect = tt };
+    welcomes = λ tx offer lock node few n. record { core = freed_names (welcomed_group group node) tx n.0 (record { id = k.id; succ = k.succ; pred = k.pred; lock = k.lock; decided = k.decided; voted = k.voted; born = k.born; gone = k.gone }); effect = tt };
+    sees_end = λ tx watch lock outcome n. record { core = freed_names (watcher_after outcome group watch) tx n.0 (watcher_names outcome group watch (subst (LockNames K) lock k.lock).1 k); effect = n.1 };
+  }
 
   -- a group after a command, and its effect
   pub applied_names : (group : Group) (command : Command) → CoreNames K group.core → CommandNames K command → StepNames (applied group command)
-  applied_names group Noop k c = record { core = k; effect = tt }
-  applied_names group (Call client seq op) k c = called_names group.core.gone group.core.lock group client seq op k.gone k.lock k
-  applied_names group (Join node order) k c = ordered_names group.core.gone (refusal_of group.core (Join node order)) (with_node group node) group (refusal_names group.core (Join node order) k) (with_names group node k) k
-  applied_names group (Leave node order) k c = ordered_names group.core.gone (refusal_of group.core (Leave node order)) (without_node group node) group (refusal_names group.core (Leave node order) k) (without_names group node k) k
-  applied_names group (Split at child order) k c = drawn_names child (refusal_of group.core (Split at child order)) (split_group group at child order) group c (refusal_names group.core (Split at child order) k) (split_names group at child order c k) k
-  applied_names group (Begin tx body order) k c = drawn_names tx (refusal_of group.core (Begin tx body order)) (begun_group group tx body order) group c.0 (refusal_names group.core (Begin tx body order) k) (begun_names group tx body order c.0 c.1 k) k
-  applied_names group (Prepared tx offer) k c = offer_names group tx offer c.0 c.1 k
-  applied_names group (RecordVote tx vote by) k c = vote_names group.core.lock group tx vote by c.0 c.1 k
-  applied_names group (GiveUp tx) k c = either_way StepNames (is_coordinating group.core.lock tx) _ _ (decided_names group tx Is.Abort c tt k) (record { core = k; effect = c })
-  applied_names group (Finish tx outcome) k c = finished_names group.core.lock group tx outcome k.lock c.0 c.1 k
-  applied_names group (Watched tx watch) k c = watched_names group tx watch c.0 c.1 k
-  applied_names group (RecordWatch tx vote by) k c = watch_names group.core.lock group tx vote k.lock c.0 k
+  applied_names group command k = machine_step group (λ c x. CommandNames K c → StepNames x) (machine_names group k) command
 
   -- ---- the child of a command
 

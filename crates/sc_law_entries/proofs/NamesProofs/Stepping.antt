@@ -126,6 +126,7 @@ module _ (K : Draw → Type 0) where
     Entry = λ slot command. CommandNames K command;
     Files = λ act. CommandNames K act;
     Orders = λ order. CommandNames K order;
+    Given = λ drawer line. Unit {0};
     Child = λ base. CoreNames K base.core;
   }
 
@@ -194,7 +195,7 @@ module _ (K : Draw → Type 0) where
   name_says : TableSays name_facts
   name_says = record {
     refuses = λ from group client seq op answer r mails h e f. sent_fine r _ (Answer (name_of r) seq answer) mails (f.0.core.id, subst (λ (o : Option AnswerBody). Ans o) e (refusal_by r.group.core.gone r.group.core r.running r.hint op f.0.core.gone f.0.core)) f;
-    tells = λ drawer line why r mails e f. sent_fine r 0 (Told line.number (Tells.Refused why)) mails (subst (λ (o : Option OrderRefusal). Refused o) e (untaken_names drawer line r f.0)) f;
+    tells = λ drawer line why r mails given e f. sent_fine r 0 (Told line.number (Tells.Refused why)) mails (subst (λ (o : Option OrderRefusal). Refused o) e (untaken_names drawer line r f.0)) f;
     votes = λ from tx offer vote r mails h e f. (f.0, voted_to_names K r.me r.group from tx offer vote mails f.0.core h.0 h.1 (subst (λ (o : Option Past). PastOf o) e (standing_vote_names r.group.core tx f.0.core)) f.1);
     sees = λ from tx watch vote r mails h e f. (f.0, watched_to_names K r.me from tx watch vote mails h.0 h.1 (subst (λ (o : Option Past). PastOf o) e (standing_vote_names r.group.core tx f.0.core)) f.1);
     vote_ends = λ from tx coord part vote outcome r mails h e f. (f.0, outcome_names K r.me from tx part outcome mails h.0 h.2 (subst (λ (o : Option Outcome). Opt (OutcomeNames K) o) e (noted_outcome_names r.group.core tx f.0.core)) f.1);
@@ -240,7 +241,7 @@ module _ (K : Draw → Type 0) where
   -- ---- all rows
 
   pub ordered_row_names : (drawer : Drawer) (line : OrderLine) (place : Place) → (untaken drawer line place.0 ≡ None → CommandNames K (ordered_command (next_name drawer) line.number line.order)) → F place → F (ordered_row drawer line place)
-  ordered_row_names drawer line place c f = rows.orders name_walk drawer line place c f
+  ordered_row_names drawer line place c f = rows.orders name_walk drawer line place tt c f
 
   pub tick_names : (on : Bool) (drawer : Drawer) (r : ReplicaState) (mails : List Mail) → Each (λ (owned : Owned). K owned.name) (drawn_wishing drawer (wished_at on r) (waited r)) → F (r, mails) → F (tick_row on drawer (r, mails))
   tick_names on drawer r mails d f = tick.ticks name_walk name_ticks on drawer (r, mails) (λ here leads line e taken. (

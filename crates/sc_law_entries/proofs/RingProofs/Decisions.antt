@@ -22,9 +22,10 @@ use Rattle.sc_words.specs.declared.commands.votes.Past.TheVariants as Cast
 use Rattle.sc_words.specs.declared.commands.votes.Vote.{Vote}
 use Rattle.sc_words.specs.declared.commands.votes.Vote.TheVariants as Ballot
 use Rattle.sc_words.specs.commands.Definitions.{is_divided, decided_in}
-use Rattle.sc_group_table.specs.machine.Definitions.{Group, group_of, Plan, can_cut, can_join, can_split, can_repart, can_migrate, has_key_of, may_merge, merged_route, merged_group, closing_group, part_gift, giving_group, giving_plan, repart_plan, split_plan, taken, taking_group, taking_plan, migrated_group, left_group, child_of, decided_group, aborted, committed, heard_group, granted, participant_answered, asks_watcher, vote_recorded, released, watch_answered, watch_recorded, is_coordinating}
+use Rattle.sc_group_table.specs.machine.Definitions.{decided, Group, group_of, can_cut, can_join, can_split, can_repart, can_migrate, has_key_of, merged_route, merged_group, closing_group, part_gift, giving_group, taken, taking_group, migrated_group, left_group, child_of, decided_group, aborted, heard_group, vote_recorded, watch_recorded, is_coordinating}
 use Rattle.sc_meaning.specs.entries.Definitions.{division_in}
 use Rattle.sc_meaning.specs.declared.entries.Division.{Division}
+use Rattle.sc_law_walks.proofs.Lemmas.{vote_step, watch_step}
 use Rattle.sc_law_entries.specs.ring.Definitions.{IsVoteCast, IsWatchVoteCast, Story, Stories, put, retold, merge_watch, with_decision, with_answer, Groups, IsEarned, Facts}
 use Rattle.sc_meaning.proofs.EntriesProofs.Lemmas.{names_differ}
 use Rattle.sc_law_entries.proofs.RingProofs.Notes.{any_keeps, any_drops, any_new, is_vote_on}
@@ -114,32 +115,32 @@ module _ (owner : Draw → Option Draw) (ring : Ring) (gs : Groups) (ys : Storie
       subst (λ z. Kept owner (ring_out (Some o) ring s.core.id s.core.succ.group) (put gs g (Some b)) z) (sym (told_at ys tx (λ z. Ends z o) y there))
       (facts, subst (λ n. Good (ring_out (Some o) ring n s.core.succ.group) (New gs ys g b tx (Ends y o))) (sym named) good)
 
-  repart_kept : (tx : Draw) (at : ℕ) (f : Frozen) → (o : IsMineOpen owner gs ys g s tx (At.Repart at) None) → o.story.vote ≡ Some (Ballot.Yes f) → Lands tx (Ballot.Yes f) (committed (repart_plan s at f) s tx)
-  repart_kept tx at f o vote =
+  gives_kept : (tx : Draw) (at : ℕ) (f : Frozen) → (o : IsMineOpen owner gs ys g s tx (At.Repart at) None) → o.story.vote ≡ Some (Ballot.Yes f) → holds s.core.arc at ≡ true → can_repart s.core at f ≡ true
+      → Lands tx (Ballot.Yes f) (decided (giving_group s at f) tx (Moved at (Some (part_gift s at))))
+  gives_kept tx at f o vote e c =
       let y = o.story in
       let d = o.deciding in
       let own = own_is owner gs ys g s tx (At.Repart at) None y d in
-      let quiet = lands_idle tx (Ballot.Yes f) in
-      cond_both (holds s.core.arc at) (giving_plan s at f) (taking_plan s at f) (λ (plan : Plan). Lands tx (Ballot.Yes f) (committed plan s tx))
-      (λ e. cond_both (can_repart s.core at f) (Some (giving_group s at f, Moved at (Some (part_gift s at)))) None (λ (plan : Plan). Lands tx (Ballot.Yes f) (committed plan s tx))
-      (λ c. (
       let out : Outcome = Moved at (Some (part_gift s at)) in
       let b = decided_group (giving_group s at f) tx out in
       let cut : can_cut s.core.arc at ≡ true = sym (cond-true (holds s.core.arc at) (can_cut s.core.arc at) (can_cut f.arc at && can_join s.core.arc (before f.arc at)) e) ∙ c in
       lands_decided tx (Ballot.Yes f) y out b d.there
       (decide_facts gs ys owner g s b tx (At.Repart at) d.order None y out k.0 is d.lock d.there (decision_of s (giving_group s at f) tx out refl refl refl (λ h q. q)) (λ na. earned_by y f vote own.watch))
-      (give_commit owner ring gs ys g s tx at y d f vote own.own cut e k.1)))
-      (λ c. quiet))
-      (λ e. cond_both (can_repart s.core at f && not (has_key_of s.pairs (taken at f).pairs)) (Some (taking_group s at f, Moved at None)) None (λ (plan : Plan). Lands tx (Ballot.Yes f) (committed plan s tx))
-      (λ c. (
+      (give_commit owner ring gs ys g s tx at y d f vote own.own cut e k.1)
+
+  takes_kept : (tx : Draw) (at : ℕ) (f : Frozen) → (o : IsMineOpen owner gs ys g s tx (At.Repart at) None) → o.story.vote ≡ Some (Ballot.Yes f) → holds s.core.arc at ≡ false → (can_repart s.core at f && not (has_key_of s.pairs (taken at f).pairs)) ≡ true
+      → Lands tx (Ballot.Yes f) (decided (taking_group s at f) tx (Moved at None))
+  takes_kept tx at f o vote e c =
+      let y = o.story in
+      let d = o.deciding in
+      let own = own_is owner gs ys g s tx (At.Repart at) None y d in
       let out : Outcome = Moved at None in
       let b = decided_group (taking_group s at f) tx out in
       let may = (and_parts (can_repart s.core at f) (not (has_key_of s.pairs (taken at f).pairs)) c).0 in
       let both : (can_cut f.arc at && can_join s.core.arc (before f.arc at)) ≡ true = sym (cond-false (holds s.core.arc at) (can_cut s.core.arc at) (can_cut f.arc at && can_join s.core.arc (before f.arc at)) e) ∙ may in
       lands_decided tx (Ballot.Yes f) y out b d.there
       (decide_facts gs ys owner g s b tx (At.Repart at) d.order None y out k.0 is d.lock d.there (decision_of s (taking_group s at f) tx out refl refl refl (λ h q. q)) (λ na. earned_by y f vote own.watch))
-      (take_commit owner ring gs ys g s tx at y d f vote own.own (and_parts (can_cut f.arc at) (can_join s.core.arc (before f.arc at)) both).0 e k.1)))
-      (λ c. quiet))
+      (take_commit owner ring gs ys g s tx at y d f vote own.own (and_parts (can_cut f.arc at) (can_join s.core.arc (before f.arc at)) both).0 e k.1)
 
   hear_kept : (tx : Draw) (f : Frozen) (by : ℕ) → (o : IsMineOpen owner gs ys g s tx At.Merge None) → o.story.vote ≡ Some (Ballot.Yes f) → same_draw f.succ.group s.core.id ≡ false
       → Lands tx (Ballot.Yes f) (heard_group s tx At.Merge o.deciding.order (record { frozen = f; by = by }), Was.Changed)
@@ -159,60 +160,48 @@ module _ (owner : Draw → Option Draw) (ring : Ring) (gs : Groups) (ys : Storie
             (ap arc_of a ∙ sym (ap arc_of b), ap succ_of a ∙ sym (ap succ_of b), ap pred_of a ∙ sym (ap pred_of b), ap pairs_of a ∙ sym (ap pairs_of b))) k.1,
       )
 
-  yes_kept : (tx : Draw) (body : Body) (f : Frozen) (by : ℕ) → (o : IsMineOpen owner gs ys g s tx body None) → o.story.vote ≡ Some (Ballot.Yes f) → Lands tx (Ballot.Yes f) (granted body s tx o.deciding.order f by)
-  yes_kept tx At.Merge f by o vote =
+  closes_kept : (tx : Draw) (f : Frozen) → (o : IsMineOpen owner gs ys g s tx At.Merge None) → o.story.vote ≡ Some (Ballot.Yes f) → same_draw f.succ.group s.core.id ≡ true → Lands tx (Ballot.Yes f) (decided (closing_group s f) tx (Merged (merged_route s.core f)))
+  closes_kept tx f o vote e =
       let y = o.story in
       let d = o.deciding in
       let own = own_is owner gs ys g s tx At.Merge None y d in
       let out : Outcome = Merged (merged_route s.core f) in
-      cond_both (same_draw f.succ.group s.core.id) _ _ (Lands tx (Ballot.Yes f))
-      (λ e. cond_both (may_merge s f) (Some (closing_group s f, out)) None (λ (plan : Plan). Lands tx (Ballot.Yes f) (committed plan s tx))
-      (λ c. lands_decided tx (Ballot.Yes f) y out (decided_group (closing_group s f) tx out) d.there
+      lands_decided tx (Ballot.Yes f) y out (decided_group (closing_group s f) tx out) d.there
       (decide_facts gs ys owner g s (decided_group (closing_group s f) tx out) tx At.Merge d.order None y out k.0 is d.lock d.there (decision_of s (closing_group s f) tx out refl refl refl (λ h q. q)) (λ na. earned_by y f vote own.watch))
-      (merge_closing owner ring gs ys g s tx y f d vote named e k.1))
-      (λ c. lands_idle tx (Ballot.Yes f)))
-      (λ e. hear_kept tx f by o vote e)
-  yes_kept tx (At.Repart at) f by o vote = repart_kept tx at f o vote
-  yes_kept tx (At.Migrate node) f by o vote =
+      (merge_closing owner ring gs ys g s tx y f d vote named e k.1)
+
+  migrates_kept : (tx : Draw) (node : ℕ) (f : Frozen) → (o : IsMineOpen owner gs ys g s tx (At.Migrate node) None) → o.story.vote ≡ Some (Ballot.Yes f) → can_migrate s.core node f ≡ true → Lands tx (Ballot.Yes f) (decided (migrated_group s node f) tx (Migrated node))
+  migrates_kept tx node f o vote c =
       let y = o.story in
       let d = o.deciding in
       let own = own_is owner gs ys g s tx (At.Migrate node) None y d in
       let out : Outcome = Migrated node in
-      cond_both (can_migrate s.core node f) (Some (migrated_group s node f, out)) None (λ (plan : Plan). Lands tx (Ballot.Yes f) (committed plan s tx))
-      (λ c. (
       let few = (and_parts (is_member s.core.members node && nat_le 2 (length s.core.members)) (nat_le (length (united f.members (node ∷ []))) 9) c).1 in
       lands_decided tx (Ballot.Yes f) y out (decided_group (migrated_group s node f) tx out) d.there
       (decide_facts gs ys owner g s (decided_group (migrated_group s node f) tx out) tx (At.Migrate node) d.order None y out k.0 is d.lock d.there (decision_of s (migrated_group s node f) tx out refl refl refl (λ h q. q)) (λ na. earned_by y f vote own.watch))
-      (migrate_commit owner ring gs ys g s tx node y d f vote few k.1)))
-      (λ c. lands_idle tx (Ballot.Yes f))
-  yes_kept tx (At.Split at child) f by o vote = lands_idle tx (Ballot.Yes f)
+      (migrate_commit owner ring gs ys g s tx node y d f vote few k.1)
 
   vote_is : (tx : Draw) (f : Frozen) (y : Story) → ys tx ≡ Some y → IsVoteCast ys tx (Ballot.Yes f) → y.vote ≡ Some (Ballot.Yes f)
   vote_is tx f y there h = ap (λ (z : Story). z.vote) (same_Some y h.0 (sym there ∙ h.1)) ∙ h.2
 
-  answered_kept : (tx : Draw) (body : Body) (by : ℕ) → (o : IsMineOpen owner gs ys g s tx body None) → (vote : Vote) → IsVoteCast ys tx vote → Lands tx vote (participant_answered vote body s tx o.deciding.order by)
-  answered_kept tx body by o (Ballot.Yes f) h = yes_kept tx body f by o (vote_is tx f o.story o.deciding.there h)
-  answered_kept tx body by o (Ballot.No why) h = (let a = abort_kept tx body None o in lands_decided tx (Ballot.No why) o.story Abort (decided_group s tx Abort) o.deciding.there a.0 a.1)
+  pub record_kept : (tx : Draw) (vote : Vote) (by : ℕ) → IsVoteCast ys tx vote → Lands tx vote (vote_recorded s.core.lock s tx vote by)
+  unfolding mine_open
+  record_kept tx vote by h =
+      vote_step s tx vote by (Lands tx vote) (record {
+        quiet = lands_idle tx vote;
+        hears = λ order lock f is_yes other. cast f is_yes (heard_group s tx At.Merge order (record { frozen = f; by = by }), Was.Changed) (hear_kept tx f by (mine_open tx At.Merge order None lock) (voted At.Merge order lock f is_yes) other);
+        aborts = λ body order lock why is_no. (let o = mine_open tx body order None lock in let a = abort_kept tx body None o in lands_decided tx vote o.story Abort (decided_group s tx Abort) o.deciding.there a.0 a.1);
+        closes = λ order lock f is_yes two may. cast f is_yes (decided (closing_group s f) tx (Merged (merged_route s.core f))) (closes_kept tx f (mine_open tx At.Merge order None lock) (voted At.Merge order lock f is_yes) two);
+        gives = λ at order lock f is_yes here can. cast f is_yes (decided (giving_group s at f) tx (Moved at (Some (part_gift s at)))) (gives_kept tx at f (mine_open tx (At.Repart at) order None lock) (voted (At.Repart at) order lock f is_yes) here can);
+        takes = λ at order lock f is_yes there can. cast f is_yes (decided (taking_group s at f) tx (Moved at None)) (takes_kept tx at f (mine_open tx (At.Repart at) order None lock) (voted (At.Repart at) order lock f is_yes) there can);
+        migrates = λ node order lock f is_yes can. cast f is_yes (decided (migrated_group s node f) tx (Migrated node)) (migrates_kept tx node f (mine_open tx (At.Migrate node) order None lock) (voted (At.Migrate node) order lock f is_yes) can);
+      })
+    where
+      cast : (f : Frozen) → vote ≡ Ballot.Yes f → (r : Group × Effect) → Lands tx (Ballot.Yes f) r → Lands tx vote r
+      cast f is_yes r = subst (λ v. Lands tx v r) (sym is_yes)
 
-  heard_none : (body : Body) (heard : Option Heard) → asks_watcher body heard ≡ false → heard ≡ None
-  heard_none At.Merge None e = refl
-  heard_none At.Merge (Some h) e = absurd (let f : true ≡ false = e in cc)
-  heard_none (At.Repart at) None e = refl
-  heard_none (At.Repart at) (Some h) e = absurd (let f : true ≡ false = e in cc)
-  heard_none (At.Migrate node) None e = refl
-  heard_none (At.Migrate node) (Some h) e = absurd (let f : true ≡ false = e in cc)
-  heard_none (At.Split at child) heard e = absurd (let f : true ≡ false = e in cc)
-
-  pub record_kept : (tx : Draw) (vote : Vote) (by : ℕ) → IsVoteCast ys tx vote → (l : Lock) → s.core.lock ≡ l → Lands tx vote (vote_recorded l s tx vote by)
-  unfolding heard_none mine_open
-  record_kept tx vote by h Free e = lands_idle tx vote
-  record_kept tx vote by h (Coordinating t body order heard) e =
-      cond_both (same_draw t tx) _ _ (Lands tx vote)
-      (λ q. cond_both (asks_watcher body heard) _ _ (Lands tx vote) (λ a. lands_idle tx vote)
-      (λ a. answered_kept tx body by (mine_open tx body order None (same_lock s.core.lock t tx body order None (e ∙ ap (Coordinating t body order) (heard_none body heard a)) q)) vote h))
-      (λ q. lands_idle tx vote)
-  record_kept tx vote by h (Promised t offer) e = lands_idle tx vote
-  record_kept tx vote by h (Watching t watch) e = lands_idle tx vote
+      voted : (body : Body) (order : ℕ) (lock : s.core.lock ≡ Coordinating tx body order None) → (f : Frozen) → vote ≡ Ballot.Yes f → (mine_open tx body order None lock).story.vote ≡ Some (Ballot.Yes f)
+      voted body order lock f is_yes = (let o = mine_open tx body order None lock in vote_is tx f o.story o.deciding.there (subst (IsVoteCast ys tx) is_yes h))
 
   -- ---- giving up
 
@@ -239,8 +228,8 @@ module _ (owner : Draw → Option Draw) (ring : Ring) (gs : Groups) (ys : Storie
   w_abort tx body heard o =
       subst (λ z. Kept owner ring (put gs g (Some (decided_group s tx Abort))) z) (sym (told_at ys tx (with_decision (Some Abort)) o.story o.deciding.there)) (abort_kept tx body heard o)
 
-  divide_kept : (tx : Draw) (at : ℕ) (heard : Option Heard) → (o : IsMineOpen owner gs ys g s tx (At.Split at tx) heard) → o.story.watch_vote ≡ Some Cast.Yes → WLands tx (committed (split_plan s at tx) s tx)
-  divide_kept tx at heard o passed =
+  divide_kept : (tx : Draw) (at : ℕ) (heard : Option Heard) → (o : IsMineOpen owner gs ys g s tx (At.Split at tx) heard) → o.story.watch_vote ≡ Some Cast.Yes → can_split s.core at ≡ true → WLands tx (decided (left_group s at tx) tx Divided)
+  divide_kept tx at heard o passed c =
       let y = o.story in
       let d = o.deciding in
       let own = own_is owner gs ys g s tx (At.Split at tx) heard y d in
@@ -251,8 +240,6 @@ module _ (owner : Draw → Option Draw) (ring : Ring) (gs : Groups) (ys : Storie
       let gt : tx ≡ g → ⊥ = λ q. some_none s (sym is ∙ ap gs (sym q) ∙ none) in
       let div : Division = record { at = at; child = tx } in
       let lock : division_in s.core.lock ≡ Some div = ap division_in d.lock in
-      cond_both (can_split s.core at) (Some (left_group s at tx, Divided)) None (λ (plan : Plan). WLands tx (committed plan s tx))
-      (λ c. (
       let cut = cut_is s.core.arc at (and_parts (can_cut s.core.arc at) (nat_le 2 (length s.core.members)) c).0 in
       let mine : (r : Option Division) → r ≡ Some div → Kept owner (ring_cut (Some div) ring g) (put (put gs g (Some s')) tx (Some child)) ys' → Kept owner (ring_cut r ring s.core.id) (born_too s (put gs g (Some s')) r) ys' =
       λ r e z. subst (λ q. Kept owner (ring_cut q ring s.core.id) (born_too s (put gs g (Some s')) q) ys') (sym e) (subst (λ n. Kept owner (ring_cut (Some div) ring n) (put (put gs g (Some s')) tx (Some child)) ys') (sym named) z) in
@@ -266,50 +253,40 @@ module _ (owner : Draw → Option Draw) (ring : Ring) (gs : Groups) (ys : Storie
             (any_new (λ c. same_draw c tx) s.core.born tx (same_name tx tx refl))
             (λ z p q there b u. some_none Divided (ap (λ (x : Story). x.outcome) (same_Some (Ends y Divided) z (sym (at-same ys tx (Some (Ends y Divided))) ∙ there)) ∙ u)),
         divide_commit owner ring gs ys g s tx at heard y d passed none named own.own.0 cut.held cut.inside k.1,
-      ))))
-      (λ c. w_idle tx)
+      ))
 
   -- a child has the transaction's name
   abbrev Opens : Draw → ℕ → Option Heard → Draw → Type 0
-  Opens tx at heard child = (o : IsMineOpen owner gs ys g s tx (At.Split at child) heard) → o.story.watch_vote ≡ Some Cast.Yes → WLands tx (committed (split_plan s at child) s tx)
+  Opens tx at heard child = (o : IsMineOpen owner gs ys g s tx (At.Split at child) heard) → o.story.watch_vote ≡ Some Cast.Yes → can_split s.core at ≡ true → WLands tx (decided (left_group s at child) tx Divided)
 
   divide_as : (tx : Draw) (at : ℕ) (child : Draw) (heard : Option Heard) → child ≡ tx → Opens tx at heard child
   divide_as tx at child heard e = subst (Opens tx at heard) (sym e) (divide_kept tx at heard)
 
-  released_kept : (tx : Draw) (body : Body) (heard : Option Heard) → (o : IsMineOpen owner gs ys g s tx body heard) → o.story.watch_vote ≡ Some Cast.Yes → WLands tx (released body heard s tx)
-  released_kept tx At.Merge None o passed = w_idle tx
-  released_kept tx At.Merge (Some h) o passed =
+  merge_kept : (tx : Draw) (h : Heard) → (o : IsMineOpen owner gs ys g s tx At.Merge (Some h)) → o.story.watch_vote ≡ Some Cast.Yes → WLands tx (decided (merged_group s h.frozen) tx (Merged (merged_route s.core h.frozen)))
+  merge_kept tx h o passed =
       let y = o.story in
       let d = o.deciding in
       let v = o.heard_vote h refl in
       let out : Outcome = Merged (merged_route s.core h.frozen) in
       let b = decided_group (merged_group s h.frozen) tx out in
-      cond_both (may_merge s h.frozen) (Some (merged_group s h.frozen, out)) None (λ (plan : Plan). WLands tx (committed plan s tx))
-      (λ c. subst (λ z. Kept owner (ring_out (Some out) ring s.core.id s.core.succ.group) (put gs g (Some b)) z) (sym (told_at ys tx (with_decision (Some out)) y d.there)) (
+      subst (λ z. Kept owner (ring_out (Some out) ring s.core.id s.core.succ.group) (put gs g (Some b)) z) (sym (told_at ys tx (with_decision (Some out)) y d.there)) (
         decide_facts gs ys owner g s b tx At.Merge d.order (Some h) y out k.0 is d.lock d.there (decision_of s (merged_group s h.frozen) tx out refl refl refl (λ n q. q)) (λ na. (λ offer q. (h.frozen, v.0), λ w q. passed)),
         subst (λ n. Good (ring_out (Some out) ring n s.core.succ.group) (New gs ys g b tx (Ends y out))) (sym named) (merge_watched owner ring gs ys g s tx y h d v.0 passed v.1 named k.1),
-      ))
-      (λ c. w_idle tx)
-  released_kept tx (At.Repart at) heard o passed = w_idle tx
-  released_kept tx (At.Migrate node) heard o passed = w_idle tx
-  released_kept tx (At.Split at child) heard o passed =
-      let own = own_is owner gs ys g s tx (At.Split at child) heard o.story o.deciding in
-      divide_as tx at child heard own.own.1 o passed
+      )
 
   watch_vote_is : (tx : Draw) (y : Story) → ys tx ≡ Some y → IsWatchVoteCast ys tx Cast.Yes → y.watch_vote ≡ Some Cast.Yes
   watch_vote_is tx y there h = ap (λ (z : Story). z.watch_vote) (same_Some y h.0 (sym there ∙ h.1)) ∙ h.2
 
-  watch_kept : (tx : Draw) (body : Body) (heard : Option Heard) → (o : IsMineOpen owner gs ys g s tx body heard) → (past : Past) → IsWatchVoteCast ys tx past → WLands tx (watch_answered past body heard s tx)
-  watch_kept tx body heard o Cast.Yes h = released_kept tx body heard o (watch_vote_is tx o.story o.deciding.there h)
-  watch_kept tx body heard o (Cast.No why) h = w_abort tx body heard o
-  watch_kept tx body heard o Cast.Ended h = w_abort tx body heard o
-
-  pub watch_record_kept : (tx : Draw) (past : Past) → IsWatchVoteCast ys tx past → (l : Lock) → s.core.lock ≡ l → WLands tx (watch_recorded l s tx past)
-  watch_record_kept tx past h Free e = w_idle tx
-  watch_record_kept tx past h (Coordinating t body order heard) e =
-      cond_both (same_draw t tx) _ _ (WLands tx)
-      (λ q. cond_both (asks_watcher body heard) _ _ (WLands tx)
-      (λ a. watch_kept tx body heard (mine_open tx body order heard (same_lock s.core.lock t tx body order heard e q)) past h) (λ a. w_idle tx))
-      (λ q. w_idle tx)
-  watch_record_kept tx past h (Promised t offer) e = w_idle tx
-  watch_record_kept tx past h (Watching t watch) e = w_idle tx
+  pub watch_record_kept : (tx : Draw) (past : Past) → IsWatchVoteCast ys tx past → WLands tx (watch_recorded s.core.lock s tx past)
+  watch_record_kept tx past h =
+      watch_step s tx past (WLands tx) (record {
+        quiet = w_idle tx;
+        aborts = λ body order heard lock none. w_abort tx body heard (mine_open tx body order heard lock);
+        divides = λ at child order heard lock is_yes can. (
+            let o = mine_open tx (At.Split at child) order heard lock in
+            divide_as tx at child heard (own_is owner gs ys g s tx (At.Split at child) heard o.story o.deciding).own.1 o (passed (At.Split at child) order heard lock is_yes) can);
+        merges = λ order heard lock is_yes may. merge_kept tx heard (mine_open tx At.Merge order (Some heard) lock) (passed At.Merge order (Some heard) lock is_yes);
+      })
+    where
+      passed : (body : Body) (order : ℕ) (heard : Option Heard) (lock : s.core.lock ≡ Coordinating tx body order heard) → past ≡ Cast.Yes → (mine_open tx body order heard lock).story.watch_vote ≡ Some Cast.Yes
+      passed body order heard lock is_yes = (let o = mine_open tx body order heard lock in watch_vote_is tx o.story o.deciding.there (subst (IsWatchVoteCast ys tx) is_yes h))

@@ -12,7 +12,6 @@ use Rattle.sc_words.specs.declared.commands.bodies.Offer.{Offer}
 use Rattle.sc_words.specs.declared.commands.bodies.Watch.{Watch}
 use Rattle.sc_words.specs.declared.commands.commands.Command.{Command}
 use Rattle.sc_words.specs.declared.commands.commands.Command.TheVariants.{Call, Split, Begin, Prepared, RecordVote, GiveUp, Finish, Watched, RecordWatch}
-use Rattle.sc_words.specs.declared.commands.cores.Core.{Core}
 use Rattle.sc_words.specs.declared.commands.cores.Lock.{Lock}
 use Rattle.sc_words.specs.declared.commands.cores.Lock.TheVariants.{Free, Coordinating, Promised, Watching}
 use Rattle.sc_words.specs.declared.commands.effects.Effect.{Effect}
@@ -24,10 +23,12 @@ use Rattle.sc_words.specs.declared.commands.votes.Past.{Past}
 use Rattle.sc_words.specs.declared.commands.votes.Past.TheVariants as Cast
 use Rattle.sc_words.specs.declared.commands.votes.Vote.{Vote}
 use Rattle.sc_words.specs.declared.commands.votes.Vote.TheVariants as Ballot
-use Rattle.sc_words.specs.commands.Definitions.{is_changed, decided_in, is_alone}
-use Rattle.sc_group_table.specs.machine.Definitions.{Group, applied, split_group, begun_group, asks_watcher, participant_answered, vote_recorded, watch_answered, watch_recorded, is_coordinating, aborted, has_voted, vote_of, watch_vote_of, past_of}
+use Rattle.sc_words.specs.commands.Definitions.{decided_in, is_alone}
+use Rattle.sc_group_table.specs.machine.Definitions.{Group, applied, split_group, begun_group, vote_recorded, watch_recorded, is_coordinating, aborted, has_voted, vote_of, watch_vote_of, past_of}
 use Rattle.sc_meaning.specs.entries.Definitions.{named_group}
 use Rattle.sc_meaning.specs.declared.entries.LogEntry.{LogEntry}
+use Rattle.sc_words.specs.declared.commands.votes.Outcome.TheVariants as Is
+use Rattle.sc_law_walks.proofs.Lemmas.{vote_step, decided_walk, watch_step}
 use Rattle.sc_law_entries.specs.ring.Definitions.{Sources, IsVoteCast, IsWatchVoteCast, IsAllowed, AreAllowed, StoryWorld, first_recorded, recorded_stories, recorded_next, recorded_after, Story, Stories, put, retold, new_story, unsigned, unsigned_watch, watch_for, vote_in, watch_vote_in, with_vote, with_watch_vote, with_decision, with_asked, with_answer, stories_after, Groups, AllowedEntriesStayAllowed}
 use Rattle.sc_meaning.proofs.EntriesProofs.Lemmas.{draw_cases}
 use Rattle.sc_law_entries.proofs.RingProofs.View.{Ring}
@@ -144,55 +145,36 @@ module _ (sources : Sources) (ring : Ring) (gs : Groups) (ys : Stories) (g : Dra
   asked_first y (Ballot.Yes f) none = record { offer = refl; vote = λ f e. e; watch = λ w e. absurd (some_none w (sym e ∙ none)); watch_vote = λ e. e; outcome = λ o e. e }
   asked_first y (Ballot.No why) none = tells_same y
 
-  -- who does not ask a watcher has named none
-  unasked : (core : Core) (body : Body) (heard : Option Heard) → asks_watcher body heard ≡ false → watch_for core body heard ≡ None
-  unasked core At.Merge None e = refl
-  unasked core At.Merge (Some h) e = absurd (let f : true ≡ false = e in cc)
-  unasked core (At.Repart at) heard e = refl
-  unasked core (At.Migrate node) heard e = refl
-  unasked core (At.Split at child) heard e = absurd (let f : true ≡ false = e in cc)
-
-  answer_first : (y : Story) (v : Vote) (effect : Effect) → y.watch ≡ None → y.outcome ≡ None → RecordsOn y (with_answer s.core v effect y)
-  answer_first y v effect unwatched open_yet =
-      elim (is_changed effect) as (λ b. RecordsOn y (cond b (with_asked s.core v y) (with_decision (decided_in effect) y))) [
-        | true ↦ asked_first y v unwatched
-        | false ↦ outcome_first y (decided_in effect) open_yet
-      ]
+  -- a decision is told of a story that has none
+  decision_grows : (tx : Draw) (body : Body) (order : ℕ) (heard : Option Heard) → s.core.lock ≡ Coordinating tx body order heard → (outcome : Outcome) → Grows ys (retold ys tx (with_decision (Some outcome)))
+  decision_grows tx body order heard lock outcome = grows_told ys tx (with_decision (Some outcome)) (λ y w. outcome_first y (Some outcome) (undecided tx body order heard lock y w).0)
 
   vote_quiet : (tx : Draw) (vote : Vote) → Grows ys (retold ys tx (with_answer s.core vote (Was.NoEffect tx)))
   vote_quiet tx vote = grows_told ys tx (with_answer s.core vote (Was.NoEffect tx)) (λ y w. tells_same y)
 
-  vote_grows : (tx : Draw) (vote : Vote) (by : ℕ) (l : Lock) → s.core.lock ≡ l → Grows ys (retold ys tx (with_answer s.core vote (vote_recorded l s tx vote by).1))
-  vote_grows tx vote by Free e = vote_quiet tx vote
-  vote_grows tx vote by (Coordinating t body order heard) e =
-      cond_both (same_draw t tx) (cond (asks_watcher body heard) (s, Was.NoEffect tx) (participant_answered vote body s tx order by)) (s, Was.NoEffect tx) (λ (r : Group × Effect). Grows ys (retold ys tx (with_answer s.core vote r.1)))
-      (λ q. cond_both (asks_watcher body heard) (s, Was.NoEffect tx) (participant_answered vote body s tx order by) (λ (r : Group × Effect). Grows ys (retold ys tx (with_answer s.core vote r.1)))
-      (λ a. vote_quiet tx vote)
-      (λ a. grows_told ys tx (with_answer s.core vote (participant_answered vote body s tx order by).1) (λ y w. (
-      let u = undecided tx body order heard (same_lock s.core.lock t tx body order heard e q) y w in
-      answer_first y vote (participant_answered vote body s tx order by).1 (u.1 ∙ unasked s.core body heard a) u.0))))
-      (λ q. vote_quiet tx vote)
-  vote_grows tx vote by (Promised t offer) e = vote_quiet tx vote
-  vote_grows tx vote by (Watching t watch) e = vote_quiet tx vote
+  vote_grows : (tx : Draw) (vote : Vote) (by : ℕ) → Grows ys (retold ys tx (with_answer s.core vote (vote_recorded s.core.lock s tx vote by).1))
+  vote_grows tx vote by =
+      vote_step s tx vote by (λ r. Grows ys (retold ys tx (with_answer s.core vote r.1))) (decided_walk s tx vote by (λ r. Grows ys (retold ys tx (with_answer s.core vote r.1))) (vote_quiet tx vote)
+      (λ order lock frozen votes. grows_told ys tx (with_answer s.core vote Was.Changed) (λ y w. asked_first y vote (undecided tx At.Merge order None lock y w).1))
+      (λ body order lock after outcome stands. decision_grows tx body order None lock outcome))
 
   outcome_quiet : (tx : Draw) → Grows ys (retold ys tx (with_decision None))
   outcome_quiet tx = grows_told ys tx (with_decision None) (λ y w. tells_same y)
 
-  watch_grows : (tx : Draw) (past : Past) (l : Lock) → s.core.lock ≡ l → Grows ys (retold ys tx (with_decision (decided_in (watch_recorded l s tx past).1)))
-  watch_grows tx past Free e = outcome_quiet tx
-  watch_grows tx past (Coordinating t body order heard) e =
-      cond_both (same_draw t tx) (cond (asks_watcher body heard) (watch_answered past body heard s tx) (s, Was.NoEffect tx)) (s, Was.NoEffect tx) (λ (r : Group × Effect). Grows ys (retold ys tx (with_decision (decided_in r.1))))
-      (λ q. (let r = cond (asks_watcher body heard) (watch_answered past body heard s tx) (s, Was.NoEffect tx) in
-      grows_told ys tx (with_decision (decided_in r.1)) (λ y w. outcome_first y (decided_in r.1) (undecided tx body order heard (same_lock s.core.lock t tx body order heard e q) y w).0)))
-      (λ q. outcome_quiet tx)
-  watch_grows tx past (Promised t offer) e = outcome_quiet tx
-  watch_grows tx past (Watching t watch) e = outcome_quiet tx
+  watch_grows : (tx : Draw) (past : Past) → Grows ys (retold ys tx (with_decision (decided_in (watch_recorded s.core.lock s tx past).1)))
+  watch_grows tx past =
+      watch_step s tx past (λ r. Grows ys (retold ys tx (with_decision (decided_in r.1)))) (record {
+        quiet = outcome_quiet tx;
+        aborts = λ body order got lock none. decision_grows tx body order got lock Is.Abort;
+        divides = λ at child order got lock votes can. decision_grows tx (At.Split at child) order got lock Is.Divided;
+        merges = λ order heard lock votes may. decision_grows tx At.Merge order (Some heard) lock _;
+      })
 
   give_up_grows : (tx : Draw) (l : Lock) → s.core.lock ≡ l → Grows ys (retold ys tx (with_decision (decided_in (cond (is_coordinating l tx) (aborted s tx) (s, Was.NoEffect tx)).1)))
   give_up_grows tx Free e = outcome_quiet tx
   give_up_grows tx (Coordinating t body order heard) e =
       cond_both (same_draw t tx) (aborted s tx) (s, Was.NoEffect tx) (λ (r : Group × Effect). Grows ys (retold ys tx (with_decision (decided_in r.1))))
-      (λ q. grows_told ys tx (with_decision (decided_in (aborted s tx).1)) (λ y w. outcome_first y (decided_in (aborted s tx).1) (undecided tx body order heard (same_lock s.core.lock t tx body order heard e q) y w).0))
+      (λ q. decision_grows tx body order heard (same_lock s.core.lock t tx body order heard e q) Is.Abort)
       (λ q. outcome_quiet tx)
   give_up_grows tx (Promised t offer) e = outcome_quiet tx
   give_up_grows tx (Watching t watch) e = outcome_quiet tx
@@ -201,9 +183,9 @@ module _ (sources : Sources) (ring : Ring) (gs : Groups) (ys : Stories) (g : Dra
   grows (Split at child order) a = split_grows at child order a.0
   grows (Begin tx body order) a = begin_grows tx body order a.0
   grows (Prepared tx offer) a = prepared_grows tx offer a.0 a.1 a.2 a.3
-  grows (RecordVote tx vote by) a = vote_grows tx vote by s.core.lock refl
+  grows (RecordVote tx vote by) a = vote_grows tx vote by
   grows (Watched tx watch) a = watched_grows tx watch a.0 a.1 a.2 a.3
-  grows (RecordWatch tx vote by) a = watch_grows tx vote s.core.lock refl
+  grows (RecordWatch tx vote by) a = watch_grows tx vote
   grows (GiveUp tx) a = give_up_grows tx s.core.lock refl
   grows _ a = grows_same ys
 

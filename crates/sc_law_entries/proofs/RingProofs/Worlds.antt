@@ -20,12 +20,14 @@ use Rattle.sc_words.specs.declared.commands.votes.Outcome.{Outcome}
 use Rattle.sc_words.specs.declared.commands.votes.Past.{Past}
 use Rattle.sc_words.specs.declared.commands.votes.Vote.{Vote}
 use Rattle.sc_words.specs.declared.commands.votes.Vote.TheVariants as Ballot
-use Rattle.sc_words.specs.commands.Definitions.{is_changed, is_divided, decided_in, is_alone}
-use Rattle.sc_group_table.specs.machine.Definitions.{Group, group_of, applied, split_group, child_of, begun_group, asks_watcher, participant_answered, vote_recorded, watch_answered, watch_recorded, is_coordinating, aborted}
+use Rattle.sc_words.specs.commands.Definitions.{is_changed, decided_in, is_alone}
+use Rattle.sc_group_table.specs.machine.Definitions.{Group, group_of, applied, split_group, child_of, begun_group, vote_recorded, watch_recorded, is_coordinating, aborted}
 use Rattle.sc_meaning.specs.entries.Definitions.{division_by, division_in, division_of, birth_of, begun_transaction, begun_split, named_watcher, with_watcher, amended, concluded, transactions_after, decided_by, arc_in, named_group, groups_after, after_command}
 use Rattle.sc_meaning.specs.declared.entries.Division.{Division}
 use Rattle.sc_meaning.specs.declared.entries.LogEntry.{LogEntry}
 use Rattle.sc_meaning.specs.declared.entries.Transaction.{Transaction}
+use Rattle.sc_words.specs.declared.commands.votes.Outcome.TheVariants as Is
+use Rattle.sc_law_walks.proofs.Lemmas.{vote_step, decided_walk, watch_step}
 use Rattle.sc_law_entries.specs.ring.Definitions.{Sources, IsAllowed, AreAllowed, StoryWorld, recorded_stories, recorded_next, recorded_after, Story, Stories, put, retold, new_story, vote_in, watch_vote_in, with_vote, with_watch_vote, with_decision, with_asked, with_answer, stories_after, Groups}
 use Rattle.sc_law_entries.proofs.RingProofs.View.{Ring}
 use Rattle.sc_law_entries.proofs.RingProofs.Cover.{at-same, at-other}
@@ -78,9 +80,9 @@ module _ (sources : Sources) (ring : Ring) (gs : Groups) (ys : Stories) (g : Dra
   landed (Split at child order) a = split_kept sources.owner ring gs ys g s k is at child order a.0 a.1
   landed (Begin tx body order) a = begin_kept sources.owner ring gs ys g s k is tx body order a.0 a.1
   landed (Prepared tx offer) a = prepared_kept sources.owner ring gs ys g s k is tx offer a.0 a.1 a.2 a.3
-  landed (RecordVote tx vote by) a = record_kept sources.owner ring gs ys g s k is tx vote by a s.core.lock refl
+  landed (RecordVote tx vote by) a = record_kept sources.owner ring gs ys g s k is tx vote by a
   landed (Watched tx watch) a = watched_kept sources.owner ring gs ys g s k is tx watch a.0 a.1 a.2 a.3
-  landed (RecordWatch tx vote by) a = watch_record_kept sources.owner ring gs ys g s k is tx vote a s.core.lock refl
+  landed (RecordWatch tx vote by) a = watch_record_kept sources.owner ring gs ys g s k is tx vote a
   landed (GiveUp tx) a = give_up_kept sources.owner ring gs ys g s k is tx s.core.lock refl
   landed (Finish tx outcome) a = finish_kept sources.owner ring gs ys g s k is tx outcome a.0 a.1 a.2 s.core.lock refl
 
@@ -150,18 +152,13 @@ module _ (sources : Sources) (ring : Ring) (gs : Groups) (ys : Stories) (g : Dra
   vote_quiet : (tx : Draw) (vote : Vote) (by : ℕ) → Fits gs ys s (RecordVote tx vote by) (Was.NoEffect tx)
   vote_quiet tx vote by = record { births = λ d w. no_division d w; told = λ ts a. agree_retold ts ys tx (with_answer s.core vote (Was.NoEffect tx)) a (λ y. refl); apart = λ x w. none_decided x w }
 
-  vote_fits : (tx : Draw) (vote : Vote) (by : ℕ) (l : Lock) → s.core.lock ≡ l → Fits gs ys s (RecordVote tx vote by) (vote_recorded l s tx vote by).1
-  vote_fits tx vote by Free e = vote_quiet tx vote by
-  vote_fits tx vote by (Coordinating t body order heard) e =
-      cond_both (same_draw t tx) (cond (asks_watcher body heard) (s, Was.NoEffect tx) (participant_answered vote body s tx order by)) (s, Was.NoEffect tx) (λ (r : Group × Effect). Fits gs ys s (RecordVote tx vote by) r.1)
-      (λ q. (let lock = same_lock s.core.lock t tx body order heard e q in record {
-        births = λ d w. no_division d w;
-        told = vote_reported tx vote (cond (asks_watcher body heard) (s, Was.NoEffect tx) (participant_answered vote body s tx order by)).1 (own_coordinator tx body order heard lock);
-        apart = λ x w. own_apart tx body order heard lock;
-      }))
-      (λ q. vote_quiet tx vote by)
-  vote_fits tx vote by (Promised t offer) e = vote_quiet tx vote by
-  vote_fits tx vote by (Watching t watch) e = vote_quiet tx vote by
+  vote_fits : (tx : Draw) (vote : Vote) (by : ℕ) → Fits gs ys s (RecordVote tx vote by) (vote_recorded s.core.lock s tx vote by).1
+  vote_fits tx vote by =
+      vote_step s tx vote by (λ r. Fits gs ys s (RecordVote tx vote by) r.1) (decided_walk s tx vote by (λ r. Fits gs ys s (RecordVote tx vote by) r.1) (vote_quiet tx vote by)
+      (λ order lock frozen votes. counted At.Merge order lock Was.Changed) (λ body order lock after outcome stands. counted body order lock (Was.Decided outcome)))
+    where
+      counted : (body : Body) (order : ℕ) → s.core.lock ≡ Coordinating tx body order None → (effect : Effect) → Fits gs ys s (RecordVote tx vote by) effect
+      counted body order lock effect = record { births = λ d w. no_division d w; told = vote_reported tx vote effect (own_coordinator tx body order None lock); apart = λ x w. own_apart tx body order None lock }
 
   give_up_quiet : (tx : Draw) → Fits gs ys s (GiveUp tx) (Was.NoEffect tx)
   give_up_quiet tx = record { births = λ d w. no_division d w; told = λ ts a. agree_retold ts ys tx (with_decision None) a (λ y. refl); apart = λ x w. none_decided x w }
@@ -197,19 +194,18 @@ module _ (sources : Sources) (ring : Ring) (gs : Groups) (ys : Stories) (g : Dra
   watch_quiet : (tx : Draw) (vote : Past) (by : ℕ) → Fits gs ys s (RecordWatch tx vote by) (Was.NoEffect tx)
   watch_quiet tx vote by = record { births = λ d w. no_division d w; told = λ ts a. agree_retold ts ys tx (with_decision None) a (λ y. refl); apart = λ x w. none_decided x w }
 
-  watch_fits : (tx : Draw) (vote : Past) (by : ℕ) (l : Lock) → s.core.lock ≡ l → Fits gs ys s (RecordWatch tx vote by) (watch_recorded l s tx vote).1
-  watch_fits tx vote by Free e = watch_quiet tx vote by
-  watch_fits tx vote by (Coordinating t body order heard) e =
-      cond_both (same_draw t tx) (cond (asks_watcher body heard) (watch_answered vote body heard s tx) (s, Was.NoEffect tx)) (s, Was.NoEffect tx) (λ (r : Group × Effect). Fits gs ys s (RecordWatch tx vote by) r.1)
-      (λ q. (let lock = same_lock s.core.lock t tx body order heard e q in
-      let r = cond (asks_watcher body heard) (watch_answered vote body heard s tx) (s, Was.NoEffect tx) in record {
-        births = λ d w. cond_both (is_divided r.1) (division_in s.core.lock) None (λ (x : Option Division). x ≡ Some d → gs d.child ≡ None) (λ b z. lock_new s.core.lock refl d z) (λ b z. no_division d z) w;
-        told = λ ts a. agree_concluded ts ys tx s.core.id (decided_in r.1) a (λ x w. own_coordinator tx body order heard lock);
-        apart = λ x w. own_apart tx body order heard lock;
-      }))
-      (λ q. watch_quiet tx vote by)
-  watch_fits tx vote by (Promised t offer) e = watch_quiet tx vote by
-  watch_fits tx vote by (Watching t watch) e = watch_quiet tx vote by
+  watch_fits : (tx : Draw) (vote : Past) (by : ℕ) → Fits gs ys s (RecordWatch tx vote by) (watch_recorded s.core.lock s tx vote).1
+  watch_fits tx vote by =
+      watch_step s tx vote (λ r. Fits gs ys s (RecordWatch tx vote by) r.1) (record {
+        quiet = watch_quiet tx vote by;
+        aborts = λ body order got lock none. decides body order got lock Is.Abort (λ d w. no_division d w);
+        divides = λ at child order got lock votes can. decides (At.Split at child) order got lock Is.Divided (λ d w. lock_new s.core.lock refl d w);
+        merges = λ order heard lock votes may. decides At.Merge order (Some heard) lock _ (λ d w. no_division d w);
+      })
+    where
+      decides : (body : Body) (order : ℕ) (heard : Option Heard) → s.core.lock ≡ Coordinating tx body order heard → (outcome : Outcome) → ((d : Division) → division_of s.core (RecordWatch tx vote by) (Was.Decided outcome) ≡ Some d → gs d.child ≡ None)
+          → Fits gs ys s (RecordWatch tx vote by) (Was.Decided outcome)
+      decides body order heard lock outcome births = record { births = births; told = λ ts a. agree_concluded ts ys tx s.core.id (Some outcome) a (λ x w. own_coordinator tx body order heard lock); apart = λ x w. own_apart tx body order heard lock }
 
   plain_fits : (command : Command) (effect : Effect) → division_of s.core command effect ≡ None → decided_by command effect ≡ None → ((ts : List Transaction) → Agree ts ys → Agree (transactions_after s.core command effect ts) (stories_after s command effect ys)) → Fits gs ys s command effect
   plain_fits command effect quiet still told = record { births = λ d w. no_division d (sym quiet ∙ w); told = told; apart = λ x w. none_decided x (sym still ∙ w) }
@@ -223,10 +219,10 @@ module _ (sources : Sources) (ring : Ring) (gs : Groups) (ys : Stories) (g : Dra
   fits (Begin tx body order) a = begin_fits tx body order a.0
   fits (Prepared tx offer) a =
       let e = (applied s (Prepared tx offer)).1 in plain_fits (Prepared tx offer) e refl refl (λ ts w. agree_retold ts ys tx (with_vote (vote_in s e)) w (vote_brief (vote_in s e)))
-  fits (RecordVote tx vote by) a = vote_fits tx vote by s.core.lock refl
+  fits (RecordVote tx vote by) a = vote_fits tx vote by
   fits (Watched tx watch) a =
       let e = (applied s (Watched tx watch)).1 in plain_fits (Watched tx watch) e refl refl (λ ts w. agree_retold ts ys tx (with_watch_vote (watch_vote_in e)) w (watch_brief (watch_vote_in e)))
-  fits (RecordWatch tx vote by) a = watch_fits tx vote by s.core.lock refl
+  fits (RecordWatch tx vote by) a = watch_fits tx vote by
   fits (GiveUp tx) a = give_up_fits tx s.core.lock refl
   fits (Finish tx outcome) a = plain_fits (Finish tx outcome) (applied s (Finish tx outcome)).1 refl refl (λ ts w. w)
 

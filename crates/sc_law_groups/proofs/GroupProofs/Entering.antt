@@ -6,12 +6,13 @@ use Rattle.sc_group_table.specs.machine.Definitions.{Group, applied}
 use Rattle.sc_words.proofs.PaxosProofs.Lemmas.{Each-weaker}
 use Rattle.sc_paxos_law.specs.Definitions.{needed, members_of, IsChosenAfter}
 use Rattle.sc_paxos_law.proofs.Lemmas.{longer_log, get_pushed}
-use Rattle.sc_node_table.specs.Definitions.{rest_of, ReplicaState, next, floor_of, forgotten, waits_in, with_entry, entered}
+use Rattle.sc_node_table.specs.Definitions.{rest_of, ReplicaState, next, floor_of, forgotten, waits_in, entered}
 use Rattle.sc_meaning.specs.sound.Definitions.{Ahead}
 use Rattle.sc_law_groups.proofs.GroupProofs.Held.{floor_low}
 use Rattle.sc_law_groups.proofs.GroupProofs.Invariant.{Steps, rule, AreSets, HasLog, next_is, pushed_has, cut_has, IsReplica, next_after, forgotten_replica}
 use Rattle.sc_law_groups.proofs.GroupProofs.Parts.{rest_length, rest_count, rest_get}
 use Rattle.sc_law_walks.proofs.Lemmas.{entry_is as with_entry-is}
+pub use Rattle.sc_law_walks.proofs.Lemmas.{entered_running as entered_runs}
 
 module _ (ahead : Ahead) (base : Base) where
   -- ---- the log and the open slots with one entry more
@@ -108,8 +109,3 @@ module _ (ahead : Ahead) (base : Base) (made : Command → Type 0) (me : ℕ) wh
       let after = next_is ahead base made h (k.whole ++ c ∷ []) _ _ cut in
       let same : next (entered c r) ≡ length (k.whole ++ c ∷ []) + 1 = ap (λ (s : ReplicaState). next s) (entered_is c r) ∙ after in
       omega (arith, same, at, longer)
-
-  -- to execute stops nobody
-  pub entered_runs : (c : Command) (r : ReplicaState) → (entered c r).running ≡ r.running
-  unfolding forgotten
-  entered_runs c r = ap (λ (s : ReplicaState). s.running) (entered_is c r)

@@ -10,7 +10,7 @@ use Rattle.sc_words.specs.paxos.Definitions.{LogState, next_of, flight_at, witho
 use Rattle.sc_words.proofs.PaxosProofs.Lemmas.{Each-among, find_found}
 use Rattle.sc_paxos_law.specs.Definitions.{IsLog}
 use Rattle.sc_paxos_law.proofs.Lemmas.{earlier}
-use Rattle.sc_node_table.specs.Definitions.{at_slot, without_slot, ReplicaState, Place, Executed, childless, name_of, next, members, flying, forgotten, sent, order_number, order_reported, queued_number, without_request, request_before, put_back, entered, answer_of, answered_or_put_back, order_result, effect_reported, announced, learnt_to, landed, left_gone, left, is_among, looked_for, looked, executed_one, next_child, has_room, next_ready, ending, executed_ready, executed, before_of, begun_result, spoken_number, result_reported, begun_reported, went_on, spoken_mails, spoken}
+use Rattle.sc_node_table.specs.Definitions.{at_slot, without_slot, ReplicaState, Place, Executed, childless, name_of, next, members, flying, sent, order_number, order_reported, queued_number, without_request, request_before, put_back, entered, answer_of, answered_or_put_back, order_result, effect_reported, announced, learnt_to, landed, left_gone, left, is_among, looked_for, looked, executed_one, next_child, has_room, next_ready, ending, executed_ready, executed, before_of, begun_result, spoken_number, result_reported, begun_reported, went_on, spoken_mails, spoken}
 use Rattle.sc_node_table.specs.declared.Before.{Before}
 use Rattle.sc_law_entries.specs.history.Definitions.{IsReplied}
 use Rattle.sc_meaning.specs.sound.Definitions.{Ahead}
@@ -25,7 +25,7 @@ use Rattle.sc_law_groups.proofs.GroupProofs.Parts.{Each-without_flight, among_wi
 use Rattle.sc_law_groups.proofs.GroupProofs.Offering.{with_calls, with_acts, fine_pumped}
 use Rattle.sc_law_groups.proofs.GroupProofs.Entering.{entered_has, entered_replica, entered_next, entered_runs}
 use Rattle.sc_law_groups.proofs.GroupProofs.Welcoming.{welcomed_place}
-use Rattle.sc_law_walks.proofs.Lemmas.{landed_place, cleared}
+use Rattle.sc_law_walks.proofs.Lemmas.{landed_place, cleared, entered_group}
 use Rattle.sc_law_walks.proofs.Queues.{back_runs}
 
 module _ (ahead : Ahead) (base : Base) (made : Command → Type 0) (heard : MailBody → Type 0) (me : ℕ) (older : List Mail) (before : Steps) (speaks : Speaks ahead base made heard before)
@@ -71,10 +71,6 @@ module _ (ahead : Ahead) (base : Base) (made : Command → Type 0) (heard : Mail
   back_group (Split at child order) r = refl
   back_group (Begin tx body order) r = refl
   back_group c r = refl
-
-  entered_group : (c : Command) (r : ReplicaState) → (entered c r).group ≡ (applied r.group c).0
-  unfolding entered forgotten
-  entered_group c r = refl
 
   -- ---- a counted call is answered, or goes back
 
@@ -303,7 +299,7 @@ module _ (ahead : Ahead) (base : Base) (made : Command → Type 0) (heard : Mail
       }) in
       let answers : (client seq : ℕ) (op : Op) (answer : AnswerBody) → c ≡ Call client seq op → answer_of effect ≡ Some answer → IsTrueAnswer ahead base h (client_actor client) seq answer = λ client seq op answer is e.
       (true_answer h client seq effect (λ reply replied. replies client seq op reply is replied) answer e) in
-      let start : Past counted (next r) c g (entered c r, mails) = record { fine = place; group_is = entered_group c r; learnt_is = t; executed_is = up; runs_is = λ e. entered_runs ahead base made me c r ∙ runs e } in
+      let start : Past counted (next r) c g (entered c r, mails) = record { fine = place; group_is = entered_group c r; learnt_is = t; executed_is = up; runs_is = λ e. entered_runs c r ∙ runs e } in
       let answered_it : Past counted (next r) c g (cond counted (answered_or_put_back (answer_of effect) c (entered c r, mails)) (entered c r, mails)) = (
       cond_both counted (answered_or_put_back (answer_of effect) c (entered c r, mails)) (entered c r, mails) (Past counted (next r) c g)
       (λ _. told_place counted (next r) c g (answer_of effect) c (entered c r) mails start m answers) (λ _. start)) in

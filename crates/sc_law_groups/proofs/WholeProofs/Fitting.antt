@@ -3,6 +3,7 @@ use Rattle.std.proofs.Common.{◌≡◌, ℕ, ◌≤◌, ◌&&◌, not, nat_lt, 
 use Rattle.std.proofs.lemmas.Bool.{ltb-false, cond_both}
 use Rattle.std.proofs.lemmas.Option.{same_Some}
 use Rattle.sc_base.specs.Definitions.{Among, Each, same_draw, end_of, IsRoster, united}
+use Rattle.sc_base.proofs.Lemmas.{draw_is}
 use Rattle.sc_node_table.specs.Values.{Draw, Body, Offer, Command, Noop, Call, Join, Leave, Split, Begin, Prepared, RecordVote, GiveUp, Finish, Watched, RecordWatch, Base, Core, Effect, Route, Frozen, No, Outcome, Past, Vote}
 use Rattle.sc_words.specs.declared.commands.bodies.Body.TheVariants as At
 use Rattle.sc_words.specs.declared.commands.votes.No.TheVariants as Why
@@ -20,6 +21,21 @@ use Rattle.sc_law_groups.proofs.WholeProofs.Children.{fresh_child}
 use Rattle.sc_law_groups.proofs.WholeProofs.Members.{members_after}
 use Rattle.sc_law_groups.proofs.WholeProofs.Unions.{either_way}
 
+-- what holds of each story is kept by one more story, and by one that goes on
+module _ (P : Draw → Story → Type 0) where
+  abbrev AllSo : Stories → Type 0
+  AllSo ys = (tx : Draw) (y : Story) → ys tx ≡ Some y → P tx y
+
+  pub put_so : (ys : Stories) (tx : Draw) (o : Option Story) → ((y : Story) → o ≡ Some y → P tx y) → AllSo ys → AllSo (put ys tx o)
+  put_so ys tx o new old t story = cond_both (same_draw t tx) o (ys t) (λ (x : Option Story). x ≡ Some story → P t story) (λ q e. subst (λ n. P n story) (sym (draw_is t tx q)) (new story e)) (λ _ e. old t story e)
+
+  pub retold_so : (ys : Stories) (tx : Draw) (f : Story → Story) → ((y : Story) → ys tx ≡ Some y → P tx (f y)) → AllSo ys → AllSo (retold ys tx f)
+  retold_so ys tx f new old = by (ys tx) refl
+    where
+      by : (o : Option Story) → ys tx ≡ o → AllSo (put ys tx (option_map f o))
+      by None e = put_so ys tx None (λ y is. cc) old
+      by (Some story) e = put_so ys tx (Some (f story)) (λ y is. (let same : f story ≡ y = cc in subst (P tx) same (new story e))) old
+
 -- ---- stories
 
 -- what a story says of its offer
@@ -31,18 +47,6 @@ FitsStory y =
 -- so does each
 abbrev AllFit : Stories → Type 0
 AllFit ys = (tx : Draw) (y : Story) → ys tx ≡ Some y → FitsStory y
-
--- with one story more
-fit_put : (ys : Stories) (tx : Draw) (o : Option Story) → ((y : Story) → o ≡ Some y → FitsStory y) → AllFit ys → AllFit (put ys tx o)
-fit_put ys tx o new old t story = cond_both (same_draw t tx) o (ys t) (λ (x : Option Story). x ≡ Some story → FitsStory story) (λ _ e. new story e) (λ _ e. old t story e)
-
--- with one story that goes on
-fit_retold : (ys : Stories) (tx : Draw) (f : Story → Story) → ((y : Story) → ys tx ≡ Some y → FitsStory (f y)) → AllFit ys → AllFit (retold ys tx f)
-fit_retold ys tx f new old = by (ys tx) refl
-  where
-    by : (o : Option Story) → ys tx ≡ o → AllFit (put ys tx (option_map f o))
-    by None e = fit_put ys tx None (λ y is. cc) old
-    by (Some story) e = fit_put ys tx (Some (f story)) (λ y is. (let same : f story ≡ y = cc in subst FitsStory same (new story e))) old
 
 -- none is no vote
 pub no_vote : (frozen : Frozen) → None ≡ Some (Vows.Yes frozen) → ⊥
@@ -141,18 +145,18 @@ entry_fit sources ys g s roster (Leave node order) a old = old
 entry_fit sources ys g s roster (Finish tx outcome) a old = old
 entry_fit sources ys g s roster (Split at child order) a old =
     cond_both (is_changed (applied s (Split at child order)).1 && not (is_alone s.core)) (put ys child (Some (new_story s (At.Split at child)))) ys AllFit
-    (λ _. fit_put ys child (Some (new_story s (At.Split at child))) (λ y e. (let same : new_story s (At.Split at child) ≡ y = cc in subst FitsStory same (fit_new s roster (At.Split at child)))) old) (λ _. old)
+    (λ _. put_so (λ t y. FitsStory y) ys child (Some (new_story s (At.Split at child))) (λ y e. (let same : new_story s (At.Split at child) ≡ y = cc in subst FitsStory same (fit_new s roster (At.Split at child)))) old) (λ _. old)
 entry_fit sources ys g s roster (Begin tx body order) a old =
     cond_both (is_changed (applied s (Begin tx body order)).1) (put ys tx (Some (new_story s body))) ys AllFit
-    (λ _. fit_put ys tx (Some (new_story s body)) (λ y e. (let same : new_story s body ≡ y = cc in subst FitsStory same (fit_new s roster body))) old) (λ _. old)
+    (λ _. put_so (λ t y. FitsStory y) ys tx (Some (new_story s body)) (λ y e. (let same : new_story s body ≡ y = cc in subst FitsStory same (fit_new s roster body))) old) (λ _. old)
 entry_fit sources ys g s roster (Prepared tx offer) a old =
-    fit_retold ys tx _ (λ y e. (let same : a.0 ≡ y = (let both : Some a.0 ≡ Some y = sym a.1 ∙ e in cc) in prepared_fit s roster tx offer y (ap (λ (z : Story). z.offer) (sym same) ∙ a.2) (old tx y e))) old
-entry_fit sources ys g s roster (Watched tx watch) a old = fit_retold ys tx _ (λ y e. watched_fit (watch_vote_in (applied s (Watched tx watch)).1) y (old tx y e)) old
-entry_fit sources ys g s roster (RecordVote tx vote by) a old = fit_retold ys tx _ (λ y e. (
+    retold_so (λ t y. FitsStory y) ys tx _ (λ y e. (let same : a.0 ≡ y = (let both : Some a.0 ≡ Some y = sym a.1 ∙ e in cc) in prepared_fit s roster tx offer y (ap (λ (z : Story). z.offer) (sym same) ∙ a.2) (old tx y e))) old
+entry_fit sources ys g s roster (Watched tx watch) a old = retold_so (λ t y. FitsStory y) ys tx _ (λ y e. watched_fit (watch_vote_in (applied s (Watched tx watch)).1) y (old tx y e)) old
+entry_fit sources ys g s roster (RecordVote tx vote by) a old = retold_so (λ t y. FitsStory y) ys tx _ (λ y e. (
     let effect = (applied s (RecordVote tx vote by)).1 in
     cond_both (is_changed effect) (with_asked s.core vote y) (with_decision (decided_in effect) y) FitsStory (λ _. asked_fit s.core vote y (old tx y e)) (λ _. decided_fit (decided_in effect) y (old tx y e)))) old
-entry_fit sources ys g s roster (RecordWatch tx vote by) a old = fit_retold ys tx _ (λ y e. decided_fit (decided_in (applied s (RecordWatch tx vote by)).1) y (old tx y e)) old
-entry_fit sources ys g s roster (GiveUp tx) a old = fit_retold ys tx _ (λ y e. decided_fit (decided_in (applied s (GiveUp tx)).1) y (old tx y e)) old
+entry_fit sources ys g s roster (RecordWatch tx vote by) a old = retold_so (λ t y. FitsStory y) ys tx _ (λ y e. decided_fit (decided_in (applied s (RecordWatch tx vote by)).1) y (old tx y e)) old
+entry_fit sources ys g s roster (GiveUp tx) a old = retold_so (λ t y. FitsStory y) ys tx _ (λ y e. decided_fit (decided_in (applied s (GiveUp tx)).1) y (old tx y e)) old
 
 -- the groups of a world have rosters
 abbrev HaveRosters : List Group → Type 0

@@ -11,7 +11,8 @@ use Rattle.sc_group_table.specs.machine.Definitions.{closed, Group, state_after,
 use Rattle.sc_paxos_law.proofs.Lemmas.{Among-either}
 use Rattle.sc_law_groups.proofs.GroupProofs.Lemmas.{ordered_if}
 use Rattle.sc_law_entries.proofs.HistoryProofs.Lemmas.{free_by, free_by_no}
-use Rattle.sc_law_groups.proofs.WholeProofs.Coming.{EndsIt, Binds, comes}
+use Rattle.sc_law_groups.proofs.WholeProofs.Coming.{Binds, comes}
+use Rattle.sc_law_walks.proofs.Lemmas.{EndsIt}
 
 -- ---- what once came of an entry
 

@@ -18,7 +18,8 @@ use Rattle.sc_law_entries.specs.logs.Definitions.{AllowsAsItStands, MakesAllowed
 use Rattle.sc_law_groups.proofs.GroupProofs.Lemmas.{IsSaid, AreSaid}
 use Rattle.sc_law_groups.specs.whole.Definitions.{IsHeard, MergesFit}
 use Rattle.sc_law_groups.proofs.WholeProofs.Asking.{BeginsShared}
-use Rattle.sc_law_groups.proofs.WholeProofs.Coming.{EndsIt, IsDull, voting_group, comes}
+use Rattle.sc_law_groups.proofs.WholeProofs.Coming.{IsDull, comes}
+use Rattle.sc_law_walks.proofs.Lemmas.{EndsIt, voting_group}
 
 -- ---- what a lock says beside what it makes allowed
 

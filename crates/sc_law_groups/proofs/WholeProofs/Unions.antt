@@ -1,24 +1,17 @@
 -- Two sets of nodes have as many nodes together, whichever comes first.
-use Rattle.std.proofs.Common.{◌≡◌, ℕ, suc, ◌+◌, ◌<◌, ◌||◌, not, Bool, false, cond, eqb, List, [], ◌∷◌, length, filter, inl, inr, refl, sym, ◌∙◌, ap, subst, arith}
-use Rattle.std.specs.List.{AllPairs, All}
+use Rattle.std.proofs.Common.{◌≡◌, ℕ, suc, ◌+◌, ◌||◌, not, Bool, false, cond, eqb, List, [], ◌∷◌, length, filter, inl, inr, refl, sym, ◌∙◌, ap, subst, arith}
+use Rattle.std.specs.List.{AllPairs}
 use Rattle.std.proofs.lemmas.Bool.{cases_Bool, eqb-true, eqb-false, eq-eqb, ne_eqb}
-use Rattle.std.proofs.lemmas.List.Elements.{All-tail, All-head}
 use Rattle.std.proofs.lemmas.List.Filters.{length-filter_both}
 use Rattle.std.proofs.lemmas.List.Kept.{AllPairs-from_increasing}
 use Rattle.sc_base.specs.Definitions.{IsRoster, is_member, united}
 use Rattle.sc_base.proofs.Lemmas.{Below, count_united, AllPairs-head, AllPairs-tail}
+use Rattle.sc_law_walks.proofs.Lemmas.{none_below as not_in}
 
 -- each node stands once
 abbrev AreOnce : List ℕ → Type 0
 AreOnce [] = Unit {0}
 AreOnce (x ∷ xs) = (is_member xs x ≡ false) × AreOnce xs
-
--- a node below all of these is not among them
-not_in : (x : ℕ) (xs : List ℕ) → All (λ y. x < y) xs → is_member xs x ≡ false
-not_in x [] all = refl
-not_in x (y ∷ ys) all =
-    let lt : x < y = All-head (λ z. x < z) y ys all in
-    ap (λ b. b || is_member ys x) (ne_eqb y x (λ e. omega (arith, e, lt))) ∙ not_in x ys (All-tail (λ z. x < z) y ys all)
 
 -- nodes that ascend stand once
 once_of : (xs : List ℕ) → AllPairs Below xs → AreOnce xs

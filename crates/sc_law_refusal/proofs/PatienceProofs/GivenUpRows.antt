@@ -14,7 +14,8 @@ use Rattle.sc_law_walks.proofs.PlaceEntries.{EntryParts, entry_kept}
 use Rattle.sc_law_walks.proofs.Talks.{all_sent, one_answered, all_answered, all_dismissed}
 use Rattle.sc_law_walks.specs.Definitions.{IsKept}
 use Rattle.sc_law_refusal.proofs.RefusalProofs.Executing.{entered_name}
-use Rattle.sc_law_refusal.proofs.PatienceProofs.GivenUpCommands.{Gives, MailGives, Holds, Commands, Reports, filed_gives, order_gives, with_top, with_hint, with_calls, with_acts, without_gives, back_gives, with_leader, with_ready, landed_gives, flying_gives, polled_gives, count_gives, chosen_gives, must_gives, entry_gives, forgotten_gives, with_acceptor}
+use Rattle.sc_law_refusal.proofs.PatienceProofs.GivenUpCommands.{Gives, MailGives, Holds, Commands, Reports, filed_gives, order_gives, with_top, with_hint, with_calls, with_acts, back_gives, with_leader, with_ready, landed_gives, polled_gives, entry_gives, forgotten_gives, with_acceptor, counted_gives, held_gives}
+use Rattle.sc_law_refusal.proofs.HeldCommands.{without_held, flying_held, chosen_held, must_held}
 
 -- what goes back leaves the group as it is
 back_name : (command : Command) (r : ReplicaState) → name_of (put_back command r) ≡ name_of r
@@ -75,7 +76,7 @@ module _ (F : Draw → Draw → Type 0) (me : ℕ) (group : Draw) where
   entry_parts : EntryParts me Stands (λ slot command. Gives W command) (λ command. Gives W command)
   entry_parts = record {
     entered = λ command r mails kept good k. (entered_name command r ∙ k.0, enters command r good k.1, k.2);
-    flown = λ slot command r mails e k. subst (λ (o : Option Command). Opt (Gives W) o) e (flying_gives W r slot k.1);
+    flown = λ slot command r mails e k. subst (λ (o : Option Command). Opt (Gives W) o) e (flying_held (Gives W) r slot (held_gives W r k.1));
     asked = λ client seq op. tt;
     back = λ command r mails on good k. (back_name command r ∙ k.0, back_gives W command r good k.1, k.2);
     landed = λ slot r mails k. (k.0, landed_gives W slot r k.1, k.2);
@@ -115,11 +116,8 @@ module _ (F : Draw → Draw → Type 0) (me : ℕ) (group : Draw) where
   reported : (reports : List (Report Command)) → Each (IsReported Round Entry) reports → Reports W reports
   reported reports good = Each-weaker (IsReported Round Entry) (λ (report : Report Command). Gives W report.value) (λ report q. q.1) reports good
 
-  counts : (from : ℕ) (ballot : Ballot) (slot : ℕ) (set : List ℕ) (r : ReplicaState) → Holds W r → Holds W (record r { leader = (counted from ballot slot set r.leader).1 })
-  counts from ballot slot set r h = (let c = count_gives W from ballot slot set r.leader h.reports h.flights in with_leader W r (counted from ballot slot set r.leader).1 c.1 c.2 h)
-
   is_chosen : (from : ℕ) (ballot : Ballot) (slot : ℕ) (set : List ℕ) (command : Command) (r : ReplicaState) → (counted from ballot slot set r.leader).0 ≡ Chosen command → Holds W r → Gives W command
-  is_chosen from ballot slot set command r e h = chosen_gives W (counted from ballot slot set r.leader).0 command e (count_gives W from ballot slot set r.leader h.reports h.flights).0
+  is_chosen from ballot slot set command r e h = chosen_held (Gives W) from ballot slot set r.leader (h.flights, h.reports) command e
 
   -- ---- what is offered
 
@@ -170,9 +168,9 @@ module _ (F : Draw → Draw → Type 0) (me : ℕ) (group : Draw) where
     elected = λ r mails kept k. elects r mails k;
     seen = λ ballot r mails good t on k. (k.0, with_top W r ballot k.1, k.2);
     polled = λ from ballot reports r mails on good k. (k.0, polled_gives W from ballot reports r (reported reports good) k.1, k.2);
-    counts = λ from ballot slot set count r mails on e k. (k.0, counts from ballot slot set r k.1, k.2);
+    counts = λ from ballot slot set count r mails on e k. (k.0, counted_gives W from ballot slot set r k.1, k.2);
     chosen = λ from ballot slot set command r mails on e voted k. (let c = is_chosen from ballot slot set command r e k.1 in
-        (c, (k.0, with_ready W (record r { leader = (counted from ballot slot set r.leader).1 }) slot command c (counts from ballot slot set r k.1), k.2)));
+        (c, (k.0, with_ready W (record r { leader = (counted from ballot slot set r.leader).1 }) slot command c (counted_gives W from ballot slot set r k.1), k.2)));
     promised = λ from ballot from_slot r mails same good asked top t k. (
       k.0,
       with_acceptor W r (after_promise ballot r.acceptor) k.1.accepted k.1,
@@ -190,12 +188,12 @@ module _ (F : Draw → Draw → Type 0) (me : ℕ) (group : Draw) where
     requested = λ client seq op r mails on e k. (k.0, with_calls W r (r.backlog ++ Call client seq op ∷ []) (queued_last r (Call client seq op) tt k.1.backlog) k.1, k.2);
     requested_again = λ client seq other op r mails on e f k. (
       k.0,
-      with_calls W r (without_request r.backlog client ++ Call client seq op ∷ []) (Each-append (Gives W) (without_request r.backlog client) (Call client seq op ∷ []) (without_gives W r.backlog client k.1.backlog) (tt, tt)) k.1,
+      with_calls W r (without_request r.backlog client ++ Call client seq op ∷ []) (Each-append (Gives W) (without_request r.backlog client) (Call client seq op ∷ []) (without_held (Gives W) r.backlog client k.1.backlog) (tt, tt)) k.1,
       k.2,
     );
     turned = λ command answer backlog r mails same on e no k. (let after : ReplicaState = record r { backlog = backlog } in
         one_answered r.me (λ ms. Stands (after, ms)) (talk after) r.group.core.id answer command mails (k.0, with_calls W r backlog (first_call r command backlog e k.1).1 k.1, k.2));
-    offers_value = λ slot set command r mails same on near free e k. offers slot set command r mails (must_gives W slot r command e k.1) k;
+    offers_value = λ slot set command r mails same on near free e k. offers slot set command r mails (must_held (Gives W) slot r.leader command e (k.1.flights, k.1.reports)) k;
     offers_noop = λ slot set r mails same on near free k. offers slot set Noop r mails tt k;
     offers_act = λ slot set act acts r mails same on near free e k. (let first = first_act r act acts e k.1 in offers slot set act (record r { acts = acts }) mails first.0 (k.0, with_acts W r acts first.1 k.1, k.2));
     offers_call = λ slot set command backlog r mails same on near free e k. (let first = first_call r command backlog e k.1 in offers slot set command (record r { backlog = backlog }) mails first.0 (k.0, with_calls W r backlog first.1 k.1, k.2));
@@ -219,6 +217,6 @@ module _ (F : Draw → Draw → Type 0) (me : ℕ) (group : Draw) where
 
   pub given_agains : PlaceAgains given_facts
   given_agains = record {
-    reasks = λ to slot command r mails same on e k. (k.0, k.1, say r.me to (Accept (name_of r) r.leader.ballot slot command) mails (own r command k.0 (subst (λ (o : Option Command). Opt (Gives W) o) e (flying_gives W r slot k.1))) k.2);
+    reasks = λ to slot command r mails same on e k. (k.0, k.1, say r.me to (Accept (name_of r) r.leader.ballot slot command) mails (own r command k.0 (subst (λ (o : Option Command). Opt (Gives W) o) e (flying_held (Gives W) r slot (held_gives W r k.1)))) k.2);
     relearns = λ to command r mails same e k. recalled to (next r - 1) command r mails e k;
   }

@@ -1,5 +1,5 @@
 -- At most one request of each client waits at any replica, through all rows of its table.
-use Rattle.std.proofs.Common.{◌≡◌, ℕ, nat_lt, Bool, true, false, List, [], ◌∷◌, Option, Some, None, refl, subst}
+use Rattle.std.proofs.Common.{◌≡◌, ℕ, nat_lt, Bool, true, false, List, ◌∷◌, Option, Some, None, refl, subst}
 use Rattle.sc_base.specs.Definitions.{Drawer}
 use Rattle.sc_node_table.specs.Values.{Draw, Op, Command, Call, Base, OrderLine, AnswerBody, Mail, MailBody}
 use Rattle.sc_node_table.specs.Definitions.{queued_number, without_request, request_before, put_back, entered, ended, jumped, forgotten, offered, ordered_row, tick_row, made_by, mailed, ReplicaState, Place}
@@ -78,6 +78,7 @@ queue_facts = record {
   Entry = λ slot command. Unit {0};
   Files = λ act. Unit {0};
   Orders = λ order. Unit {0};
+  Given = λ drawer line. Unit {0};
   Child = λ base. Unit {0};
 }
 
@@ -128,7 +129,7 @@ pub mailed_keeps : (from : ℕ) (body : MailBody) (place : Place) → Keeps plac
 mailed_keeps from body place k = (rows.takes_mail queue_walk from body place tt tt k).0
 
 pub order_keeps : (drawer : Drawer) (line : OrderLine) (place : Place) → Keeps place → Keeps (ordered_row drawer line place)
-order_keeps drawer line place k = rows.orders queue_walk drawer line place (λ e. tt) k
+order_keeps drawer line place k = rows.orders queue_walk drawer line place tt (λ e. tt) k
 
 pub tick_keeps : (on : Bool) (drawer : Drawer) (place : Place) → Keeps place → Keeps (tick_row on drawer place)
 tick_keeps on drawer place k = tick.ticks queue_walk queue_ticks on drawer place (λ here f line e taken. tt) k

@@ -22,20 +22,12 @@ use Rattle.sc_law_refusal.proofs.RefusalProofs.Locking.{entry_turns, still_allow
 use Rattle.sc_law_refusal.proofs.RefusalProofs.Stopping.{ended_fine, stopped_fine, elected_fine, welcomed_fine}
 use Rattle.sc_law_refusal.proofs.RefusalProofs.Deciding.{same_leader}
 use Rattle.sc_law_refusal.proofs.RefusalProofs.Pumping.{lacking, pumped_still}
+pub use Rattle.sc_law_walks.proofs.Lemmas.{entered_me, entered_name}
 
 -- the log after one entry more
 log_push : (log : LogState Command) (entries : List Command) (command : Command) → log_after log (entries ++ command ∷ []) ≡ log_with (log_after log entries) command
 log_push log [] command = refl
 log_push log (entry ∷ entries) command = log_push (log_with log entry) entries command
-
--- after an entry a replica has its number, and its group the name
-pub entered_me : (command : Command) (r : ReplicaState) → (entered command r).me ≡ r.me
-unfolding entered forgotten
-entered_me command r = refl
-
-pub entered_name : (command : Command) (r : ReplicaState) → name_of (entered command r) ≡ name_of r
-unfolding entered forgotten
-entered_name command r = (entry_turns r.group command).name
 
 module _ (start : ReplicaState) (A : Command → Type 0) (G : Draw → ℕ → Type 0) (W : Ballot → Draw → ℕ) (Q : Type 0) (numbered : 1 ≤ start.me) where
   -- while entries are executed no other leader is named, and no call that is not executed is turned down

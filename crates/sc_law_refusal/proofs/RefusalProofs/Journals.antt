@@ -22,6 +22,7 @@ use Rattle.sc_law_refusal.proofs.RefusalProofs.Locking.{allowed}
 use Rattle.sc_meaning.proofs.SoundProofs.Lemmas.{any_push}
 use Rattle.sc_law_refusal.proofs.RefusalProofs.Ticking.{IsKnown, counts, node_known, no_client}
 use Rattle.sc_law_refusal.proofs.PatienceProofs.GivenUpJournals.{lawful_give_up}
+use Rattle.sc_law_refusal.proofs.ResultsProofs.ReportedJournals.{rows_report}
 use Rattle.sc_law_refusal.proofs.RefusalProofs.Turning.{InPlace, keeps_turn, in_place}
 
 -- ---- seats
@@ -294,14 +295,24 @@ module _ (ahead : Ahead) (words : ℕ → ℕ → ℕ × ℕ) (scenario : Scenar
 
 -- ---- a journal
 
+-- each row of it is a step after lawful rows
+record HasStep (ahead : Ahead) (words : ℕ → ℕ → ℕ × ℕ) (scenario : Scenario) (before : Rows) (row : Row Mail OrderLine) : Type 0 where
+  lawful : Lawful ahead words scenario before
+  step : IsStep (system_of ahead words scenario) before row
+
+has_step : (ahead : Ahead) (words : ℕ → ℕ → ℕ × ℕ) (scenario : Scenario) (journal : Rows) → Lawful ahead words scenario journal → (before : Rows) (row : Row Mail OrderLine) (later : Rows) → journal ≡ before ++ row ∷ later → HasStep ahead words scenario before row
+has_step ahead words scenario journal lawful before row later are =
+    let s = system_of ahead words scenario in
+    let all : Lawful ahead words scenario ((before ++ row ∷ []) ++ later) = subst (Lawful ahead words scenario) (are ∙ sym (append_assoc before (row ∷ []) later)) lawful in
+    let prefix : Lawful ahead words scenario (before ++ row ∷ []) = lawful-prefix s (schedule scenario) (before ++ row ∷ []) later all in
+    record {
+      lawful = lawful-prefix s (schedule scenario) before (row ∷ []) prefix;
+      step = MayAdd-step s before (place_after s (schedule scenario) before).tasks row (lawful-last s (schedule scenario) before row prefix);
+    }
+
 pub valid_refuse : QueuesKeepOneCall → ValidJournalsRefuseWithCause
 valid_refuse queues ahead open_slots words scenario valid journal lawful = record {
-  rows = λ before row later are. (
-      let s = system_of ahead words scenario in
-      let all : Lawful ahead words scenario ((before ++ row ∷ []) ++ later) = subst (Lawful ahead words scenario) (are ∙ sym (append_assoc before (row ∷ []) later)) lawful in
-      let prefix : Lawful ahead words scenario (before ++ row ∷ []) = lawful-prefix s (schedule scenario) (before ++ row ∷ []) later all in
-      let step : IsStep s before row = MayAdd-step s before (place_after s (schedule scenario) before).tasks row (lawful-last s (schedule scenario) before row prefix) in
-      row_has ahead words scenario before row (lawful-prefix s (schedule scenario) before (row ∷ []) prefix) step);
+  rows = λ before row later are. (let has = has_step ahead words scenario journal lawful before row later are in row_has ahead words scenario before row has.lawful has.step);
   queues = λ before later are seat seated node is. (
       let at : IsSeat ahead scenario seat = Each-among (IsSeat ahead scenario) (births ahead scenario) seat (seats ahead scenario) seated in
       let prefix : Lawful ahead words scenario before = lawful-prefix (system_of ahead words scenario) (schedule scenario) before later (subst (Lawful ahead words scenario) are lawful) in
@@ -310,4 +321,5 @@ valid_refuse queues ahead open_slots words scenario valid journal lawful = recor
         | inr c ↦ absurd (subst (Placed ahead words scenario c.first c.asks before) (subst (λ (s : Seat Player). value player_table s before ≡ Node node) c.is is) (placed ahead words scenario c.first c.asks before prefix))
       ]);
   given_up = λ before later are. lawful_give_up ahead open_slots words scenario before (lawful-prefix (system_of ahead words scenario) (schedule scenario) before later (subst (Lawful ahead words scenario) are lawful));
+  reported = λ before row later are. (let has = has_step ahead words scenario journal lawful before row later are in rows_report ahead open_slots words scenario valid before has.lawful row has.step);
 }

@@ -26,7 +26,7 @@ put_by : (b : Bool) (new r other : ReplicaState) (found : Option ReplicaState) (
 put_by true new r other found replicas put more e = inl refl
 put_by false new r other found replicas put more e = inr (more e)
 
-put_among : (group : Draw) (new r : ReplicaState) (replicas : List ReplicaState) → replica_of group replicas ≡ Some r → Among new (with_replica group new replicas)
+pub put_among : (group : Draw) (new r : ReplicaState) (replicas : List ReplicaState) → replica_of group replicas ≡ Some r → Among new (with_replica group new replicas)
 put_among group new r [] e = cc
 put_among group new r (other ∷ replicas) e =
     put_by (same_draw (name_of other) group) new r other (replica_of group replicas) replicas (with_replica group new replicas) (λ f. put_among group new r replicas f) e
@@ -42,7 +42,7 @@ born_among r child node a =
     either_way (λ (n : NodeState). Among r n.replicas) (is_some (replica_of child.core.id node.replicas)) node (record node { replicas = with_new (born_replica slots_ahead node.me child) node.replicas }) a
     (new_among r (born_replica slots_ahead node.me child) node.replicas a)
 
-children_among : (r : ReplicaState) (children : List Base) (node : NodeState) → Among r node.replicas → Among r (with_children children node).replicas
+pub children_among : (r : ReplicaState) (children : List Base) (node : NodeState) → Among r node.replicas → Among r (with_children children node).replicas
 unfolding with_children
 children_among r [] node a = a
 children_among r (child ∷ children) node a = children_among r children (with_born child node) (born_among r child node a)

@@ -7,7 +7,7 @@ use Rattle.sc_node_table.specs.Values.{Draw, Body, Offer, Watch, Command, Noop, 
 use Rattle.sc_words.specs.declared.commands.bodies.Body.TheVariants as At
 use Rattle.sc_words.specs.declared.commands.effects.Effect.TheVariants as Was
 use Rattle.sc_words.specs.declared.commands.orders.OrderRefusal.TheVariants.{NotLeader}
-use Rattle.sc_words.specs.declared.commands.orders.OrderResult.TheVariants.{Done, Refused}
+use Rattle.sc_words.specs.declared.commands.orders.OrderResult.TheVariants.{Done, Committed, Aborted, Refused}
 use Rattle.sc_words.specs.declared.commands.votes.Outcome.TheVariants as Is
 use Rattle.sc_words.specs.declared.commands.votes.Past.TheVariants as Cast
 use Rattle.sc_words.specs.declared.commands.votes.Vote.TheVariants as Says
@@ -25,20 +25,20 @@ module _ (me : ℕ) (Fact : ℕ → OrderResult → Type 0) where
   abbrev Q : List Mail → Type 0
   Q mails = TellAs Fact mails
 
-  puts : (to : ℕ) (body : MailBody) (mails : List Mail) → IfTold Fact body → Q mails → Q (sent me to body mails)
+  pub puts : (to : ℕ) (body : MailBody) (mails : List Mail) → IfTold Fact body → Q mails → Q (sent me to body mails)
   puts to body mails told m = Each-append (λ (mail : Mail). IfTold Fact mail.body) mails (record { from = me; to = to; body = body } ∷ []) m (told, tt)
 
-  reported : (number : ℕ) (result : OrderResult) (mails : List Mail) → (is_reported number ≡ true → Fact number result) → Q mails → Q (order_reported me number result mails)
+  pub reported : (number : ℕ) (result : OrderResult) (mails : List Mail) → (is_reported number ≡ true → Fact number result) → Q mails → Q (order_reported me number result mails)
   unfolding order_reported
   reported number result mails fact m = cond_both (is_reported number) (result_sent me number result mails) mails Q (λ t. puts 0 _ mails (fact t) m) (λ _. m)
 
   -- ---- what tells no result
 
-  heard_said : (to : ℕ) (core : Core) (tx : Draw) (body : Body) (heard : Option Heard) (mails : List Mail) → Q mails → Q (sent me to (heard_question me core tx body heard) mails)
+  pub heard_said : (to : ℕ) (core : Core) (tx : Draw) (body : Body) (heard : Option Heard) (mails : List Mail) → Q mails → Q (sent me to (heard_question me core tx body heard) mails)
   heard_said to core tx body None mails m = puts to _ mails tt m
   heard_said to core tx body (Some heard) mails m = puts to _ mails tt m
 
-  question_said : (to : ℕ) (core : Core) (tx : Draw) (body : Body) (heard : Option Heard) (mails : List Mail) → Q mails → Q (sent me to (question me core tx body heard) mails)
+  pub question_said : (to : ℕ) (core : Core) (tx : Draw) (body : Body) (heard : Option Heard) (mails : List Mail) → Q mails → Q (sent me to (question me core tx body heard) mails)
   question_said to core tx At.Merge heard mails m = heard_said to core tx At.Merge heard mails m
   question_said to core tx (At.Repart at) heard mails m = heard_said to core tx (At.Repart at) heard mails m
   question_said to core tx (At.Migrate node) heard mails m = heard_said to core tx (At.Migrate node) heard mails m
@@ -94,7 +94,7 @@ module _ (me : ℕ) (Fact : ℕ → OrderResult → Type 0) where
   watch_replied (Some outcome) (Cast.No why) before tx by mails m = either_way Q before.merges (aborted_to me tx before.succ mails) mails (aborted_said tx before.succ mails m) m
   watch_replied (Some outcome) Cast.Ended before tx by mails m = m
 
-  went_said : (group : Group) (before : Before) (effect : Effect) (command : Command) (mails : List Mail) → Q mails → Q (went_on me group before effect command mails)
+  pub went_said : (group : Group) (before : Before) (effect : Effect) (command : Command) (mails : List Mail) → Q mails → Q (went_on me group before effect command mails)
   unfolding went_on
   went_said group before effect (Split at child order) mails m = on_asked effect group.core mails m
   went_said group before effect (Begin tx body order) mails m = begun_asked effect group.core tx body mails m
@@ -106,18 +106,18 @@ module _ (me : ℕ) (Fact : ℕ → OrderResult → Type 0) where
   went_said group before effect _ mails m = m
 
   -- a result, where there is one
-  begun_said : (number : ℕ) (o : Option OrderResult) (mails : List Mail) → ((result : OrderResult) → o ≡ Some result → is_reported number ≡ true → Fact number result) → Q mails → Q (result_reported me o number mails)
+  pub begun_said : (number : ℕ) (o : Option OrderResult) (mails : List Mail) → ((result : OrderResult) → o ≡ Some result → is_reported number ≡ true → Fact number result) → Q mails → Q (result_reported me o number mails)
   begun_said number None mails fact m = m
   begun_said number (Some result) mails fact m = reported number result mails (λ t. fact result refl t) m
 
   -- ---- who stops
 
-  one_answered : (group : Draw) (answer : AnswerBody) (command : Command) (mails : List Mail) → Q mails → Q (answered me group answer command mails)
+  pub one_answered : (group : Draw) (answer : AnswerBody) (command : Command) (mails : List Mail) → Q mails → Q (answered me group answer command mails)
   unfolding answered
   one_answered group answer (Call client seq op) mails m = puts _ _ mails tt m
   one_answered group answer _ mails m = m
 
-  all_answered : (group : Draw) (answer : AnswerBody) (commands : List Command) (mails : List Mail) → Q mails → Q (answered_all me group answer commands mails)
+  pub all_answered : (group : Draw) (answer : AnswerBody) (commands : List Command) (mails : List Mail) → Q mails → Q (answered_all me group answer commands mails)
   unfolding answered_all
   all_answered group answer [] mails m = m
   all_answered group answer (command ∷ commands) mails m = all_answered group answer commands (answered me group answer command mails) (one_answered group answer command mails m)
@@ -128,7 +128,7 @@ module _ (me : ℕ) (Fact : ℕ → OrderResult → Type 0) where
   one_dismissed group hint answer Noop mails fact m = reported _ _ mails fact m
   one_dismissed group hint answer _ mails fact m = reported _ _ mails fact m
 
-  all_dismissed : (group : Draw) (hint : Option ℕ) (answer : AnswerBody) (commands : List Command) (mails : List Mail) → ((command : Command) → Among command commands → is_reported (order_number command) ≡ true → Fact (order_number command) (Refused (NotLeader hint))) → Q mails → Q (dismissed_all me group hint answer commands mails)
+  pub all_dismissed : (group : Draw) (hint : Option ℕ) (answer : AnswerBody) (commands : List Command) (mails : List Mail) → ((command : Command) → Among command commands → is_reported (order_number command) ≡ true → Fact (order_number command) (Refused (NotLeader hint))) → Q mails → Q (dismissed_all me group hint answer commands mails)
   unfolding dismissed_all
   all_dismissed group hint answer [] mails fact m = m
   all_dismissed group hint answer (command ∷ commands) mails fact m =
@@ -197,7 +197,7 @@ before_alone (Coordinating tx body order heard) core = refl
 before_alone (Promised tx offer) core = refl
 before_alone (Watching tx watch) core = refl
 
-order_ends : (group : Group) (command : Command) (result : OrderResult) → order_result command (applied group command).1 ≡ Some result → EndsOrder group command (order_number command) result
+pub order_ends : (group : Group) (command : Command) (result : OrderResult) → order_result command (applied group command).1 ≡ Some result → EndsOrder group command (order_number command) result
 order_ends group (Join node order) result e =
     at_once_ends group (Join node order) order refl tt (ordered_cause group.core (Join node order) group (with_node group node) group.core.gone (refusal_of group.core (Join node order)) refl refl) (applied group (Join node order)).1 refl result e
 order_ends group (Leave node order) result e =
@@ -221,7 +221,7 @@ split_ends : (group : Group) (at : ℕ) (child : Draw) (order : ℕ) (result : O
 split_ends group at child order result true alone e = at_once_ends group (Split at child order) order refl alone (split_cause group at child order) (applied group (Split at child order)).1 refl result e
 split_ends group at child order result false alone e = refused_ends group (Split at child order) order refl (split_cause group at child order) (applied group (Split at child order)).1 refl result e
 
-begun_ends : (group : Group) (command : Command) (result : OrderResult) → begun_result (before_of group.core).alone (applied group command).1 command ≡ Some result → is_reported (spoken_number (before_of group.core).order command) ≡ true
+pub begun_ends : (group : Group) (command : Command) (result : OrderResult) → begun_result (before_of group.core).alone (applied group command).1 command ≡ Some result → is_reported (spoken_number (before_of group.core).order command) ≡ true
     → EndsOrder group command (spoken_number (before_of group.core).order command) result
 begun_ends group (Split at child order) result e t =
     split_ends group at child order result (is_alone group.core) refl
@@ -269,7 +269,7 @@ entries_end counted command r =
     (announced_said Fact counted effect command (entered command r, []) (λ result e. order_ends r.group command result e) tt)
 
 -- what has a number that is reported is the command of that order
-is_of : (command : Command) → is_reported (order_number command) ≡ true → IsOf (order_number command) command
+pub is_of : (command : Command) → is_reported (order_number command) ≡ true → IsOf (order_number command) command
 is_of (Join node order) t = refl
 is_of (Leave node order) t = refl
 is_of (Split at child order) t = refl
@@ -287,5 +287,25 @@ orders_end : (drawer : Drawer) (line : OrderLine) (r : ReplicaState) (why : Orde
 unfolding ordered_row
 orders_end drawer line r why e = ap (λ (o : Option OrderRefusal). queued_or_refused o line.number (ordered_command (next_name drawer) line.number line.order) (r, [])) e
 
+-- ---- an entry ends an order with one result
+
+ends_once : (group : Group) (command : Command) (order : ℕ) (result other : OrderResult) → EndsOrder group command order result → EndsOrder group command order other → result ≡ other
+ends_once group command order Done Done a b = refl
+ends_once group command order Done Committed a b = (let apart : Was.Changed ≡ Was.Decided b.outcome = sym a.effect ∙ b.effect in cc)
+ends_once group command order Done Aborted a b = (let apart : Was.Changed ≡ Was.Decided b.outcome = sym a.effect ∙ b.effect in cc)
+ends_once group command order Done (Refused why) a b = (let apart : Was.Changed ≡ Was.Refused why = sym a.effect ∙ b.effect in cc)
+ends_once group command order Committed Done a b = (let apart : Was.Decided a.outcome ≡ Was.Changed = sym a.effect ∙ b.effect in cc)
+ends_once group command order Committed Committed a b = refl
+ends_once group command order Committed Aborted a b = (let both : Was.Decided a.outcome ≡ Was.Decided b.outcome = sym a.effect ∙ b.effect in let same : a.outcome ≡ b.outcome = cc in absurd (subst IsCommit (same ∙ b.such) a.such))
+ends_once group command order Committed (Refused why) a b = (let apart : Was.Decided a.outcome ≡ Was.Refused why = sym a.effect ∙ b.effect in cc)
+ends_once group command order Aborted Done a b = (let apart : Was.Decided a.outcome ≡ Was.Changed = sym a.effect ∙ b.effect in cc)
+ends_once group command order Aborted Committed a b = (let both : Was.Decided a.outcome ≡ Was.Decided b.outcome = sym a.effect ∙ b.effect in let same : a.outcome ≡ b.outcome = cc in absurd (subst IsCommit (sym same ∙ a.such) b.such))
+ends_once group command order Aborted Aborted a b = refl
+ends_once group command order Aborted (Refused why) a b = (let apart : Was.Decided a.outcome ≡ Was.Refused why = sym a.effect ∙ b.effect in cc)
+ends_once group command order (Refused why) Done a b = (let apart : Was.Refused why ≡ Was.Changed = sym a.effect ∙ b.effect in cc)
+ends_once group command order (Refused why) Committed a b = (let apart : Was.Refused why ≡ Was.Decided b.outcome = sym a.effect ∙ b.effect in cc)
+ends_once group command order (Refused why) Aborted a b = (let apart : Was.Refused why ≡ Was.Decided b.outcome = sym a.effect ∙ b.effect in cc)
+ends_once group command order (Refused why) (Refused other) a b = (let both : Was.Refused why ≡ Was.Refused other = sym a.effect ∙ b.effect in let same : why ≡ other = cc in ap Refused same)
+
 pub reports_are_decided : ReportsAreDecided
-reports_are_decided = record { entries = entries_end; queues = queues_end; orders = orders_end }
+reports_are_decided = record { once = ends_once; entries = entries_end; queues = queues_end; orders = orders_end }

@@ -123,6 +123,8 @@ pub record IsGivenBack (r : ReplicaState) (hint : Option ℕ) (order : ℕ) (res
 
 -- What each part of a replica's table that reports results reports.
 pub record ReportsAreDecided : Type 0 where
+  -- an entry ends an order with one result, so that all who execute it report the same
+  pub once : (group : Group) (command : Command) (order : ℕ) (result other : OrderResult) → EndsOrder group command order result → EndsOrder group command order other → result ≡ other
   -- of an entry that it executes, how the entry ends an order in the group that it meets
   pub entries : (counted : Bool) (command : Command) (r : ReplicaState) → TellAs (EndsOrder r.group command) (said_of_entry counted command r)
   -- where it stops, that it does not lead, of each order that waits

@@ -1,5 +1,5 @@
 -- In any journal a replica has promised no later ballot than the greatest that it saw; and where it runs, it runs with that one, and takes itself for the leader.
-use Rattle.std.proofs.Common.{◌≡◌, ℕ, ◌+◌, ◌<◌, ◌&&◌, eqb, cond, true, false, true≢false, List, [], Option, Some, inl, refl, sym, ◌∙◌, ap, subst, arith}
+use Rattle.std.proofs.Common.{◌≡◌, ℕ, ◌+◌, ◌<◌, cond, true, true≢false, List, Option, Some, inl, refl, sym, ◌∙◌, ap, subst, arith}
 use Rattle.std.proofs.lemmas.Bool.{cond_both, and_from, eqb-true}
 use Rattle.sc_base.specs.Definitions.{Each}
 use Rattle.sc_node_table.specs.Values.{Ballot, Draw, Command, Base, Mail, OrderLine, Row}

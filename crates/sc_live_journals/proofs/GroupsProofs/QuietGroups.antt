@@ -1,22 +1,22 @@
 -- What a group that is well led is in a quiet journal.
-use Rattle.std.proofs.Common.{◌≡◌, ℕ, ◌≤◌, ◌*◌, ◌&&◌, ◌||◌, not, true, false, true≢false, List, [], ◌∷◌, length, Some, inl, inr, sym, ◌∙◌, ap, subst, arith}
+use Rattle.std.proofs.Common.{◌≡◌, ℕ, ◌≤◌, ◌||◌, not, true, false, true≢false, List, [], ◌∷◌, length, Some, inl, inr, sym, ◌∙◌, ap, subst, arith}
 use Rattle.std.proofs.lemmas.Bool.{cases_Bool, or_left, or_right}
 use Rattle.sc_node_table.specs.Values.{Base, Seat}
 use Rattle.sc_base.specs.Definitions.{is_majority, IsRoster, is_member}
 use Rattle.sc_actor.specs.Definitions.{is_quiet}
 use Rattle.sc_live_orderly.specs.Definitions.{is_born, AreInTime}
-use Rattle.sc_live_orderly.proofs.Lemmas.{in_time_tidy, quiet-empty}
 use Rattle.sc_words.specs.paxos.Definitions.{below}
 use Rattle.sc_node_table.specs.Definitions.{ReplicaState, next, first_set, may_offer, settled}
 use Rattle.sc_meaning.specs.sound.Definitions.{Player}
 use Rattle.sc_live_steps.specs.calm.Definitions.{players, MayVote, Rows}
-use Rattle.sc_live_steps.specs.following.Definitions.{marks_of, Course, Progress, Sets, members_at, IsOpen, Tellers, hinted, AreAt, IsLeadOf}
+use Rattle.sc_live_steps.specs.following.Definitions.{Course, Progress, Sets, members_at, IsOpen, Tellers, hinted, AreAt, IsLeadOf}
 use Rattle.sc_live_steps.proofs.CalmProofs.Lemmas.{unbound_new}
 use Rattle.sc_live_journals.specs.rows.Definitions.{IsEvenAt, view_at, next_in, promise_in, progress_at, marks_at}
 use Rattle.sc_live_journals.proofs.RowsProofs.Lemmas.{quiet_rests, same_some}
 use Rattle.sc_live_journals.specs.groups.Definitions.{Ends, hint_in, hints_at, IsWellLed, IsLedQuietly, QuietGroupsAreLed}
 use Rattle.sc_base.proofs.Lemmas.{and_both as both}
 use Rattle.sc_live_steps.proofs.FollowingProofs.Lemmas.{decided as all_decide}
+use Rattle.sc_live_journals.proofs.RowsProofs.EvenGroups.{none_pending}
 
 -- the members of the first open slot
 pub first_at : (at : Sets) (slot : ℕ) (sets : List (List ℕ)) → AreAt at slot sets → 1 ≤ length sets → at slot ≡ first_set sets
@@ -28,12 +28,6 @@ module _ (at : Sets) (over : Ends) (by : Tellers) (words : ℕ → ℕ → ℕ �
     (stands : course.gone ≡ false) (there : view_at births rows base.core.id course.ballot.node ≡ Some lead) where
   abbrev now : Progress
   now = progress_at births rows base course
-
-  none : (who : ℕ) → marks_at (players words births) rows base.core.id who ≡ []
-  none who = elim (cases_Bool (is_born (players words births) who)) [
-    | inl t ↦ ap (marks_of base.core.id) (quiet-empty (players words births) rows who (in_time_tidy (players words births) rows timely) t quiet)
-    | inr f ↦ strangers who f
-  ]
 
   even : IsEvenAt at births rows base course
   even = quiet_rests at words births rows base course rosters timely quiet strangers was.followed
@@ -54,7 +48,7 @@ module _ (at : Sets) (over : Ends) (by : Tellers) (words : ℕ → ℕ → ℕ �
   may_vote node r e own open_ ne = record {
     hint_is =
         sym (ap (hint_in base) e)
-        ∙ (ap (λ ms. hinted at by (now.promise node) (hints_at births rows base node) ms) (sym (none node))
+        ∙ (ap (λ ms. hinted at by (now.promise node) (hints_at births rows base node) ms) (sym (none_pending words births rows base timely quiet strangers node))
         ∙ (was.heeded.ends leads.runs node (λ is. ne (is ∙ me)) open_ ∙ ap Some me));
     promised = λ later.
         (let led = even.led stands in (

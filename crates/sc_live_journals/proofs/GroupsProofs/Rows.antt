@@ -1,20 +1,21 @@
 -- Each row of players, by its kind in a group, keeps the group well led.
-use Rattle.std.proofs.Common.{◌≡◌, ℕ, ◌≤◌, true, true≢false, List, [], ◌∷◌, ◌++◌, Option, Some, None, inl, inr, refl, sym, ◌∙◌, ap, subst, append-nil}
+use Rattle.std.proofs.Common.{◌≡◌, ℕ, ◌≤◌, true, true≢false, List, [], ◌∷◌, Option, Some, None, inl, inr, refl, sym, ◌∙◌, ap, subst, append-nil}
 use Rattle.std.specs.Option.{option_map}
 use Rattle.std.proofs.lemmas.Bool.{cases_eq}
 use Rattle.sc_base.specs.Definitions.{Among, Each}
 use Rattle.sc_node_table.specs.Values.{Ballot, Draw, Base, OrderLine, Mail, Seat, Event}
 use Rattle.sc_actor.specs.Definitions.{mails, row_of}
 use Rattle.sc_live_orderly.specs.Definitions.{rest}
-use Rattle.sc_node_table.specs.Definitions.{ReplicaState, Place, listed}
+use Rattle.sc_node_table.specs.Definitions.{ReplicaState, Place}
 use Rattle.sc_meaning.specs.sound.Definitions.{Player, player_table}
 use Rattle.sc_live_steps.specs.calm.Definitions.{players, Rows}
-use Rattle.sc_live_steps.specs.following.Definitions.{Dated, from_slot_of, dated_of, dated_for, marks_in, IsNoPrepare, AreLow, IsAskedLow, IsDatedRow, Mark, mark_of, marks_of, Course, Progress, Sets, IsFollowing, Tellers, GoesBy, IsOrderly, IsRow, IsIdle, Takes, Leads, Elects, IsOffered, marks_for}
+use Rattle.sc_live_steps.specs.following.Definitions.{Dated, dated_for, marks_in, IsNoPrepare, AreLow, IsAskedLow, IsDatedRow, Mark, Course, Progress, Sets, IsFollowing, Tellers, GoesBy, IsOrderly, IsRow, IsIdle, Takes, Leads, Elects, IsOffered, marks_for}
 use Rattle.sc_live_steps.proofs.FollowingProofs.Lemmas.{slots_are_kept, prepares_are_known, hints_are_kept, idle-keeps, own_is_kept}
 use Rattle.sc_live_journals.specs.rows.Definitions.{view_at, progress_at, marks_at, taken_mark, begun_course, led_course, elected_course, with_event, IsKind, IsReplicasRow}
 use Rattle.sc_live_journals.proofs.RowsProofs.Lemmas.{rows_keep, same_some, rows_are, view_others}
 use Rattle.sc_live_journals.specs.groups.Definitions.{Ends, hint_in, hints_at, dated_at, IsWellLed, IsStage, LeavesWell, LeadsWell, ElectsWell, RowsKeepLed}
 use Rattle.sc_live_journals.proofs.GroupsProofs.PrepareSlots.{taken_dated, taken_same, with_slot, with_none, rows_dated}
+pub use Rattle.sc_live_steps.proofs.FollowingProofs.PrepareSlots.{marks_all}
 
 -- ---- what is the same for marks that are the same
 
@@ -85,15 +86,6 @@ elects_same at now after node taken one two same e = record {
 none_of : (dated : List Dated) → Each IsNoPrepare (marks_in dated) → Each (λ d. IsNoPrepare d.0) dated
 none_of [] e = tt
 none_of (d ∷ dated) e = (e.0, none_of dated e.1)
-
--- marks are those of marks with slots
-pub marks_all : (name : Draw) (mails : List Mail) → marks_in (dated_of name mails) ≡ marks_of name mails
-marks_all name [] = refl
-marks_all name (mail ∷ mails) = one (mark_of name mail.from mail.body) (marks_all name mails)
-  where
-    one : (o : Option Mark) → marks_in (dated_of name mails) ≡ marks_of name mails → marks_in (listed (option_map (λ mark. (mark, from_slot_of mail.body)) o) ++ dated_of name mails) ≡ listed o ++ marks_of name mails
-    one None rest = rest
-    one (Some mark) rest = ap (λ l. mark ∷ l) rest
 
 -- ---- the rows
 

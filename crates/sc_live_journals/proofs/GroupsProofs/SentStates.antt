@@ -14,7 +14,7 @@ use Rattle.sc_node_table.specs.Definitions.{entered, learnt_to, welcomed, landed
 use Rattle.sc_law_walks.specs.Definitions.{IfThere}
 use Rattle.sc_law_walks.proofs.Lemmas.{idle_ready}
 use Rattle.sc_live_steps.specs.following.Definitions.{Mark, Installs, mark_of, marks_of, Course, Progress, Sets, IsLed, IsNext, AreNext, IsLeadOf, IsAside, DecidesNext, marks_for}
-use Rattle.sc_live_steps.proofs.FollowingProofs.Lemmas.{aside_is, order_is, entered_keeps, landed_is, told_state, ends, entries_lead, with_state, with_both, stays_led, ready_of, among-left, among-right, same_mark, vote_row, turned_kept, spoken_kept, ended_kept, announced_kept}
+use Rattle.sc_live_steps.proofs.FollowingProofs.Lemmas.{aside_is, order_is, entered_keeps, landed_told, ends, entries_lead, with_state, with_both, stays_led, ready_of, among-left, among-right, same_mark, vote_row, turned_kept, spoken_kept, ended_kept, announced_kept}
 use Rattle.sc_live_journals.specs.groups.Definitions.{IsStateFrom}
 pub use Rattle.sc_words.proofs.PaxosProofs.ListLemmas.{Each-from as each_among}
 
@@ -169,12 +169,9 @@ module _ (name : Draw) (own : ℕ) where
       unfolding welcomed learnt_to
       own_told = own_welcome here ((entered_keeps command r).3 ∙ mine) (filter (λ node. not (is_member (members r) node)) (members here)) _ (own_others here.me (Learn (name_of here) (next r) command) (no_entry (name_of here) (next r) command) (members r) more g)
 
-      landed_there : landed true (next r) command told ≡ (over, told.1)
-      landed_there = ap (λ (q : ReplicaState). landed true (next r) command (q, told.1)) (told_state (members r) (next r) command here more) ∙ landed_is (next r) command here told.1
-
       own_past : Own (looked (left (landed true (next r) command told))).1
       own_past =
-          subst (λ (p : Place). Own (looked (left p)).1) (sym landed_there)
+          subst (λ (p : Place). Own (looked (left p)).1) (sym (landed_told (members r) (next r) command here more))
           (ends (λ p. Own p.1) over told.1 ((entered_keeps command r).0 ∙ led.running) is_next.roster (λ stands stays. own_told) (λ why hint answer. ended_kept name Keeps (λ _ h. h) (λ a b c one other h. other (one h)) keep hint answer over told.1 own_told))
 
     pub own_entry : Own (executed_one true command (r, mails)).1

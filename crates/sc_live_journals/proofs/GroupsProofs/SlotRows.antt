@@ -1,17 +1,17 @@
 -- What a replica has in flight and ready stays from its next slot on by each row of its table.
 use Rattle.std.proofs.Common.{◌≡◌, ℕ, ◌-◌, ◌≤◌, ◌&&◌, ◌||◌, not, nat_le, nat_lt, eqb, refl, Bool, true, false, true≢false, cond, List, [], ◌∷◌, ◌++◌, length, Option, Some, None, sym, ◌∙◌, ap, subst}
 use Rattle.std.specs.Prelude.{is_some}
-use Rattle.std.proofs.lemmas.Bool.{cond_both, and_parts, eqb-false}
+use Rattle.std.proofs.lemmas.Bool.{cond_both, eqb-false}
 use Rattle.sc_base.specs.Definitions.{Drawer, next_name, same_ballot, is_member, is_majority}
-use Rattle.sc_node_table.specs.Values.{Ballot, Draw, Op, Offer, Watch, Command, Call, GiveUp, Prepared as PreparedAct, RecordVote, Finish, Watched, RecordWatch, Base, Lock, Free, Coordinating, Promised, Watching, OrderLine, OrderRefusal, Outcome, Past, Vote, AnswerBody, Mail, MailBody, Request, Answer, Prepare, Promise, Accept, Accepted, Nack, Learn, Ask, Install, TxPrepare, TxVote, TxOutcome, TxElsewhere, TxWatch, TxWatched, Told as ToldMail, Report, PrepareAnswer, AcceptAnswer, Counted, Chosen, NotYet, Flight}
+use Rattle.sc_node_table.specs.Values.{Ballot, Draw, Op, Offer, Watch, Command, Call, GiveUp, Prepared as PreparedAct, RecordVote, Finish, Watched, RecordWatch, Base, Lock, Free, Coordinating, Promised, Watching, OrderLine, OrderRefusal, Outcome, Past, Vote, AnswerBody, MailBody, Request, Answer, Prepare, Promise, Accept, Accepted, Nack, Learn, Ask, Install, TxPrepare, TxVote, TxOutcome, TxElsewhere, TxWatch, TxWatched, Told as ToldMail, Report, PrepareAnswer, AcceptAnswer, Counted, Chosen, NotYet, Flight}
 use Rattle.sc_words.specs.declared.commands.votes.Past.TheVariants as Cast
 use Rattle.sc_words.specs.declared.commands.votes.Vote.TheVariants as Vows
 use Rattle.sc_mail.specs.declared.bodies.AnswerBody.TheVariants as Says
 use Rattle.sc_words.specs.declared.paxos.answers.PrepareAnswer.TheVariants as Prepared
 use Rattle.sc_words.specs.declared.paxos.answers.AcceptAnswer.TheVariants as Asked
 use Rattle.sc_words.specs.paxos.Definitions.{prepared, accepted as accepted_by, AcceptorState, LeaderState, promise_counted, flight_at, without_flight_at, entry_at, vote_at, voters_after, kept_voters, with_voters}
-use Rattle.sc_node_table.specs.Definitions.{with_act, has_act, act_queued, ended, stopped, saw, executed, has_room, named, jumped, ordered_command, untaken, queued_or_refused, ordered_row, wished_line, with_command, with_line, wishing, pumped, queued_number, without_request, patience, one_tick_more, waited_in, reminded, ReplicaState, Place, Executed, childless, next, members, settled, is_idle, set_at, last_slot, forgotten, born_replica, installed_replica, refused_at, queued, requested, request_row, learn_row, ask_row, looked_up, took_over, install_row, made_by, asked_again, last_entry_sent, tick_row, mailed, slots_ahead, at_slot, with_slot, noted_outcome, standing_vote, sent_elsewhere, offered_by, offer_row, watched_by, watch_row, awaits_vote, awaits_watch, vote_queued, vote_met, vote_row, watch_queued, watch_met, watched_row, elsewhere_row, is_bound, outcome_row, hinted, promise_to, prepare_row, accepted_to, took, accept_row, leads, promise_row, readied, vote_tallied, voted, accepted_row, nack_row}
-use Rattle.sc_law_walks.proofs.Lemmas.{promised_place, asked_place, either_way}
+use Rattle.sc_node_table.specs.Definitions.{with_act, has_act, act_queued, stopped, saw, executed, has_room, named, jumped, ordered_command, untaken, queued_or_refused, ordered_row, wished_line, with_command, with_line, wishing, pumped, queued_number, without_request, patience, one_tick_more, waited_in, reminded, ReplicaState, Place, Executed, childless, next, members, settled, is_idle, set_at, last_slot, forgotten, born_replica, installed_replica, refused_at, queued, requested, request_row, learn_row, ask_row, looked_up, took_over, install_row, made_by, asked_again, last_entry_sent, tick_row, mailed, slots_ahead, at_slot, with_slot, noted_outcome, standing_vote, sent_elsewhere, offered_by, offer_row, watched_by, watch_row, awaits_vote, awaits_watch, vote_queued, vote_met, vote_row, watch_queued, watch_met, watched_row, elsewhere_row, is_bound, outcome_row, hinted, promise_to, prepare_row, accepted_to, took, accept_row, leads, promise_row, readied, vote_tallied, voted, accepted_row, nack_row}
+use Rattle.sc_law_walks.proofs.Lemmas.{promised_place, asked_place, either_way, leads_on, ended_off}
 use Rattle.sc_live_journals.specs.groups.Definitions.{FlyFrom, WaitFrom, HasFrom, IsSlotKept}
 use Rattle.sc_live_journals.proofs.GroupsProofs.SlotLists.{fly_without, fly_polled, flies_from, wait_in, in_other}
 use Rattle.sc_live_journals.proofs.GroupsProofs.SlotParts.{K, KAfter, off_done, empty_done, pumps, acts_kept, ends, self_election, sees, sends, looks, executed_well}
@@ -74,9 +74,6 @@ module _ (me : ℕ) where
 
   with_leader : (r : ReplicaState) (l : LeaderState Command) → FlyFrom (next r) l.flights → r.running ≡ true → IsSlotKept r → IsSlotKept (record r { leader = l })
   with_leader r l fly on k = ((fly, k.0.1, λ off. absurd (true≢false (sym on ∙ off))), k.1)
-
-  leads_on : (ballot : Ballot) (r : ReplicaState) → leads ballot r ≡ true → r.running ≡ true
-  leads_on ballot r t = (and_parts r.running (same_ballot ballot r.leader.ballot) t).0
 
   promise_row_well : (from : ℕ) (ballot : Ballot) (reports : List (Report Command)) (place : Place) → K place → K (promise_row from ballot reports place)
   unfolding promise_row
@@ -152,10 +149,6 @@ module _ (me : ℕ) where
       let same = jumped_rest slot base sets r in
       let none = k.0.2 off in
       (still_kept (next (jumped slot base sets r)) (jumped slot base sets r) (ap (λ l. l.flights) same.1 ∙ none.0) (same.2 ∙ none.1), off_done (jumped slot base sets r) (same.0 ∙ off))
-
-  ended_off : (hint : Option ℕ) (answer : AnswerBody) (r : ReplicaState) (mails : List Mail) → (ended hint answer (r, mails)).0.running ≡ false
-  unfolding ended
-  ended_off hint answer r mails = refl
 
   over_well : (from slot : ℕ) (base : Base) (sets : List (List ℕ)) (place : Place) → K place → K (took_over from slot base sets place)
   unfolding took_over

@@ -3,7 +3,7 @@ use Rattle.sc_live_journals.proofs.LogsProofs.Laws.{slots_have_rosters as slots_
 use Rattle.sc_scenario.proofs.ScenarioProofs.Lemmas.{valid_scenarios_are_bounded}
 use Rattle.sc_law_groups.proofs.WholeProofs.Lemmas.{valid_scenarios_begin_well}
 use Rattle.sc_law_entries.proofs.NamesProofs.Lemmas.{orders_are_allowed_allowed, orders_are_allowed_wishes, orders_are_allowed_positions, names_have_one_owner_others}
-use Rattle.sc_live_journals.specs.logs.Definitions.{SlotsHaveRosters, ReplicasAreLogged, CommandsComeNext, StatesAreLogged, EntriesBringNodes, MembersAreNodes}
+use Rattle.sc_live_journals.specs.logs.Definitions.{SlotsHaveRosters, ReplicasAreLogged, CommandsComeNext, StatesAreLogged, MembersAreNodes}
 
 -- By the whole log of a group in a journal each slot has one to nine members, ascending, and those that the group began with where no entry may change them.
 pub slots_have_rosters : SlotsHaveRosters

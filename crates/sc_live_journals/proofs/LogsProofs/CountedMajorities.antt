@@ -1,5 +1,5 @@
 -- A majority of votes that a leader has counted makes its command the log's.
-use Rattle.std.proofs.Common.{◌≡◌, ℕ, ◌≤◌, ◌||◌, true, eqb, List, [], ◌∷◌, length, Option, Some, None, refl, sym, ap, subst}
+use Rattle.std.proofs.Common.{◌≡◌, ℕ, ◌≤◌, true, eqb, List, length, Option, Some, None, refl, sym, ap, subst}
 use Rattle.std.proofs.lemmas.Bool.{eqb-true, ltb-true, cond_both}
 use Rattle.sc_base.specs.Definitions.{Among, Each, same_ballot, is_majority}
 use Rattle.sc_node_table.specs.Values.{Ballot, Command, Base, Counted, Chosen, NotYet, Flight}

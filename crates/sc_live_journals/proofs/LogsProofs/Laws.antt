@@ -19,15 +19,14 @@ use Rattle.sc_law_groups.proofs.GroupProofs.Lemmas.{h_of, IsLearnt, Steps, rule,
 use Rattle.sc_law_groups.specs.whole.Definitions.{BeginsWell, section_op, OrdersAreAllowed, MayQueue, IsHeardAt, ValidScenariosBeginWell}
 use Rattle.sc_law_groups.proofs.WholeProofs.Lemmas.{orders_allowed}
 use Rattle.sc_live_steps.specs.following.Definitions.{IsNext, AreNext, DecidesNext, AreAt}
-use Rattle.sc_live_journals.specs.logs.Definitions.{logged_sets, IsGroupOf, HasReplica, IsLogged, IsLoggedState, SlotsHaveRosters, ReplicasAreLogged, CommandsComeNext, StatesAreLogged, BringsNodes, HasNodes, EntriesBringNodes, MembersAreNodes}
+use Rattle.sc_live_journals.specs.logs.Definitions.{logged_sets, IsGroupOf, HasReplica, IsLogged, IsLoggedState, SlotsHaveRosters, ReplicasAreLogged, CommandsComeNext, StatesAreLogged, MembersAreNodes}
 use Rattle.sc_live_journals.proofs.LogsProofs.ReplicasAlongLogs.{IsAlong, first_sets, rosters, by_log, are_at, after_log, members_are, name_is, entered_along, entered_opens, entered_many, is_next, are_next, are_entries}
 use Rattle.sc_live_journals.proofs.LogsProofs.EntryNodes.{begins_nodes, brings_nodes}
 use Rattle.sc_live_journals.proofs.LogsProofs.CountedMajorities.{counted_learnt, each_with_slot}
 use Rattle.sc_live_journals.proofs.LogsProofs.Journals.{part, roster, prefixes, sent_in, along, opens, many, flying}
 use Rattle.sc_live_journals.proofs.LogsProofs.Nodes.{slots_have_nodes}
 use Rattle.sc_live_journals.proofs.LogsProofs.Nodes as so
-use Rattle.sc_words.proofs.PaxosProofs.Lemmas.{Each-weaker}
-use Rattle.sc_live_journals.proofs.LogsProofs.NodeNumbers.{up_to_node, has}
+use Rattle.sc_live_journals.proofs.LogsProofs.NodeNumbers.{up_to_node}
 
 -- what the laws under this one say of valid scenarios
 module _ (bounded : ValidScenariosAreBounded) (begin : ValidScenariosBeginWell) (allowed : TakenOrdersAreAllowed) (wishes : TakenWishesAreAllowed) (positions : WishesAreAtPositions) (free : OtherNamesAreFree) where

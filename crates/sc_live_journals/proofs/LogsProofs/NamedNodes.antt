@@ -15,7 +15,7 @@ use Rattle.sc_node_table.specs.Definitions.{sent_all, question, asked_first, ask
 use Rattle.sc_words.proofs.PaxosProofs.Lemmas.{Each-among, Each-append, find_found}
 use Rattle.sc_meaning.specs.sound.Definitions.{Ahead}
 use Rattle.sc_law_groups.proofs.GroupProofs.Lemmas.{Steps, birth, IsSaid, AreSaid, Meets, Speaks}
-use Rattle.sc_live_journals.proofs.LogsProofs.Nodes.{AreNodes, MovesNode, BringsNodes, HasNodes, SaysNodes, IfMoves, nodes_stay_nodes, voted_moves, watched_moves, log_nodes}
+use Rattle.sc_live_journals.proofs.LogsProofs.Nodes.{AreNodes, MovesNode, BringsNodes, HasNodes, SaysNodes, IfMoves, nodes_stay_nodes, decision_moves, log_nodes}
 
 module _ (Home : ℕ → Type 0) where
   abbrev Said : List Mail → Type 0
@@ -101,10 +101,10 @@ module _ (Home : ℕ → Type 0) where
       sent_said (cast_in (applied group (Prepared tx offer)).1) me (applied group (Prepared tx offer)).0 tx offer (nodes_stay_nodes Home group (Prepared tx offer) tt has).0
   went_said me group was (RecordVote tx vote by) b has =
       answered_said (decided_in (applied group (RecordVote tx vote by)).1) vote me was tx by (asked_on (applied group (RecordVote tx vote by)).1 me (applied group (RecordVote tx vote by)).0.core [])
-      (voted_moves Home group.core.lock group tx vote by has b) (on_said (applied group (RecordVote tx vote by)).1 me (applied group (RecordVote tx vote by)).0.core)
+      (decision_moves Home group (RecordVote tx vote by) b has) (on_said (applied group (RecordVote tx vote by)).1 me (applied group (RecordVote tx vote by)).0.core)
   went_said me group was (GiveUp tx) b has = given_said (decided_in (applied group (GiveUp tx)).1) me was tx
   went_said me group was (Watched tx watch) b has = watch_said (cast_in (applied group (Watched tx watch)).1) me tx watch
-  went_said me group was (RecordWatch tx vote by) b has = recorded_said (decided_in (applied group (RecordWatch tx vote by)).1) vote me was tx by (watched_moves Home group.core.lock group tx vote has.1 has)
+  went_said me group was (RecordWatch tx vote by) b has = recorded_said (decided_in (applied group (RecordWatch tx vote by)).1) vote me was tx by (decision_moves Home group (RecordWatch tx vote by) tt has)
   went_said me group was _ b has = tt
 
   reminds_said : (lock : Lock) (me : ℕ) (group : Group) → (AreNodes Home) group.core.members → Said (reminders lock me group [])

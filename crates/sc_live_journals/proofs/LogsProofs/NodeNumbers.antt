@@ -1,13 +1,12 @@
 -- Numbers up to that of a scenario's nodes are nodes, and so is what a group and its commands say of them.
 use Rattle.std.proofs.Common.{◌≡◌, ℕ, ◌≤◌, nat_le, true, List, Option, Some, None, arith}
 use Rattle.std.proofs.lemmas.Bool.{and_from, le-leb}
-use Rattle.sc_base.specs.Definitions.{Each, most_nodes}
-use Rattle.sc_node_table.specs.Values.{Draw, Command, Join, RecordVote, Finish, Core, Lock, Free, Coordinating, Promised, Watching, Heard, Outcome, Migrated, Abort, Vote}
-use Rattle.sc_words.specs.declared.commands.votes.Vote.TheVariants as Says
+use Rattle.sc_base.specs.Definitions.{most_nodes}
+use Rattle.sc_node_table.specs.Values.{Draw, Core, Lock, Free, Coordinating, Promised, Watching, Heard, Outcome, Migrated, Abort}
 use Rattle.sc_node_table.specs.Definitions.{is_node}
 use Rattle.sc_words.proofs.PaxosProofs.Lemmas.{Each-weaker}
 use Rattle.sc_scenario.specs.scenario.Definitions.{IsUpTo}
-use Rattle.sc_live_journals.specs.logs.Definitions.{AreNodes, MovesNode, HandsNodes, BringsNodes, HeardNodes, LockNodes, HasNodes}
+use Rattle.sc_live_journals.specs.logs.Definitions.{AreNodes, MovesNode, HeardNodes, LockNodes, HasNodes}
 use Rattle.sc_live_journals.proofs.LogsProofs.Nodes as so
 
 -- a node of a scenario is one

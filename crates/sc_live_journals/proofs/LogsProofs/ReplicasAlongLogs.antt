@@ -10,20 +10,15 @@ use Rattle.sc_words.specs.paxos.Definitions.{without_flight_at}
 use Rattle.sc_words.proofs.PaxosProofs.Lemmas.{Each-among}
 use Rattle.sc_paxos_law.specs.Definitions.{needed, members_of, IsLog, IsLawfulHistory}
 use Rattle.sc_paxos_law.proofs.Lemmas.{earlier, longer_log}
-use Rattle.sc_node_table.specs.Definitions.{ended, entered, learnt_to, welcomed, landed, left, looked, executed_one, has_room, next_ready, ReplicaState, Place, name_of, next, members, forgotten, slots_ahead, at_slot, without_slot, before_of, spoken}
+use Rattle.sc_node_table.specs.Definitions.{ended, entered, learnt_to, welcomed, landed, left, looked, executed_one, has_room, next_ready, ReplicaState, Place, name_of, next, members, slots_ahead, at_slot, without_slot, before_of, spoken}
 use Rattle.sc_meaning.specs.sound.Definitions.{Ahead}
 use Rattle.sc_law_entries.proofs.HistoryProofs.Lemmas.{state_same}
 use Rattle.sc_law_walks.specs.Definitions.{IfThere}
-use Rattle.sc_law_walks.proofs.Lemmas.{entered_next}
+use Rattle.sc_law_walks.proofs.Lemmas.{entered_next, entered_group}
 use Rattle.sc_live_steps.specs.following.Definitions.{Sets, members_at, IsNext, AreNext, AreEntries, AreAt}
 use Rattle.sc_live_steps.proofs.FollowingProofs.Lemmas.{told_state, landed_is, entered_keeps, ends, announced_keeps, spoken_same, are_next as are_later, entered_sets}
 use Rattle.sc_law_groups.proofs.GroupProofs.Lemmas.{IsLearnt, by_own_log, Steps, rule, first, birth, AreSets, Each-without_slot, slot_among, rest_length}
 use Rattle.sc_law_groups.proofs.WholeProofs.Lemmas.{members_stay_rosters}
-
--- what an entry makes of the group
-entered_group : (command : Command) (r : ReplicaState) → (entered command r).group ≡ (applied r.group command).0
-unfolding entered forgotten
-entered_group command r = refl
 
 -- a ready command that is executed next is ready at the next slot, and the replica runs
 pub next_ready_is : (r : ReplicaState) (c : Command) → next_ready r ≡ Some c → Among (next r, c) r.ready × (r.running ≡ true)

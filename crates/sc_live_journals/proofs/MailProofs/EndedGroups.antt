@@ -1,17 +1,9 @@
 -- A group that is gone and free stays so, whatever its replica does, but where it takes a state.
-use Rattle.std.proofs.Common.{◌≡◌, ℕ, cond, List, [], Option, Some, None, sym, ◌∙◌, ap, subst}
-use Rattle.sc_node_table.specs.Values.{Draw, Command, Noop, Call, Join, Leave, Split, Begin, Prepared, RecordVote, GiveUp, Finish, Watched, RecordWatch, Base, Lock, Route, Effect, NoEffect, OrderRefusal, No, MailBody, Install}
-use Rattle.sc_live_orderly.proofs.Lemmas.{in_time_before}
+use Rattle.std.proofs.Common.{cond, Option, Some, None, sym, subst}
+use Rattle.sc_node_table.specs.Values.{Draw, Command, Noop, Call, Join, Leave, Split, Begin, Prepared, RecordVote, GiveUp, Finish, Watched, RecordWatch, Lock, Route, Effect, NoEffect, OrderRefusal, No}
 use Rattle.sc_group_table.specs.machine.Definitions.{finished, Group, called, ordered_by, applied, locked_in, ordered, has_named, vote_recorded, watch_recorded, aborted, is_coordinating, no_of, offer_no, watch_no, has_voted, voted_on}
-use Rattle.sc_node_table.specs.Definitions.{group_of_mail}
 use Rattle.sc_law_walks.proofs.Lemmas.{either_way}
-use Rattle.sc_meaning.specs.sound.Definitions.{births, as_nodes}
-use Rattle.sc_live_steps.specs.calm.Definitions.{players}
-use Rattle.sc_live_journals.specs.mail.Definitions.{IsPlainlyKept, IsOver, EntriesLeaveOver, OverStays}
-use Rattle.sc_live_journals.proofs.MailProofs.BoundsInJournals.{journals_idle}
-use Rattle.sc_live_journals.proofs.MailProofs.LastingReplicas.{row_later}
-use Rattle.sc_live_journals.proofs.MailProofs.PartWalks.{takes_mail, orders, Hears, hears_all}
-use Rattle.sc_live_journals.proofs.MailProofs.Walks.{PartWalk, Part}
+use Rattle.sc_live_journals.specs.mail.Definitions.{IsOver, EntriesLeaveOver}
 
 -- ---- an entry
 

@@ -1,12 +1,12 @@
 -- An invariant of the parts of a replica that are no queues is a walk: what waits, whether it runs and whom it follows is nothing to it, and no transaction has waited for a tick.
-use Rattle.std.proofs.Common.{◌≡◌, ℕ, ◌+◌, ◌-◌, ◌<◌, ◌≤◌, cond, List, [], ◌∷◌, Some, refl, sym, subst}
+use Rattle.std.proofs.Common.{◌≡◌, ℕ, ◌+◌, ◌≤◌, cond, List, Some, refl, sym, subst}
 use Rattle.sc_base.specs.Definitions.{Each, Drawer, is_member}
 use Rattle.sc_node_table.specs.Values.{Ballot, Draw, Command, Base, Lock, Free, Coordinating, Promised, Watching, Mail, MailBody, OrderLine, Prepare, Install, Input}
 use Rattle.std.proofs.lemmas.Bool.{cond_both}
 use Rattle.sc_group_table.specs.machine.Definitions.{applied}
 use Rattle.sc_words.specs.paxos.Definitions.{below}
 use Rattle.sc_law_walks.proofs.Walks.{ended_replica}
-use Rattle.sc_node_table.specs.Definitions.{entered, named, jumped, forgotten, ReplicaState, Place, Executed, name_of, next, slots_ahead, waits_in, born_replica, installed_replica, mailed, ordered_row, looked, looked_up, members, NodeState, node_table}
+use Rattle.sc_node_table.specs.Definitions.{entered, named, jumped, forgotten, ReplicaState, Place, Executed, name_of, next, waits_in, installed_replica, mailed, ordered_row, looked, looked_up, members, NodeState, node_table}
 use Rattle.sc_words.proofs.PaxosProofs.Lemmas.{Each-weaker}
 use Rattle.sc_law_walks.specs.Definitions.{IsKept}
 use Rattle.sc_law_walks.proofs.Lemmas.{Facts, States, Mails, Walk, Births, Sends as SendsBy, AreSaid as AreSaidBy, Hears as Heard, hears_all as heard_all, back_any, either_way}

@@ -1,5 +1,5 @@
 -- What a law says of replicas and of the mail that they send, as one walk through their table takes it: what it is that holds before a row and after it, and that each part of a row keeps it.
-use Rattle.std.proofs.Common.{◌≡◌, ℕ, ◌+◌, ◌-◌, ◌<◌, ◌≤◌, true, List, [], ◌∷◌, Option, Some}
+use Rattle.std.proofs.Common.{◌≡◌, ℕ, ◌+◌, ◌-◌, ◌<◌, ◌≤◌, true, List, [], Option, Some}
 use Rattle.sc_base.specs.Definitions.{Each, client_actor}
 use Rattle.sc_node_table.specs.Values.{Ballot, Draw, Offer, Watch, Command, Base, OrderResult, Outcome, Past, Vote, AnswerBody, MailBody, Answer, Prepare, Promise, Accept, Accepted, Nack, Learn, Ask, Install, TxPrepare, TxVote, TxOutcome, TxElsewhere, TxWatch, TxWatched, Told, Report}
 use Rattle.sc_group_table.specs.machine.Definitions.{Group, group_of, base_of, applied}

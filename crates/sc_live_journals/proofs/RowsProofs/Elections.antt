@@ -3,9 +3,8 @@ use Rattle.std.proofs.Common.{◌≡◌, ℕ, suc, ◌+◌, true, false, List, [
 use Rattle.std.specs.Option.{option_map}
 use Rattle.sc_node_table.specs.Values.{Draw, Command, Learn, Deliver, Flight}
 use Rattle.sc_base.specs.Definitions.{IsRoster, is_member, least_of}
-use Rattle.sc_law_entries.proofs.HistoryProofs.Lemmas.{applied_same}
 use Rattle.sc_words.specs.paxos.Definitions.{LeaderState, flight_at}
-use Rattle.sc_node_table.specs.Definitions.{entered, group_of_mail, ReplicaState, Place, name_of, next, members, either, forgotten, mailed, at_slot}
+use Rattle.sc_node_table.specs.Definitions.{entered, group_of_mail, ReplicaState, Place, name_of, next, members, either, mailed, at_slot}
 use Rattle.sc_group_table.specs.machine.Definitions.{Group}
 use Rattle.sc_live_steps.specs.following.Definitions.{IsLed, Tells, mark_of, Course, Progress, Sets, members_at, IsLeadOf, AreAt, ElectsBy, next_ballot}
 use Rattle.sc_live_steps.proofs.FollowingProofs.Lemmas.{tables_elect, least_in, same_mark}
@@ -16,11 +15,7 @@ use Rattle.sc_live_journals.proofs.RowsProofs.LearntEntries.{learnt_entries_exec
 use Rattle.sc_live_journals.proofs.RowsProofs.MailRows.{named, row_to, fit, taken, apart_off}
 use Rattle.sc_live_journals.proofs.RowsProofs.ReplicaSteps.{steps_elect}
 pub use Rattle.sc_live_steps.proofs.CalmProofs.CountedEntries.{entered_me}
-
--- an entry leaves the group its name
-pub entered_name : (command : Command) (r : ReplicaState) → name_of (entered command r) ≡ name_of r
-unfolding entered forgotten
-entered_name command r = (applied_same r.group command).0
+pub use Rattle.sc_law_walks.proofs.Lemmas.{entered_name}
 
 true_false : true ≡ false → ⊥
 true_false e = cc

@@ -12,16 +12,18 @@ use Rattle.sc_live_steps.specs.following.Definitions.{marks_of, Course, Sets, Is
 use Rattle.sc_live_steps.proofs.FollowingProofs.Lemmas.{quiet-even}
 use Rattle.sc_live_journals.specs.rows.Definitions.{IsEvenAt, QuietGroupsRest, progress_at, marks_at, IsLedBy, IsFollowedAt}
 
+-- in a quiet journal no mail of the group is pending for anybody
+pub none_pending : (words : ℕ → ℕ → ℕ × ℕ) (births : List (Seat Player)) (rows : Rows) (base : Base) → AreInTime (players words births) rows → is_quiet (players words births) rows ≡ true
+    → ((who : ℕ) → is_born (players words births) who ≡ false → marks_at (players words births) rows base.core.id who ≡ []) → (who : ℕ) → marks_at (players words births) rows base.core.id who ≡ []
+none_pending words births rows base timely quiet strangers who = elim (cases_Bool (is_born (players words births) who)) [
+  | inl t ↦ ap (marks_of base.core.id) (quiet-empty (players words births) rows who (in_time_tidy (players words births) rows timely) t quiet)
+  | inr f ↦ strangers who f
+]
+
 module _ (at : Sets) (words : ℕ → ℕ → ℕ × ℕ) (births : List (Seat Player)) (rows : Rows) (base : Base) (course : Course) (rosters : (slot : ℕ) → IsRoster (at slot)) (timely : AreInTime (players words births) rows)
     (quiet : is_quiet (players words births) rows ≡ true) (strangers : (who : ℕ) → is_born (players words births) who ≡ false → marks_at (players words births) rows base.core.id who ≡ []) (was : IsFollowedAt at words births rows base course) where
-  none : (who : ℕ) → marks_at (players words births) rows base.core.id who ≡ []
-  none who = elim (cases_Bool (is_born (players words births) who)) [
-    | inl t ↦ ap (marks_of base.core.id) (quiet-empty (players words births) rows who (in_time_tidy (players words births) rows timely) t quiet)
-    | inr f ↦ strangers who f
-  ]
-
   both : IsEven at (progress_at births rows base course) × (course.gone ≡ false → IsEvenLed at (progress_at births rows base course))
-  both = quiet-even at (progress_at births rows base course) (marks_at (players words births) rows base.core.id) rosters none was.follows
+  both = quiet-even at (progress_at births rows base course) (marks_at (players words births) rows base.core.id) rosters (none_pending words births rows base timely quiet strangers) was.follows
 
   rests : IsEvenAt at births rows base course
   rests = record {

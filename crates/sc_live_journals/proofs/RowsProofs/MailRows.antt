@@ -1,26 +1,23 @@
 -- A node that takes mail of its group leaves the group following its leader.
-use Rattle.std.proofs.Common.{◌≡◌, ℕ, suc, ◌<◌, ◌≤◌, ◌&&◌, true, false, true≢false, List, [], ◌∷◌, ◌++◌, Some, None, inl, inr, refl, sym, ◌∙◌, ap, subst, arith}
+use Rattle.std.proofs.Common.{◌≡◌, ℕ, suc, ◌≤◌, ◌&&◌, true, false, true≢false, List, [], ◌∷◌, ◌++◌, Some, None, inl, inr, refl, sym, ◌∙◌, ap, subst, arith}
 use Rattle.std.proofs.lemmas.Bool.{cases_Bool, and_right}
-use Rattle.sc_base.specs.Definitions.{Each, same_ballot, is_member}
-use Rattle.sc_node_table.specs.Values.{Ballot, Draw, Command, Base, OrderLine, Mail, MailBody, Prepare, Promise, Accept, Accepted, Learn, Ask, Install, Seat, Deliver, Report}
+use Rattle.sc_base.specs.Definitions.{Each}
+use Rattle.sc_node_table.specs.Values.{Ballot, Draw, Base, OrderLine, Mail, MailBody, Prepare, Promise, Accept, Accepted, Learn, Ask, Install, Seat, Deliver}
 use Rattle.sc_actor.specs.declared.rows.Event.TheVariants.{Told}
 use Rattle.sc_actor.specs.Definitions.{mails, row_of}
 use Rattle.sc_live_orderly.specs.Definitions.{AreInTime}
 use Rattle.sc_words.specs.paxos.Definitions.{below}
 use Rattle.sc_node_table.specs.declared.ReplicaInput.TheVariants as Given
-use Rattle.sc_node_table.specs.Definitions.{entered, NodeState, replica_of, group_of_mail, group_of_order, ordered_row, ReplicaState, Place, listed, name_of, next, first_ballot, last_slot, mailed, made_by, stepped}
+use Rattle.sc_node_table.specs.Definitions.{NodeState, replica_of, group_of_mail, group_of_order, ordered_row, ReplicaState, Place, listed, name_of, next, mailed, stepped}
 use Rattle.sc_law_walks.specs.Definitions.{GoesOn}
 use Rattle.sc_meaning.specs.sound.Definitions.{Player, player_table}
 use Rattle.sc_live_steps.specs.calm.Definitions.{players, Rows}
-use Rattle.sc_live_steps.specs.following.Definitions.{Mark, Asks, Votes, Tells, Installs, Prepares, Promises, mark_of, next_by, promise_by, reached, IsFit, AreFit, Course, Progress, Sets, IsKnown, IsLeadOf, LeadsInto, StopsAlone, IsAside, DecidesNext, IsRow, IsCount, marks_for, StepsBy, Stays}
-use Rattle.sc_live_steps.proofs.FollowingProofs.Lemmas.{rows_lead, tables, reached-least, same_mark, states}
-use Rattle.sc_live_journals.specs.rows.Definitions.{view_at, next_in, promise_in, progress_at, marks_at, mark_in, taken_mark, IsLedBy, IsFollowedAt, FollowsOn, LeavesLead, IsScene, TakesMail, HoldsReplica, FollowsAfter, NodesKeepFollowing, LeadsKeepFollowing, WaitsStill, led_course, with_event, IsReplicasRow, IsWholeState}
-use Rattle.sc_live_journals.proofs.RowsProofs.NonPaxosMail.{asides_still}
+use Rattle.sc_live_steps.specs.following.Definitions.{Mark, mark_of, next_by, promise_by, reached, IsFit, AreFit, Course, Progress, Sets, IsKnown, IsLeadOf, LeadsInto, IsAside, IsRow, marks_for}
+use Rattle.sc_live_steps.proofs.FollowingProofs.Lemmas.{rows_lead, reached-least}
+use Rattle.sc_live_journals.specs.rows.Definitions.{view_at, next_in, promise_in, progress_at, marks_at, mark_in, taken_mark, IsLedBy, FollowsOn, IsScene, TakesMail, HoldsReplica, WaitsStill, led_course, with_event, IsReplicasRow}
 use Rattle.sc_live_journals.proofs.RowsProofs.FollowingRows.{rows_keep}
 use Rattle.sc_live_journals.proofs.RowsProofs.LeaderRows.{steps_lead}
 use Rattle.sc_live_journals.proofs.RowsProofs.RowMarks.{rows_are}
-use Rattle.sc_live_journals.proofs.RowsProofs.UnmovedLeaders.{leads_stay}
-use Rattle.sc_live_journals.proofs.RowsProofs.ReplicaSteps.{steps_take, states_take, uncounted_pass, still_idle}
 use Rattle.sc_live_journals.proofs.RowsProofs.PlayerRows.{found_name, rows_replicas}
 
 -- mail that is no part of the agreement leaves no mark

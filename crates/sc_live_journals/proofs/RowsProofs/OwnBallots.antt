@@ -1,5 +1,5 @@
 -- A replica that runs does so with a ballot of its own, and what it asks to accept or to promise is of that ballot.
-use Rattle.std.proofs.Common.{◌≡◌, ℕ, ◌+◌, ◌-◌, eqb, true, false, refl, true≢false, List, [], ◌∷◌, ◌++◌, map, find, Option, Some, None, sym, ◌∙◌, subst}
+use Rattle.std.proofs.Common.{◌≡◌, ℕ, eqb, refl, true≢false, List, [], ◌∷◌, ◌++◌, map, find, Option, Some, None, sym, ◌∙◌, subst}
 use Rattle.std.proofs.lemmas.Bool.{eqb-true}
 use Rattle.sc_base.specs.Definitions.{Each, is_member}
 use Rattle.sc_node_table.specs.Values.{Draw, Base, Command, OrderLine, Mail, MailBody, Prepare, Accept, Node, Client, Seat, Event, Row, Input, Got}

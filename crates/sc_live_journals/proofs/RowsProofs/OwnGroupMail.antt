@@ -111,6 +111,7 @@ module _ (IsSaid : Mail → Type 0) (name : Draw) (says : (me to : ℕ) (body : 
       Entry = λ slot command. Unit {0};
       Files = λ act. Unit {0};
       Orders = λ order. Unit {0};
+      Given = λ drawer line. Unit {0};
       Child = λ base. Unit {0};
     }
 
@@ -157,7 +158,7 @@ module _ (IsSaid : Mail → Type 0) (name : Draw) (says : (me to : ℕ) (body : 
     name_says : TableSays name_facts
     name_says = record {
       refuses = λ from group client seq op answer r mails h e k. client_reported r.me (λ ms. Keeps (r, ms)) (talked r) client (name_of r) seq answer mails k;
-      tells = λ drawer line why r mails e k. (talked r).tells line.number (Refused why) mails k;
+      tells = λ drawer line why r mails given e k. (talked r).tells line.number (Refused why) mails k;
       votes = λ from tx offer vote r mails h e k. vote_reported r.me (λ ms. Keeps (r, ms)) (talked r) r.group from tx offer vote mails k;
       sees = λ from tx watch vote r mails h e k. watch_reported r.me (λ ms. Keeps (r, ms)) (talked r) from tx watch vote mails k;
       vote_ends = λ from tx coord part vote outcome r mails h e k. outcome_said r.me (λ ms. Keeps (r, ms)) (talked r) from tx part outcome mails k;
@@ -181,7 +182,7 @@ module _ (IsSaid : Mail → Type 0) (name : Draw) (says : (me to : ℕ) (body : 
     mailed_keeps from body place first h k = (rows.takes_mail name_walk from body place h first k).0
 
     pub order_keeps : (drawer : Drawer) (line : OrderLine) (place : Place) → Keeps place → Keeps (ordered_row drawer line place)
-    order_keeps drawer line place k = rows.orders name_walk drawer line place (λ e. tt) k
+    order_keeps drawer line place k = rows.orders name_walk drawer line place tt (λ e. tt) k
 
     -- a replica that is made of a state that is sent
     pub made_keeps : (me from slot : ℕ) (base : Base) (sets : List (List ℕ)) → Keeps (made_by me from name slot base sets)

@@ -1,5 +1,5 @@
 -- What a walk of states says of each replica of a node holds after any rows, as it held at the birth of groups.
-use Rattle.std.proofs.Common.{◌≡◌, ℕ, eqb, cond, List, [], ◌∷◌, ◌++◌, map, Option, Some, None, sym, ◌∙◌, subst}
+use Rattle.std.proofs.Common.{◌≡◌, ℕ, eqb, cond, List, [], ◌∷◌, ◌++◌, map, Option, Some, None, sym, subst}
 use Rattle.sc_base.specs.Definitions.{Each, same_draw, is_member}
 use Rattle.sc_node_table.specs.Values.{Draw, Base, Mail, OrderLine, Input, Got, Row, Seat, Node, Client}
 use Rattle.sc_actor.specs.declared.rows.Input.TheVariants.{Tick, Go, Told}

@@ -1,5 +1,5 @@
 -- In any journal a replica's acceptor has forgotten nothing from its next slot on, and where it does not run nothing is in flight or ready.
-use Rattle.std.proofs.Common.{◌≡◌, ℕ, ◌+◌, ◌<◌, ◌≤◌, cond, true, false, true≢false, List, [], Option, Some, refl, sym, ◌∙◌, ap, arith}
+use Rattle.std.proofs.Common.{◌≡◌, ℕ, ◌+◌, ◌<◌, ◌≤◌, cond, false, true≢false, List, [], Option, Some, refl, sym, ◌∙◌, ap, arith}
 use Rattle.sc_base.specs.Definitions.{Each}
 use Rattle.sc_node_table.specs.Values.{Ballot, Draw, Command, Base, Mail, OrderLine, Row}
 use Rattle.sc_words.specs.paxos.Definitions.{below, installed}

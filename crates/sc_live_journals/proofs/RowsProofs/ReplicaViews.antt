@@ -1,5 +1,5 @@
 -- The replicas of a group after one more row: those of the others stay, and the one of who acts is what its table makes of it.
-use Rattle.std.proofs.Common.{◌≡◌, ℕ, eqb, true, false, true≢false, cond, List, [], ◌∷◌, ◌++◌, find, Option, Some, None, inl, inr, refl, sym, ◌∙◌, ap, subst}
+use Rattle.std.proofs.Common.{◌≡◌, ℕ, eqb, true, true≢false, cond, List, [], ◌∷◌, ◌++◌, find, Option, Some, None, inl, inr, refl, sym, ◌∙◌, ap, subst}
 use Rattle.std.specs.Prelude.{is_some}
 use Rattle.std.proofs.lemmas.Bool.{cases_Bool, cond_both, cond-true, cond-false, ne_eqb, eq-eqb}
 use Rattle.sc_base.specs.Definitions.{same_draw, is_member}

@@ -1,4 +1,4 @@
--- What holds of a replica that does not run, with its mails, is kept by a request, by the mail of a transaction, by mail for clients and the desk, and by an order, where what waits is nothing to it.
+-- What holds of a replica with its mails, and is kept by its pump as by that of one that does not run, is kept by a request, by the mail of a transaction, by mail for clients and the desk, and by an order, where what waits is nothing to it.
 use Rattle.std.proofs.Common.{◌≡◌, ℕ, ◌&&◌, nat_le, false, List, [], ◌∷◌, ◌++◌, Option, Some, None, sym, subst}
 use Rattle.sc_base.specs.Definitions.{Drawer, next_name}
 use Rattle.sc_node_table.specs.Values.{Draw, Op, Offer, Watch, Command, Call, Prepared as PreparedAct, RecordVote, Finish, Watched, RecordWatch, OrderLine, OrderRefusal, Refused, Outcome, Past, Vote, AnswerBody, Mail, MailBody, Request, Answer, TxPrepare, TxVote, TxOutcome, TxElsewhere, TxWatch, TxWatched, Told}
@@ -21,11 +21,12 @@ IsBeside (TxWatched tx coord part vote) = Unit {0}
 IsBeside (Told order result) = Unit {0}
 IsBeside _ = ⊥
 
-module _ (F : Place → Type 0) (off : (place : Place) → F place → place.0.running ≡ false) (queues : (r : ReplicaState) (mails : List Mail) (acts backlog : List Command) → F (r, mails) → F (record r { acts = acts; backlog = backlog }, mails))
-    (talk : (r : ReplicaState) → Talk r.me (λ mails. F (r, mails))) where
-  pub pumped_keeps : (place : Place) → F place → F (pumped place)
-  pumped_keeps place k = subst F (sym (idle_pump place (off place k))) k
+-- one that does not run pumps nothing
+pub still_pumps : (F : Place → Type 0) → ((place : Place) → F place → place.0.running ≡ false) → (place : Place) → F place → F (pumped place)
+still_pumps F off place k = subst F (sym (idle_pump place (off place k))) k
 
+module _ (F : Place → Type 0) (pumped_keeps : (place : Place) → F place → F (pumped place)) (queues : (r : ReplicaState) (mails : List Mail) (acts backlog : List Command) → F (r, mails) → F (record r { acts = acts; backlog = backlog }, mails))
+    (talk : (r : ReplicaState) → Talk r.me (λ mails. F (r, mails))) where
   act_keeps : (act : Command) (place : Place) → F place → F (act_queued act place)
   unfolding act_queued
   act_keeps act (q, mails) k =

@@ -1,7 +1,7 @@
 -- A node that makes its replica of a state is nothing to an order.
 use Rattle.std.proofs.Common.{◌≡◌, ℕ, ◌||◌, not, nat_lt, eqb, true, false, true≢false, List, [], length, Some, None, inl, inr, refl, sym, ◌∙◌, ap, subst}
 use Rattle.std.specs.Option.{option_map}
-use Rattle.std.proofs.lemmas.Bool.{cond-true, cond-false, eq-eqb, le-ltb, or_from, not_from_true}
+use Rattle.std.proofs.lemmas.Bool.{cond-true, cond-false, eq-eqb, le-ltb, or_from, not_from_true, cases_eq}
 use Rattle.sc_node_table.specs.Values.{Draw, Base, OrderLine, Mail, Install, Node, Seat, Event, Deliver, Got}
 use Rattle.sc_base.specs.Definitions.{is_member}
 use Rattle.sc_actor.specs.Definitions.{acted, input_of, mails}
@@ -13,7 +13,7 @@ use Rattle.sc_live_journals.specs.rows.Definitions.{view_at, with_event, IsWhole
 use Rattle.sc_live_journals.proofs.RowsProofs.Lemmas.{names_stay, rows_replicas, new_others}
 use Rattle.sc_live_journals.specs.scenes.Definitions.{errand_in, errand_taken, LeadsAlone, NoneRuns, Stays, KeepsStage, ComesToNone, MayJoin, StatesKeep}
 use Rattle.sc_live_journals.specs.scenes.CreatedReplicas.{Led, Unled}
-use Rattle.sc_live_journals.proofs.ScenesProofs.RowKinds.{who_or, others_same, asides_are}
+use Rattle.sc_live_journals.proofs.ScenesProofs.RowKinds.{others_same, asides_are}
 use Rattle.sc_live_journals.proofs.ScenesProofs.OrderRows.{rests_by}
 use Rattle.sc_live_journals.proofs.ScenesProofs.MailReceivers.{now_is, was_is, all_sent}
 use Rattle.sc_live_journals.proofs.ScenesProofs.SceneViews.{tell}
@@ -35,14 +35,14 @@ module _ (births : List (Seat Player)) (rows : Rows) (seat : Seat Player) (event
   leads_still node lead leads = record {
     is_there = others_same births rows seat event name node (away node lead leads.is_there) ∙ leads.is_there;
     running = leads.running;
-    alone = λ n x has running. elim (who_or births rows seat event name n) [
+    alone = λ n x has running. elim (cases_eq n seat.who) [
       | inl e ↦ absurd (true≢false (sym running ∙ made_stopped n x e has))
       | inr ne ↦ leads.alone n x (sym (others_same births rows seat event name n ne) ∙ has) running
     ];
   }
 
   none_still : NoneRuns births rows name → NoneRuns births (with_event rows seat event) name
-  none_still none n x has = elim (who_or births rows seat event name n) [
+  none_still none n x has = elim (cases_eq n seat.who) [
     | inl e ↦ made_stopped n x e has
     | inr ne ↦ none n x (sym (others_same births rows seat event name n ne) ∙ has)
   ]

@@ -6,7 +6,7 @@ use Rattle.sc_live_journals.specs.scenes.Definitions.{IsErrandFor, is_running, l
 use Rattle.sc_live_journals.proofs.ScenesProofs.UntouchedGroups.{quiet_errands, absent_errand, got_nothing}
 use Rattle.std.proofs.Common.{◌≡◌, ◌⊎◌, ℕ, Bool, true, false, List, [], ◌∷◌, Option, Some, None, inl, inr, refl, sym, ◌∙◌, ap, subst}
 use Rattle.std.specs.Option.{option_map}
-use Rattle.std.proofs.lemmas.Bool.{cond-true, cond-false}
+use Rattle.std.proofs.lemmas.Bool.{cond-false}
 use Rattle.sc_node_table.specs.Values.{Draw, Base, OrderLine, Refused, Mail, Node, Client, Seat, Event, Deliver, Got}
 use Rattle.sc_words.specs.declared.commands.orders.OrderRefusal.TheVariants.{NotLeader}
 use Rattle.sc_actor.specs.declared.rows.Event.TheVariants.{Told}
@@ -14,8 +14,8 @@ use Rattle.sc_actor.specs.declared.rows.Input.TheVariants.{Told as ToldInput}
 use Rattle.sc_actor.specs.Definitions.{mails, numbered, value, System, row_of, numbers_of}
 use Rattle.sc_live_orderly.specs.Definitions.{IsCalmRow, is_born}
 use Rattle.sc_live_orderly.proofs.Lemmas.{in_time_before, in_time_tidy, last_in_time, TakesFirst, quiet-empty, is_born-from, takes_first}
-use Rattle.sc_node_table.specs.Definitions.{NodeState, replica_of, with_replica, with_children, group_of_mail, may_come, unknown, taken_by, routed, on_mail, absent, group_of_order, ordered_of, result_sent, ordered_row, ReplicaState, Place, Executed, name_of, mailed}
-use Rattle.sc_law_walks.proofs.Lemmas.{either_way}
+use Rattle.sc_node_table.specs.Definitions.{NodeState, replica_of, with_replica, with_children, group_of_mail, may_come, unknown, routed, on_mail, absent, group_of_order, ordered_of, result_sent, ordered_row, ReplicaState, Place, Executed, name_of, mailed}
+use Rattle.sc_law_walks.proofs.Lemmas.{either_way, takes_by}
 use Rattle.sc_meaning.specs.sound.Definitions.{Player, player_table}
 use Rattle.sc_live_steps.specs.calm.Definitions.{players, Rows}
 use Rattle.sc_live_steps.proofs.CalmProofs.Lemmas.{put_others}
@@ -102,10 +102,6 @@ module _ (words : ℕ → ℕ → ℕ × ℕ) (births : List (Seat Player)) (qui
         node_leaves words births rows seat event d.seated d.timely node is step (Some (Got mail)) (ap (option_map Got) at) (ap (λ (x : NodeState × List Mail). (Node x.0, x.1)) e) name same silent
 
     module _ (group : Draw) (t : IsTaking words births rows seat number mail group node) where
-      takes_by : (o : Option ReplicaState) → replica_of group node.replicas ≡ o → on_mail mail.from mail.body node ≡ taken_by o group mail.from mail.body node
-      takes_by o here =
-          cond-true (may_come mail.from mail.body) (routed (group_of_mail mail.body) mail.from mail.body node) (node, []) t.comes
-          ∙ (ap (λ g. routed g mail.from mail.body node) t.named ∙ ap (λ x. taken_by x group mail.from mail.body node) here)
 
       named_so : (name : Draw) → name ≡ group → group_of_mail mail.body ≡ Some name
       named_so name i = t.named ∙ ap Some (sym i)
@@ -114,8 +110,8 @@ module _ (words : ℕ → ℕ → ℕ × ℕ) (births : List (Seat Player)) (qui
       none_leaves : replica_of group node.replicas ≡ None → (name : Draw) → IsFresh stage name → IsThere births quiet name → Left name
       none_leaves here name fresh there = elim (cases-draw name group) [
         | inl i ↦ (let own = own_errand name mail fresh there at (named_so name i) in
-            makes (node, absent node.me mail.from mail.body) (takes_by None here ∙ errand_unknown mail.from mail.to mail.body node own.0 own.1) name refl (absent_errand name node.me mail.from mail.to mail.body own.0 own.1))
-        | inr ne ↦ (let apart = unknown_apart name group ne node mail.from mail.body t.named in makes (unknown mail.from mail.body node) (takes_by None here) name apart.0 apart.1)
+            makes (node, absent node.me mail.from mail.body) (takes_by group mail.from mail.body node t.comes t.named None here ∙ errand_unknown mail.from mail.to mail.body node own.0 own.1) name refl (absent_errand name node.me mail.from mail.to mail.body own.0 own.1))
+        | inr ne ↦ (let apart = unknown_apart name group ne node mail.from mail.body t.named in makes (unknown mail.from mail.body node) (takes_by group mail.from mail.body node t.comes t.named None here) name apart.0 apart.1)
       ]
 
       module _ (r : ReplicaState) (here : replica_of group node.replicas ≡ Some r) where
@@ -128,7 +124,7 @@ module _ (words : ℕ → ℕ → ℕ × ℕ) (births : List (Seat Player)) (qui
         -- another group
         other_leaves : (name : Draw) → (name ≡ group → ⊥) → IsThere births quiet name → Left name
         other_leaves name ne there =
-            makes (with_children made.1 put, made.0.1) (takes_by (Some r) here) name (by (all_children seat.who name made.1 put t.me_is))
+            makes (with_children made.1 put, made.0.1) (takes_by group mail.from mail.body node t.comes t.named (Some r) here) name (by (all_children seat.who name made.1 put t.me_is))
             (quiet_errands (name_of r) name made.0.1 (λ i. ne (sym i ∙ own)) (mailed_keeps (name_of r) mail.from mail.body (r, []) (refl, tt)).1)
           where
             own : name_of r ≡ group

@@ -1,6 +1,6 @@
 -- The part of a group, where its replicas stay, and where one is made at its birth.
-use Rattle.std.proofs.Common.{◌≡◌, ℕ, ◌≤◌, eqb, true, false, true≢false, List, [], Option, Some, None, ◌⊎◌, inl, inr, refl, sym, ◌∙◌, ap, subst}
-use Rattle.std.proofs.lemmas.Bool.{cases_Bool, eqb-true, eq-eqb}
+use Rattle.std.proofs.Common.{◌≡◌, ℕ, ◌≤◌, true, false, true≢false, List, [], Option, Some, None, inl, inr, refl, sym, ◌∙◌, ap, subst}
+use Rattle.std.proofs.lemmas.Bool.{cases_eq}
 use Rattle.sc_base.specs.Definitions.{Among}
 use Rattle.sc_node_table.specs.Definitions.{ReplicaState, next}
 use Rattle.sc_live_steps.specs.orders.Definitions.{Bond, Unbound, bond_of, works}
@@ -61,12 +61,9 @@ same_part one other nodes same =
 -- one more replica, at a node that had none, free, and without work
 module _ (one other : Nodes) (nodes : List ℕ) (who : ℕ) (born : ReplicaState) (all : AreAll one nodes) (among : Among who nodes) (none : one who ≡ None) (makes : other who ≡ Some born)
     (same : (node : ℕ) → (node ≡ who → ⊥) → other node ≡ one node) (free : bond_of born.group.core ≡ Unbound) (idle : works born ≡ []) (newest : AreBound one Unbound) where
-  -- the node is this one or another
-  who_or : (node : ℕ) → (node ≡ who) ⊎ (node ≡ who → ⊥)
-  who_or node = elim (cases_Bool (eqb node who)) [ inl t ↦ inl (eqb-true node who t) | inr f ↦ inr (λ e. true≢false (sym (eq-eqb node who e) ∙ f)) ]
 
   all_after : AreAll other nodes
-  all_after node r has = elim (who_or node) [
+  all_after node r has = elim (cases_eq node who) [
     | inl e ↦ subst (λ n. Among n nodes) (sym e) among
     | inr ne ↦ all node r (sym (same node ne) ∙ has)
   ]
@@ -75,7 +72,7 @@ module _ (one other : Nodes) (nodes : List ℕ) (who : ℕ) (born : ReplicaState
   not_who node x has e = (let bad : None ≡ Some x = sym none ∙ (sym (ap one e) ∙ has) in cc)
 
   newest_after : AreBound other Unbound
-  newest_after node r has most = elim (who_or node) [
+  newest_after node r has most = elim (cases_eq node who) [
     | inl e ↦ (let own : Some born ≡ Some r = sym makes ∙ (sym (ap other e) ∙ has) in let is : born ≡ r = cc in subst (λ (x : ReplicaState). bond_of x.group.core ≡ Unbound) is free)
     | inr ne ↦ newest node r (sym (same node ne) ∙ has) (λ n x has'. most n x (same n (not_who n x has') ∙ has'))
   ]
@@ -95,7 +92,7 @@ module _ (one other : Nodes) (nodes : List ℕ) (who : ℕ) (born : ReplicaState
 
   pub stopped_part : born.running ≡ false → SamePart one other nodes
   stopped_part stopped =
-      let lead : lead_of other nodes ≡ lead_of one nodes = lead_same other one nodes (λ node. elim (who_or node) [
+      let lead : lead_of other nodes ≡ lead_of one nodes = lead_same other one nodes (λ node. elim (cases_eq node who) [
         | inl e ↦ ap (λ n. is_running (other n)) e ∙ (ap is_running makes ∙ (stopped ∙ (sym (ap is_running none) ∙ sym (ap (λ n. is_running (one n)) e))))
         | inr ne ↦ ap is_running (same node ne)
       ]) in
@@ -114,7 +111,7 @@ module _ (one other : Nodes) (nodes : List ℕ) (who : ℕ) (born : ReplicaState
   runs_by : born.running ≡ true → lead_of one nodes ≡ None → (o : Option ℕ) → lead_of other nodes ≡ o → (bond_by other nodes o ≡ bond_by one nodes None) × (work_at other o ≡ [])
   runs_by runs unled None e = absurd (true≢false (sym (ap is_running makes ∙ runs) ∙ none_runs other nodes who e among))
   runs_by runs unled (Some node) e =
-      let is : node ≡ who = elim (who_or node) [
+      let is : node ≡ who = elim (cases_eq node who) [
         | inl e' ↦ e'
         | inr ne ↦ absurd (running_one node (sym (ap is_running (same node ne)) ∙ lead_runs other nodes node e) (one node) refl unled)
       ] in

@@ -2,7 +2,7 @@
 use Rattle.std.proofs.Common.{◌≡◌, ℕ, true≢false, cond, List, [], ◌∷◌, Option, Some, None, ◌⊎◌, inl, inr, refl, sym, ◌∙◌, ap, subst}
 use Rattle.std.specs.Prelude.{is_some}
 use Rattle.std.specs.Option.{option_map}
-use Rattle.std.proofs.lemmas.Bool.{cases_Bool, cond-true}
+use Rattle.std.proofs.lemmas.Bool.{cases_Bool}
 use Rattle.sc_base.specs.Definitions.{Among, Each, same_draw}
 use Rattle.sc_node_table.specs.Values.{Draw, Base, OrderLine, Mail, MailBody, Install, TxPrepare, TxVote, TxOutcome, TxElsewhere, TxWatch, TxWatched, Node, Seat, Event, Deliver, Input, Got}
 use Rattle.sc_base.proofs.Lemmas.{draw_is, same_name}
@@ -10,7 +10,7 @@ use Rattle.sc_actor.specs.declared.rows.Event.TheVariants.{Told}
 use Rattle.sc_actor.specs.declared.rows.Input.TheVariants.{Told as ToldInput}
 use Rattle.sc_actor.specs.Definitions.{mails, numbered, value, acted, input_of, row_of}
 use Rattle.sc_live_orderly.specs.Definitions.{AreInTime}
-use Rattle.sc_node_table.specs.Definitions.{NodeState, replica_of, with_replica, with_new, with_born, with_children, group_of_mail, may_come, unknown, taken_by, routed, on_mail, absent, group_of_order, ordered_of, on_order, ordered_row, ReplicaState, Executed, born_replica, mailed, slots_ahead}
+use Rattle.sc_node_table.specs.Definitions.{NodeState, replica_of, with_replica, with_new, with_born, with_children, group_of_mail, unknown, on_mail, absent, group_of_order, ordered_of, on_order, ordered_row, ReplicaState, Executed, born_replica, mailed, slots_ahead}
 use Rattle.sc_meaning.specs.sound.Definitions.{Player, player_table}
 use Rattle.sc_live_steps.specs.calm.Definitions.{players, Rows}
 use Rattle.sc_live_steps.proofs.CalmProofs.Lemmas.{put_others}
@@ -20,6 +20,7 @@ use Rattle.sc_live_journals.proofs.RowsProofs.Lemmas.{names_stay, found_name, ro
 use Rattle.sc_live_journals.specs.scenes.Definitions.{errand_in, errand_taken, Creates, LeavesOrMakes, IsOfGroup, IsTablesRow, MayCreate, IsTaking, RowsAreTaken}
 use Rattle.sc_live_journals.proofs.RowsProofs.ReplicaViews.{child_others as other_child, child_me}
 pub use Rattle.sc_words.proofs.PaxosProofs.ListLemmas.{Each-among as each_is}
+use Rattle.sc_law_walks.proofs.Lemmas.{takes_by}
 
 -- ---- the group of an errand
 
@@ -113,11 +114,6 @@ module _ (words : ℕ → ℕ → ℕ × ℕ) (births : List (Seat Player)) (row
   got : input_of {O = OrderLine} (mails rows) (Deliver number) ≡ Some (Got mail)
   got = ap (λ o. option_map Got o) t.sent
 
-  takes_by : (o : Option ReplicaState) → replica_of group node.replicas ≡ o → on_mail mail.from mail.body node ≡ taken_by o group mail.from mail.body node
-  takes_by o here =
-      cond-true (may_come mail.from mail.body) (routed (group_of_mail mail.body) mail.from mail.body node) (node, []) t.comes
-      ∙ (ap (λ g. routed g mail.from mail.body node) t.named ∙ ap (λ x. taken_by x group mail.from mail.body node) here)
-
   acts_by : (step : NodeState × List Mail) → on_mail mail.from mail.body node ≡ step → acted player_table (Node node) (Some (Got mail)) ≡ (Node step.0, step.1)
   acts_by step e = ap (λ (x : NodeState × List Mail). (Node x.0, x.1)) e
 
@@ -131,7 +127,7 @@ module _ (words : ℕ → ℕ → ℕ × ℕ) (births : List (Seat Player)) (row
       let after : Executed = mailed mail.from mail.body (r, []) in
       let put : NodeState = record node { replicas = with_replica group after.0.0 node.replicas } in
       let step : NodeState × List Mail = (with_children after.1 put, after.0.1) in
-      let e : on_mail mail.from mail.body node ≡ step = takes_by (Some r) here in
+      let e : on_mail mail.from mail.body node ≡ step = takes_by group mail.from mail.body node t.comes t.named (Some r) here in
       let does = acts_by step e in
       let name = found_name group node.replicas r here in
       let row = rows_replicas.taken births rows seat number mail group node r t.seated t.is_node t.sent t.comes t.named here in (
@@ -148,7 +144,7 @@ module _ (words : ℕ → ℕ → ℕ × ℕ) (births : List (Seat Player)) (row
       × ((row_of player_table seat rows (Deliver number)).sent ≡ absent node.me mail.from mail.body)
   misses entry here errand =
       let step : NodeState × List Mail = (node, absent node.me mail.from mail.body) in
-      let e : on_mail mail.from mail.body node ≡ step = takes_by None here ∙ errand_unknown mail.from mail.to mail.body node entry errand in
+      let e : on_mail mail.from mail.body node ≡ step = takes_by group mail.from mail.body node t.comes t.named None here ∙ errand_unknown mail.from mail.to mail.body node entry errand in
       let does = acts_by step e in
       let stays : (name : Draw) → view_at births (with_event rows seat (Deliver number)) name seat.who ≡ view_at births rows name seat.who =
       λ name. now_is births rows seat (Deliver number) node t.seated t.is_node step (Some (Got mail)) got does name ∙ sym (was_is births rows seat (Deliver number) node t.seated t.is_node step (Some (Got mail)) got does name) in

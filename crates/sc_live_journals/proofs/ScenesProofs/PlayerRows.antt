@@ -1,7 +1,7 @@
 -- Each row in time is a row of the scene.
-use Rattle.std.proofs.Common.{◌≡◌, ℕ, eqb, false, true≢false, List, [], ◌∷◌, ◌++◌, Option, Some, None, inl, inr, refl, sym, ◌∙◌, ap, subst, append-nil}
+use Rattle.std.proofs.Common.{◌≡◌, ℕ, false, List, [], ◌∷◌, ◌++◌, Option, Some, None, inl, inr, refl, sym, ◌∙◌, ap, subst, append-nil}
 use Rattle.std.specs.Option.{option_map}
-use Rattle.std.proofs.lemmas.Bool.{cases_Bool, cond-true, cond-false, eqb-true, eq-eqb}
+use Rattle.std.proofs.lemmas.Bool.{cases_Bool, cond-true, cond-false}
 use Rattle.sc_base.specs.Definitions.{same_draw}
 use Rattle.sc_node_table.specs.Values.{Draw, OrderLine, Mail, Seat, Event, Deliver, Go, Row}
 use Rattle.sc_base.proofs.Lemmas.{same_name}
@@ -15,11 +15,11 @@ use Rattle.sc_live_steps.specs.calm.Definitions.{players, Rows}
 use Rattle.sc_live_steps.proofs.CalmProofs.Lemmas.{apart}
 use Rattle.sc_live_steps.specs.orders.Definitions.{Errand, Unbound, IsRow, bond_in as bond_by_lock, bond_of, errand_by, errand_for, errands_for}
 use Rattle.sc_live_journals.specs.rows.Definitions.{view_at, IsSeat, with_event}
-use Rattle.sc_live_journals.proofs.RowsProofs.Lemmas.{view_others}
 use Rattle.sc_live_journals.specs.scenes.Definitions.{scene_at, left_after, errand_in, errand_taken, taken_errand, errands_sent, IsSceneKind, Creates, LeavesOrMakes, IsOfGroup, RowsAreOfScenes}
 use Rattle.sc_live_journals.proofs.ScenesProofs.UntakenMail.{errands-append, left_by, left_row, TakesOne, takes_one}
 use Rattle.sc_live_journals.proofs.ScenesProofs.GroupParts.{SamePart, same_part, stopped_part, running_part}
 use Rattle.sc_live_journals.proofs.ScenesProofs.SceneViews.{seat_among, view_among}
+use Rattle.sc_live_journals.proofs.ScenesProofs.RowKinds.{all_same, others_same}
 
 -- ---- errands
 
@@ -101,14 +101,6 @@ module _ (words : ℕ → ℕ → ℕ × ℕ) (births : List (Seat Player)) (row
     abbrev other : ℕ → Option ReplicaState
     other = view_at births (with_event rows seat event) name
 
-    others_same : (node : ℕ) → (node ≡ seat.who → ⊥) → other node ≡ one node
-    others_same node ne = view_others births rows (row_of player_table seat rows event) name node ne
-
-    all_same : other seat.who ≡ one seat.who → (node : ℕ) → other node ≡ one node
-    all_same own node = elim (cases_Bool (eqb node seat.who)) [
-      | inl t ↦ (let e = eqb-true node seat.who t in ap other e ∙ (own ∙ sym (ap one e)))
-      | inr f ↦ others_same node (λ e. true≢false (sym (eq-eqb node seat.who e) ∙ f))
-    ]
 
     creates_part : IsSeat births seat → Creates births rows seat event name → SamePart one other (numbers_of births)
     creates_part born b =
@@ -117,17 +109,17 @@ module _ (words : ℕ → ℕ → ℕ × ℕ) (births : List (Seat Player)) (row
         let all = view_among births rows name in
         let among = seat_among births seat born in
         let stopped : r.running ≡ false → SamePart one other (numbers_of births) =
-        stopped_part one other (numbers_of births) seat.who r all among b.none b.makes others_same free refl b.newest in
+        stopped_part one other (numbers_of births) seat.who r all among b.none b.makes (others_same births rows seat event name) free refl b.newest in
         elim b.first [
           | inl halts ↦ stopped halts
           | inr lead ↦ elim (cases_Bool r.running) [
-            | inl t ↦ running_part one other (numbers_of births) seat.who r all among b.none b.makes others_same free refl b.newest t lead
+            | inl t ↦ running_part one other (numbers_of births) seat.who r all among b.none b.makes (others_same births rows seat event name) free refl b.newest t lead
             | inr f ↦ stopped f
           ]
         ]
 
     other_part : IsSeat births seat → LeavesOrMakes births rows seat event name → SamePart one other (numbers_of births)
-    other_part born (inl same) = same_part one other (numbers_of births) (all_same same)
+    other_part born (inl same) = same_part one other (numbers_of births) (all_same births rows seat event name same)
     other_part born (inr creation) = creates_part born creation
 
   -- ---- the row

@@ -3,18 +3,18 @@ use Rattle.std.proofs.Common.{◌≡◌, ℕ, zero, suc, ◌≤◌, eqb, true, c
 use Rattle.std.proofs.lemmas.Bool.{eq-eqb}
 use Rattle.std.proofs.lemmas.List.{length-append}
 use Rattle.sc_base.specs.Definitions.{Among, Each}
-use Rattle.sc_node_table.specs.Values.{Draw, Command, Core, Lock, Free, Coordinating, Promised, Watching, OrderLine, Row, Mail, Seat, Flight}
-use Rattle.sc_live_orderly.specs.Definitions.{AreInTime, mail_with, is_born}
+use Rattle.sc_node_table.specs.Values.{Draw, Command, Core, Lock, Free, Coordinating, Promised, Watching, Mail, Seat, Flight}
+use Rattle.sc_live_orderly.specs.Definitions.{mail_with, is_born}
 use Rattle.sc_actor.specs.declared.rows.Event.TheVariants.{Told}
 use Rattle.sc_actor.specs.Definitions.{row_of, mails, copies, numbers_of}
 use Rattle.sc_meaning.specs.sound.Definitions.{player_table, Player}
 use Rattle.sc_node_table.specs.Definitions.{group_of_order, ReplicaState, listed}
-use Rattle.sc_live_steps.specs.orders.Definitions.{IsUnderWay, Still, Unbound, Errand, bond_in as bond_by_lock, works_in, works_flying, works_ready, works, errand_by, errand_for, errands_for}
-use Rattle.sc_live_journals.specs.rows.Definitions.{with_event, view_at}
-use Rattle.sc_live_orderly.proofs.Lemmas.{in_time_before, in_time_tidy, by_time, last_in_time, quiet-empty}
+use Rattle.sc_live_steps.specs.orders.Definitions.{Unbound, Errand, bond_in as bond_by_lock, works_in, works_flying, works_ready, works, errand_by, errand_for, errands_for}
+use Rattle.sc_live_journals.specs.rows.Definitions.{view_at}
+use Rattle.sc_live_orderly.proofs.Lemmas.{in_time_before, in_time_tidy, last_in_time, quiet-empty}
 use Rattle.sc_live_steps.specs.calm.Definitions.{players, Rows}
 use Rattle.sc_live_steps.proofs.OrdersProofs.Lemmas.{still-only, quiet-still, left_none as left_empty, right_none as right_empty}
-use Rattle.sc_live_journals.specs.scenes.Definitions.{is_running, lead_of, works_of, work_at, scene_at, StageAfter, GoesToActor, HasNothing, QuietScenesAreOver, IsWork, WorksFlyLone, OrdersBeginInQuiet, OrdersGoThrough}
+use Rattle.sc_live_journals.specs.scenes.Definitions.{is_running, lead_of, works_of, work_at, scene_at, StageAfter, GoesToActor, HasNothing, QuietScenesAreOver, IsWork, WorksFlyLone, OrdersBeginInQuiet}
 use Rattle.sc_live_journals.proofs.ScenesProofs.VotesAndOrders.{orders_keep}
 use Rattle.sc_live_journals.proofs.ScenesProofs.UntakenMail.{errands-append}
 use Rattle.sc_live_journals.proofs.ScenesProofs.NewestReplicas.{lead_runs}

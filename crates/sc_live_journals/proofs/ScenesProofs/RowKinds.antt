@@ -1,6 +1,6 @@
 -- Which kinds of rows the rows of a group are.
-use Rattle.std.proofs.Common.{◌≡◌, ℕ, eqb, true, false, true≢false, cond, List, [], ◌∷◌, ◌++◌, Option, Some, None, ◌⊎◌, inl, inr, sym, ◌∙◌, ap, subst}
-use Rattle.std.proofs.lemmas.Bool.{cases_Bool, eqb-true, eq-eqb}
+use Rattle.std.proofs.Common.{◌≡◌, ℕ, true, false, true≢false, cond, List, [], ◌∷◌, ◌++◌, Option, Some, None, inl, inr, sym, ◌∙◌, ap, subst}
+use Rattle.std.proofs.lemmas.Bool.{cases_Bool, cases_eq}
 use Rattle.sc_base.specs.Definitions.{Each}
 use Rattle.sc_node_table.specs.Values.{Draw, OrderLine, Seat, Event}
 use Rattle.sc_actor.specs.Definitions.{mails, numbers_of, row_of}
@@ -38,14 +38,11 @@ module _ (births : List (Seat Player)) (rows : Rows) (seat : Seat Player) (event
   abbrev other : ℕ → Option ReplicaState
   other = view_at births after_rows name
 
-  pub who_or : (node : ℕ) → (node ≡ seat.who) ⊎ (node ≡ seat.who → ⊥)
-  who_or node = elim (cases_Bool (eqb node seat.who)) [ inl t ↦ inl (eqb-true node seat.who t) | inr f ↦ inr (λ e. true≢false (sym (eq-eqb node seat.who e) ∙ f)) ]
-
   pub others_same : (node : ℕ) → (node ≡ seat.who → ⊥) → other node ≡ one node
   others_same node ne = view_others births rows (row_of player_table seat rows event) name node ne
 
-  all_same : other seat.who ≡ one seat.who → (node : ℕ) → other node ≡ one node
-  all_same own node = elim (who_or node) [ inl e ↦ ap other e ∙ (own ∙ sym (ap one e)) | inr ne ↦ others_same node ne ]
+  pub all_same : other seat.who ≡ one seat.who → (node : ℕ) → other node ≡ one node
+  all_same own node = elim (cases_eq node seat.who) [ inl e ↦ ap other e ∙ (own ∙ sym (ap one e)) | inr ne ↦ others_same node ne ]
 
   -- the replicas stay
   missed_stays : other seat.who ≡ one seat.who → Stays births rows seat event name
@@ -60,19 +57,19 @@ module _ (births : List (Seat Player)) (rows : Rows) (seat : Seat Player) (event
     leads_on leads runs = record {
       is_there = table.is;
       running = runs;
-      alone = λ node x has running. elim (who_or node) [ inl e ↦ e | inr ne ↦ leads.alone node x (sym (others_same node ne) ∙ has) running ];
+      alone = λ node x has running. elim (cases_eq node seat.who) [ inl e ↦ e | inr ne ↦ leads.alone node x (sym (others_same node ne) ∙ has) running ];
     }
 
     -- where it stops, none runs
     pub stops_alone : LeadsAlone births rows name seat.who r → after.0.running ≡ false → NoneRuns births after_rows name
-    stops_alone leads stops node x has = elim (who_or node) [
+    stops_alone leads stops node x has = elim (cases_eq node seat.who) [
       | inl e ↦ subst (λ (y : ReplicaState). y.running ≡ false) (own_is node x e has) stops
       | inr ne ↦ elim (cases_Bool x.running) [ inl t ↦ absurd (ne (leads.alone node x (sym (others_same node ne) ∙ has) t)) | inr f ↦ f ]
     ]
 
     -- none runs by it
     none_still : NoneRuns births rows name → after.0.running ≡ false → NoneRuns births after_rows name
-    none_still none stops node x has = elim (who_or node) [
+    none_still none stops node x has = elim (cases_eq node seat.who) [
       | inl e ↦ subst (λ (y : ReplicaState). y.running ≡ false) (own_is node x e has) stops
       | inr ne ↦ none node x (sym (others_same node ne) ∙ has)
     ]
@@ -82,7 +79,7 @@ module _ (births : List (Seat Player)) (rows : Rows) (seat : Seat Player) (event
     elected_alone none runs = record {
       is_there = table.is;
       running = runs;
-      alone = λ node x has running. elim (who_or node) [ inl e ↦ e | inr ne ↦ absurd (true≢false (sym running ∙ none node x (sym (others_same node ne) ∙ has))) ];
+      alone = λ node x has running. elim (cases_eq node seat.who) [ inl e ↦ e | inr ne ↦ absurd (true≢false (sym running ∙ none node x (sym (others_same node ne) ∙ has))) ];
     }
 
     -- another leads on
@@ -90,7 +87,7 @@ module _ (births : List (Seat Player)) (rows : Rows) (seat : Seat Player) (event
     aside_leads node lead leads ne stops = record {
       is_there = others_same node ne ∙ leads.is_there;
       running = leads.running;
-      alone = λ n x has running. elim (who_or n) [
+      alone = λ n x has running. elim (cases_eq n seat.who) [
         | inl e ↦ absurd (true≢false (sym running ∙ subst (λ (y : ReplicaState). y.running ≡ false) (own_is n x e has) stops))
         | inr ne' ↦ leads.alone n x (sym (others_same n ne') ∙ has) running
       ];

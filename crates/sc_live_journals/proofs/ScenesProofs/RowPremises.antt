@@ -9,12 +9,12 @@ use Rattle.sc_actor.specs.Definitions.{mails, numbered, value, row_of}
 use Rattle.sc_live_orderly.specs.Definitions.{AreInTime}
 use Rattle.sc_live_orderly.proofs.Lemmas.{last_in_time}
 use Rattle.sc_node_table.specs.Definitions.{NodeState, replica_of, group_of_mail, may_come, absent, unknown, group_of_order, ReplicaState, name_of, mailed, request_row, requested, request_refusal}
-use Rattle.sc_meaning.specs.sound.Definitions.{Player, player_table, births, as_nodes}
+use Rattle.sc_meaning.specs.sound.Definitions.{Player, player_table, births}
 use Rattle.sc_live_steps.specs.calm.Definitions.{players, Rows}
 use Rattle.sc_live_steps.specs.orders.Definitions.{Unbound, Bound, Errand, Question, Elsewhere, Reply, Result, Answers, Here, IsOnly, IsTaken, Comes, IsUnderWay, IsUnbound, MayFile, bond_of, errand_by, errands_for, is_yes, is_cast_yes}
 use Rattle.sc_live_steps.proofs.OrdersProofs.Lemmas.{tables-file, errands-none}
 use Rattle.sc_live_journals.specs.rows.Definitions.{IsSeat, with_event}
-use Rattle.sc_live_journals.specs.scenes.Definitions.{IsAsking, IsWaiting, Expects, IsOrdered, LeaderFinds, BesideFinds, FindsReplica, AtLeader, AtAnother, NodeFinds, FindsFlight, Late, Leaves, Changed, Opened, Voted, Aborted, Decided, Heard, Ended, FindsQuiet, ByLeader, ByAnother, FindsOrder, FoundOrdersStep, FoundOrdersKeep, FoundOrdersGoThrough, KeepsStage, ComesTo, ComesToLeader, ComesBeside, ComesToNone, scene_at, IsTaking}
+use Rattle.sc_live_journals.specs.scenes.Definitions.{IsAsking, IsWaiting, Expects, IsOrdered, LeaderFinds, BesideFinds, FindsReplica, AtLeader, AtAnother, NodeFinds, FindsFlight, Late, Leaves, Changed, Opened, Voted, Aborted, Decided, Heard, Ended, FindsQuiet, ByLeader, ByAnother, FindsOrder, FoundOrdersStep, KeepsStage, ComesTo, ComesToLeader, ComesBeside, ComesToNone, scene_at, IsTaking}
 use Rattle.sc_live_journals.proofs.ScenesProofs.AnswersAndLateMail.{asked_keep}
 use Rattle.sc_live_journals.proofs.ScenesProofs.VotesAndOrders.{votes_keep, orders_keep}
 use Rattle.sc_live_journals.proofs.ScenesProofs.CreatedReplicas.{states_keep}

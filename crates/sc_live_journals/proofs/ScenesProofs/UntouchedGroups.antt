@@ -10,7 +10,7 @@ use Rattle.sc_live_steps.specs.following.Definitions.{Asks, Votes, Tells, Instal
 use Rattle.sc_live_journals.proofs.RowsProofs.Lemmas.{AreQuiet, wide_mark, made_keeps, names_stay, view_others, view_was, view_is, sent_is, new_others, none_some}
 use Rattle.sc_live_journals.specs.scenes.Definitions.{IsErrandFor, BesideFinds}
 use Rattle.std.proofs.Common.{◌≡◌, ℕ, eqb, Bool, true, false, cond, List, [], ◌∷◌, ◌&&◌, ◌||◌, not, nat_lt, length, drop, Option, Some, None, ◌⊎◌, inl, inr, refl, sym, ◌∙◌, ap, subst}
-use Rattle.std.proofs.lemmas.Bool.{cases_Bool, eq-eqb, eqb-true}
+use Rattle.std.proofs.lemmas.Bool.{cases_eq}
 use Rattle.sc_actor.specs.Definitions.{mails, is_delivery, value, acted, input_of, System, row_of}
 use Rattle.sc_live_orderly.specs.Definitions.{rest, mail_for, taken, AreInTime}
 use Rattle.sc_live_orderly.proofs.Lemmas.{in_time_before, in_time_tidy, last_in_time, rest-calm}
@@ -100,11 +100,8 @@ module _ (words : ℕ → ℕ → ℕ × ℕ) (births : List (Seat Player)) (row
     pub view : view_at births (with_event rows seat event) name seat.who ≡ view_at births rows name seat.who
     pub silent : Each (IsErrandFor name) (row_of player_table seat rows event).sent
 
-  who_or : (node : ℕ) → (node ≡ seat.who) ⊎ (node ≡ seat.who → ⊥)
-  who_or node = elim (cases_Bool (eqb node seat.who)) [ inl t ↦ inl (eqb-true node seat.who t) | inr f ↦ inr (λ e. (let g : true ≡ false = sym (eq-eqb node seat.who e) ∙ f in absurd cc)) ]
-
   pub left_view : (name : Draw) → Leaves name → (who : ℕ) → view_at births (with_event rows seat event) name who ≡ view_at births rows name who
-  left_view name l who = elim (who_or who) [
+  left_view name l who = elim (cases_eq who seat.who) [
     | inl is ↦ ap (view_at births (with_event rows seat event) name) is ∙ (l.view ∙ ap (view_at births rows name) (sym is))
     | inr ne ↦ view_others births rows (row_of player_table seat rows event) name who ne
   ]

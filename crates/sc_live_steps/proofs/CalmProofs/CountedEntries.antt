@@ -1,20 +1,17 @@
 -- An entry that the leader executes as counted raises nothing, where what it causes was owed.
-use Rattle.std.proofs.Common.{◌≡◌, ℕ, ◌+◌, ◌-◌, ◌*◌, ◌≤◌, ◌||◌, not, eqb, Bool, true, false, true≢false, cond, List, [], ◌∷◌, ◌++◌, length, sum_by, Option, Some, None, refl, sym, ◌∙◌, ap, arith}
-use Rattle.std.specs.Option.{option_map}
+use Rattle.std.proofs.Common.{◌≡◌, ℕ, ◌+◌, ◌-◌, ◌*◌, ◌≤◌, ◌||◌, not, eqb, Bool, true, false, true≢false, cond, List, [], ◌∷◌, length, sum_by, Option, Some, None, refl, sym, ◌∙◌, ap, arith}
 use Rattle.std.specs.List.{filter}
-use Rattle.sc_node_table.specs.Values.{Command, Route, Mail, MailBody, Learn, Prepare, Install, Flight}
+use Rattle.sc_node_table.specs.Values.{Command, Route, Mail, MailBody, Learn, Prepare, Install}
 use Rattle.sc_mail.specs.declared.bodies.AnswerBody.TheVariants as Says
 use Rattle.sc_base.specs.Definitions.{is_member, least_of}
 use Rattle.sc_group_table.specs.machine.Definitions.{Group, base_of}
-use Rattle.sc_words.specs.paxos.Definitions.{LeaderState, flight_at, without_flight, without_flight_at}
-use Rattle.sc_node_table.specs.Definitions.{ended, stopped, entered, learnt_to, welcomed, slot_lost, landed, left_gone, left, looked_for, looked, executed_one, install_to, asked_to_promise, welcomed_all, sent, sent_others, answered_all, dismissed_all, ReplicaState, Place, name_of, next, members, flying, forgotten, either, listed, taken_at, taken_from, open_slots, under_way, at_slot, without_slot}
+use Rattle.sc_words.specs.paxos.Definitions.{LeaderState, without_flight, without_flight_at}
+use Rattle.sc_node_table.specs.Definitions.{ended, stopped, entered, learnt_to, welcomed, slot_lost, landed, left_gone, left, looked_for, looked, executed_one, install_to, asked_to_promise, welcomed_all, sent, sent_others, answered_all, dismissed_all, ReplicaState, Place, name_of, next, members, flying, forgotten, open_slots, under_way, at_slot, without_slot}
 use Rattle.sc_live_steps.specs.calm.Definitions.{IsCounting, newcomers, said_place, Ways, offered_owes, body_owes, mail_owes, replica_owes, idle_owes, election, place_owes}
 use Rattle.sc_live_steps.proofs.CalmProofs.PotentialSums.{sent_owes, without_flight_owes, taken_slot_owes}
 use Rattle.sc_live_steps.proofs.CalmProofs.LearntEntries.{entered_owes, entered_running, entered_flights, entered_ready, looked_owes}
-
-pub entered_me : (command : Command) (r : ReplicaState) → (entered command r).me ≡ r.me
-unfolding entered forgotten
-entered_me command r = refl
+pub use Rattle.sc_law_walks.proofs.Lemmas.{entered_me}
+pub use Rattle.sc_live_steps.proofs.PumpProofs.Pumping.{none_from as taken_none}
 
 entered_calls : (command : Command) (r : ReplicaState) → (entered command r).backlog ≡ r.backlog
 unfolding entered forgotten
@@ -176,20 +173,20 @@ module _ (ways : Ways) where
       let b = welcomed_counted (members r) place3.0 place3.1 in
       let place4 = welcomed true (members r) place3 in
       let is : place4.0 ≡ entered command r = b.0 ∙ (a.0 ∙ state) in
-      let at : at_slot place4.0.ready (next r) ≡ Some command = ap (λ (q : ReplicaState). at_slot q.ready (next r)) is ∙ (ap (λ (es : List (ℕ × Command)). at_slot es (next r)) (entered_ready ways command r) ∙ is_counting.ready) in
+      let at : at_slot place4.0.ready (next r) ≡ Some command = ap (λ (q : ReplicaState). at_slot q.ready (next r)) is ∙ (ap (λ (es : List (ℕ × Command)). at_slot es (next r)) (entered_ready command r) ∙ is_counting.ready) in
       let c = landed_counted (next r) command place4.0 place4.1 at in
       let place5 = landed true (next r) command place4 in
       let owes : replica_owes ways.most place4.0 ≡ replica_owes ways.most r = ap (replica_owes ways.most) is ∙ entered_owes ways command r in
       let welcome : length (filter (λ node. not (is_member (members r) node)) (members place3.0)) ≡ length (newcomers command r) =
       ap (λ (q : ReplicaState). length (filter (λ node. not (is_member (members r) node)) (members q))) (a.0 ∙ state) in
       let counts : Counts command said (r, mails) (place5.0, place5.1) = record {
-        running = c.0 ∙ (ap (λ (q : ReplicaState). q.running) is ∙ (entered_running ways command r ∙ is_counting.running));
+        running = c.0 ∙ (ap (λ (q : ReplicaState). q.running) is ∙ (entered_running command r ∙ is_counting.running));
         me_is = c.2 ∙ (ap (λ (q : ReplicaState). q.me) is ∙ entered_me command r);
         group_is = c.1 ∙ ap (λ (q : ReplicaState). q.group) is;
         owes = (let low = c.3 in omega (arith, low, owes));
         sent = (let mails5 = ap sum c.4 in let b1 = b.1 in let a1 = a.1 in omega (arith, mails5, b1, a1, welcome, told));
         flights = c.5 ∙ (ap (λ (q : ReplicaState). without_flight (next r) q.leader.flights) is ∙ ap (λ (l : LeaderState Command). without_flight (next r) l.flights) (entered_flights ways command r));
-        ready = c.6 ∙ (ap (λ (q : ReplicaState). without_slot q.ready (next r)) is ∙ ap (λ (es : List (ℕ × Command)). without_slot es (next r)) (entered_ready ways command r));
+        ready = c.6 ∙ (ap (λ (q : ReplicaState). without_slot q.ready (next r)) is ∙ ap (λ (es : List (ℕ × Command)). without_slot es (next r)) (entered_ready command r));
         backlog = c.7 ∙ (ap (λ (q : ReplicaState). q.backlog) is ∙ entered_calls command r);
         sets = c.8 ∙ ap (λ (q : ReplicaState). q.sets) is;
         log = c.9 ∙ ap (λ (q : ReplicaState). q.log) is;
@@ -211,12 +208,6 @@ module _ (ways : Ways) where
       omega (arith, last))
 
   -- ---- a leader that is no member any more stops, and its group is to elect another
-
-  pub taken_none : (r : ReplicaState) (slots : List ℕ) → r.leader.flights ≡ [] → r.ready ≡ [] → taken_from r slots ≡ []
-  taken_none r [] f e = refl
-  taken_none r (slot ∷ slots) f e =
-      let none : taken_at r slot ≡ None = ap (λ (fs : List (Flight Command)). either (option_map (λ (flight : Flight Command). flight.value) (flight_at slot fs)) (at_slot r.ready slot)) f ∙ ap (λ (es : List (ℕ × Command)). at_slot es slot) e in
-      ap (λ (o : Option Command). listed o ++ taken_from r slots) none ∙ taken_none r slots f e
 
   pub stops_idle : (hint : Option ℕ) (r : ReplicaState) (mails : List Mail) → r.leader.flights ≡ [] → r.ready ≡ [] → r.backlog ≡ [] →
       ((stopped hint (r, mails)).0.running ≡ false) × (replica_owes ways.most (stopped hint (r, mails)).0 ≡ 0) × ((stopped hint (r, mails)).1 ≡ mails)

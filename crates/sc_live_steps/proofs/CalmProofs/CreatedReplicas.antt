@@ -3,7 +3,7 @@ use Rattle.std.proofs.Common.{◌≡◌, ℕ, ◌+◌, ◌≤◌, Bool, true, fa
 use Rattle.sc_node_table.specs.Values.{Base, Route, Mail}
 use Rattle.sc_base.specs.Definitions.{is_member}
 use Rattle.sc_node_table.specs.Definitions.{looked, named, ReplicaState, Place, members, forgotten, installed_replica, looked_up, made_by}
-use Rattle.sc_live_steps.specs.calm.Definitions.{BornReplicasOwe, MadeReplicasOwe, Ways, mail_owes, replica_owes, idle_owes, place_owes}
+use Rattle.sc_live_steps.specs.calm.Definitions.{MadeReplicasOwe, Ways, mail_owes, replica_owes, idle_owes, place_owes}
 use Rattle.sc_live_steps.proofs.CalmProofs.InstallRows.{looks_up}
 use Rattle.sc_live_steps.proofs.CalmProofs.GroupEnds.{looked_gone}
 

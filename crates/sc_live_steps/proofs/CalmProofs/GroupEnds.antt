@@ -58,7 +58,7 @@ module _ (ways : Ways) where
   ended_owes : (into : Route) (r : ReplicaState) (mails : List Mail) → r.group.core.gone ≡ Some into → r.leader.flights ≡ [] → r.ready ≡ [] → place_owes ways (ended None (Says.Gone into) (r, mails)) ≤ sum mails + sum_by (command_owes ways.most) r.backlog
   unfolding ended answered_all
   ended_owes into r mails gone f e =
-      let none = taken_none ways r (open_slots r) f e in
+      let none = taken_none r (open_slots r) f e in
       let same = ap (λ (commands : List Command). sum (dismissed_all r.me (name_of r) None (Says.Gone into) r.backlog (answered_all r.me (name_of r) (Says.Gone into) commands mails))) none in
       let le = all_most r.me (name_of r) None into r.backlog mails in
       let idle : idle_owes false r.group.core.gone ≡ 0 = ap (idle_owes false) gone in

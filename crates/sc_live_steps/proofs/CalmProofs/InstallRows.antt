@@ -1,12 +1,12 @@
 -- Rows of an Install at one that does not run, and of a mail that sends a coordinator elsewhere.
 use Rattle.std.proofs.Common.{◌≡◌, ℕ, ◌+◌, ◌≤◌, ◌||◌, not, Bool, true, false, cond, List, length, sum_by, Option, Some, None, refl, ◌∙◌, ap, arith}
 use Rattle.std.specs.Prelude.{nat_lt, ◌==◌}
-use Rattle.sc_node_table.specs.Values.{Draw, Body, Base, Lock, Free, Coordinating, Promised, Watching, Route, Heard, Mail}
+use Rattle.sc_node_table.specs.Values.{Draw, Body, Base, Lock, Free, Coordinating, Promised, Watching, Heard, Mail}
 use Rattle.sc_base.proofs.Lemmas.{draw_is}
 use Rattle.sc_base.specs.Definitions.{same_draw, is_member}
 use Rattle.sc_node_table.specs.Definitions.{stopped, looked, jumped, question, asked_node, ReplicaState, Place, next, members, settled, last_slot, forgotten, looked_up, took_over, install_row, asked_next, elsewhere_row}
 use Rattle.sc_live_steps.specs.calm.Definitions.{AsksAs, Ways, body_owes, asked_owes, mail_owes, replica_owes, idle_owes, election, place_owes}
-use Rattle.sc_live_steps.proofs.CalmProofs.PotentialSums.{sent_owes}
+use Rattle.sc_live_steps.proofs.CalmProofs.PotentialSums.{sent_owes, idle_most}
 use Rattle.sc_live_steps.proofs.CalmProofs.LearntEntries.{looked_owes}
 
 -- a state that is taken over leaves what waits
@@ -15,10 +15,6 @@ unfolding jumped forgotten
 jumped_owes most slot base sets r = (refl, refl)
 
 module _ (ways : Ways) where
-  idle_most : (b : Bool) (gone : Option Route) → idle_owes b gone ≤ election
-  idle_most true went = omega arith
-  idle_most false None = omega arith
-  idle_most false (Some into) = omega arith
 
   pub looks_up : (from : ℕ) (r : ReplicaState) (mails : List Mail) → r.running ≡ false → place_owes ways (looked_up from (r, mails)) ≤ replica_owes ways.most r + election + sum_by (mail_owes ways) mails
   unfolding looked_up

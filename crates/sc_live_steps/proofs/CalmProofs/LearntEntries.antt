@@ -10,8 +10,9 @@ use Rattle.sc_group_table.specs.machine.Definitions.{applied}
 use Rattle.sc_node_table.specs.declared.Before.{Before}
 use Rattle.sc_node_table.specs.Definitions.{is_in_some, nodes_to, open_nodes, elected, entered, order_result, effect_reported, announced, learnt_to, welcomed, slot_lost, landed, is_among, looked_for, looked, executed_one, order_reported, result_sent, sent_all, order_number, ReplicaState, Place, name_of, next, members, flying, forgotten, numbers_from, without_slot, before_of, begun_result, spoken_number, result_reported, begun_reported, spoken_mails, spoken}
 use Rattle.sc_live_steps.specs.calm.Definitions.{Ways, mail_owes, replica_owes, idle_owes, election, place_owes}
-use Rattle.sc_live_steps.proofs.CalmProofs.PotentialSums.{sent_owes, all_owe, without_flight_owes, without_slot_owes}
+use Rattle.sc_live_steps.proofs.CalmProofs.PotentialSums.{sent_owes, all_owe, without_flight_owes, without_slot_owes, idle_most as idle_low}
 use Rattle.sc_live_steps.proofs.FollowingProofs.FollowerTables.{left_same as left_learnt, learnt_same as learnt_learnt, welcomed_same as welcomed_learnt}
+pub use Rattle.sc_law_walks.proofs.Lemmas.{entered_running, entered_ready}
 
 -- ---- the nodes of an election
 
@@ -65,17 +66,9 @@ module _ (ways : Ways) where
   unfolding entered forgotten
   entered_owes command r = refl
 
-  pub entered_running : (command : Command) (r : ReplicaState) → (entered command r).running ≡ r.running
-  unfolding entered forgotten
-  entered_running command r = refl
-
   pub entered_flights : (command : Command) (r : ReplicaState) → (entered command r).leader ≡ r.leader
   unfolding entered forgotten
   entered_flights command r = refl
-
-  pub entered_ready : (command : Command) (r : ReplicaState) → (entered command r).ready ≡ r.ready
-  unfolding entered forgotten
-  entered_ready command r = refl
 
   -- ---- an election
 
@@ -86,11 +79,6 @@ module _ (ways : Ways) where
     where
       ballot : Ballot
       ballot = record { round = r.top.round + 1; node = r.me }
-
-      idle_low : (b : Bool) (gone : Option Route) → idle_owes b gone ≤ election
-      idle_low true went = omega arith
-      idle_low false None = omega arith
-      idle_low false (Some into) = omega arith
 
       by : (b : Bool) → place_owes ways (cond b (r, mails) (
         record r { top = ballot; hint = Some r.me; running = true; leader = new_leader ballot (next r); ready = []; waits = 0 },
@@ -107,10 +95,6 @@ module _ (ways : Ways) where
   unfolding looked
   looked_owes r mails stopped = by r.running r.group.core.gone refl stopped
     where
-      idle_low : (b : Bool) (gone : Option Route) → idle_owes b gone ≤ election
-      idle_low true went = omega arith
-      idle_low false None = omega arith
-      idle_low false (Some into) = omega arith
 
       same : (hint : Option ℕ) → place_owes ways (record r { hint = hint }, mails) ≤ replica_owes ways.most r + election + sum_by (mail_owes ways) mails
       same hint = let low = idle_low r.running r.group.core.gone in omega (arith, low)

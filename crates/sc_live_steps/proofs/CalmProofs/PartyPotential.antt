@@ -3,11 +3,13 @@ use Rattle.std.proofs.Common.{◌≡◌, ℕ, ◌+◌, ◌*◌, ◌≤◌, Bool,
 use Rattle.std.proofs.lemmas.Bool.{cond_both, cond-true, cond-false, cases_Bool}
 use Rattle.std.proofs.lemmas.List.Sums.{sum_by-cons}
 use Rattle.sc_base.specs.Definitions.{Each, same_draw}
-use Rattle.sc_node_table.specs.Values.{Draw, Base, Route, OrderLine, Mail, MailBody}
+use Rattle.sc_node_table.specs.Values.{Draw, Base, OrderLine, Mail, MailBody}
 use Rattle.sc_base.proofs.Lemmas.{draw_is, same_name}
 use Rattle.sc_node_table.specs.Definitions.{NodeState, replica_of, with_replica, is_before, with_new, with_born, with_children, taken_by, on_mail, group_of_order, ordered_of, on_order, ordered_row, ReplicaState, Place, Executed, name_of, born_replica, mailed, slots_ahead}
-use Rattle.sc_live_steps.specs.calm.Definitions.{IsLedMail, LedPartiesLower, group_owes, IsTaken, after_mail, Ways, body_owes, mail_owes, idle_owes, election, idle_with, Elsewhere, party_owes, party_turn_owes, StandsOnce, IsCalmMail, IsCalmOrder, PartiesLower, PartiesRaiseLittle}
+use Rattle.sc_live_steps.specs.calm.Definitions.{IsLedMail, LedPartiesLower, group_owes, IsTaken, after_mail, Ways, body_owes, mail_owes, idle_with, Elsewhere, party_owes, party_turn_owes, StandsOnce, IsCalmMail, IsCalmOrder, PartiesLower, PartiesRaiseLittle}
 use Rattle.sc_live_steps.proofs.CalmProofs.NodePotential.{taken_turn, taken_owes, raise_little}
+pub use Rattle.sc_meaning.proofs.EntriesProofs.Names.{other_name as apart}
+pub use Rattle.sc_live_steps.proofs.CalmProofs.PotentialSums.{idle_most}
 
 -- ---- which replica is found after one is changed, and others are created
 
@@ -19,9 +21,6 @@ put_found group new r (x ∷ replicas) n e =
     (λ _. cond-true (same_draw (name_of new) group) (Some new) (replica_of group replicas) (same_name (name_of new) group n))
     (λ f. cond-false (same_draw (name_of x) group) (Some x) (replica_of group (with_replica group new replicas)) f
     ∙ put_found group new r replicas n (sym (cond-false (same_draw (name_of x) group) (Some x) (replica_of group replicas) f) ∙ e))
-
-pub apart : (name other : Draw) → (name ≡ other → ⊥) → same_draw name other ≡ false
-apart name other no_ = elim (cases_Bool (same_draw name other)) [ inl t ↦ absurd (no_ (draw_is name other t)) | inr f ↦ f ]
 
 -- and the others as before
 pub put_others : (group other : Draw) (new : ReplicaState) (replicas : List ReplicaState) → name_of new ≡ group → (other ≡ group → ⊥) → replica_of other (with_replica group new replicas) ≡ replica_of other replicas
@@ -64,12 +63,6 @@ children_found group r [] node e = e
 children_found group r (child ∷ children) node e = children_found group r children (with_born child node) (child_found group r child node e)
 
 -- ---- what groups owe
-
--- one that runs owes no election
-pub idle_most : (b : Bool) (o : Option Route) → idle_owes b o ≤ election
-idle_most true o = omega arith
-idle_most false None = omega arith
-idle_most false (Some into) = omega arith
 
 -- a group owes most where the node has no replica of it
 with_most : (b : Bool) (here : Option ReplicaState) → idle_with b here ≤ idle_with b None

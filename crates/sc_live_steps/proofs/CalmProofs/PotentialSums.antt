@@ -2,15 +2,22 @@
 use Rattle.std.proofs.Common.{◌≡◌, ℕ, suc, ◌+◌, ◌*◌, ◌≤◌, eqb, ltb, Bool, true, false, cond, List, [], ◌∷◌, length, sum_by, Some, ap, arith}
 use Rattle.std.proofs.lemmas.List.Sums.{sum_by_push, sum_by-cons}
 use Rattle.std.proofs.Math.Nat.{suc-mul}
-use Rattle.sc_node_table.specs.Values.{Command, Noop, Mail, MailBody, Flight}
+use Rattle.sc_node_table.specs.Values.{Command, Noop, Route, Mail, MailBody, Flight}
 use Rattle.sc_words.specs.paxos.Definitions.{without_flight}
 use Rattle.sc_node_table.specs.Definitions.{sent, sent_all, at_slot, with_slot, without_slot}
-use Rattle.sc_live_steps.specs.calm.Definitions.{Ways, command_owes, offered_owes, body_owes, mail_owes, flights_owe, ready_owes}
+use Rattle.sc_live_steps.specs.calm.Definitions.{idle_owes, election, Ways, command_owes, offered_owes, body_owes, mail_owes, flights_owe, ready_owes}
+use Rattle.std.specs.Prelude.{Option, Some, None}
 
 -- each command owes a round of agreement and an answer at least
 pub command_most : (most : ℕ) (command : Command) → 27 ≤ command_owes most command
 command_most most Noop = omega arith
 command_most most _ = omega arith
+
+-- one that does not run owes an election at most
+pub idle_most : (b : Bool) (gone : Option Route) → idle_owes b gone ≤ election
+idle_most true went = omega arith
+idle_most false None = omega arith
+idle_most false (Some into) = omega arith
 
 module _ (ways : Ways) (me : ℕ) where
   -- one mail more

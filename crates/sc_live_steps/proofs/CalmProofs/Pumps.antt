@@ -12,6 +12,7 @@ use Rattle.sc_base.specs.Definitions.{client_actor}
 use Rattle.sc_node_table.specs.Definitions.{answered, Found, is_act, waits, refused_by, turned_down, next_queued, from_backlog, from_acts, from_queues, found_by, found_for, offered, pumped_from, pumped, ReplicaState, Place, name_of, next, settled, may_offer, taken_at, under_way, is_idle, last_slot}
 use Rattle.sc_live_steps.specs.calm.Definitions.{IsUnbound, AreNines, Ways, command_owes, offered_owes, answer_owes, mail_owes, place_owes}
 use Rattle.sc_live_steps.proofs.CalmProofs.PotentialSums.{command_most, sent_owes, all_owe}
+use Rattle.sc_live_steps.proofs.PumpProofs.Pumping.{open_found as found_is}
 
 -- what is owed for a command, if there is one
 abbrev option_owes : ℕ → Option Command → ℕ
@@ -29,6 +30,30 @@ queue_owes ways found = option_owes ways.most found.0 + sum_by (command_owes way
 -- a pump from a slot on raises nothing
 abbrev IsRest : Ways → ℕ → List (List ℕ) → Type 0
 IsRest ways slot sets = (place : Place) → ((at : ℕ) → slot ≤ at → must at place.0.leader ≡ Open) → place_owes ways (pumped_from slot sets place) ≤ place_owes ways place
+
+pub calls_leader : (r : ReplicaState) (mails : List Mail) → (from_backlog (r, mails)).1.0.leader ≡ r.leader
+unfolding from_backlog
+calls_leader r mails = refl
+
+pub acts_leader : (acts : List Command) (r : ReplicaState) (mails : List Mail) → (from_acts acts (r, mails)).1.0.leader ≡ r.leader
+acts_leader [] r mails = calls_leader r mails
+acts_leader (act ∷ acts) r mails = by (is_idle r)
+  where
+    by : (b : Bool) → (cond {A = Found} b (Some act, (record r { acts = acts }, mails)) (None, (r, mails))).1.0.leader ≡ r.leader
+    by true = refl
+    by false = refl
+
+pub queues_leader : (r : ReplicaState) (mails : List Mail) → (from_queues (r, mails)).1.0.leader ≡ r.leader
+unfolding from_queues
+queues_leader r mails = by (list_any is_act (under_way r)) (acts_leader r.acts r mails)
+  where
+    by : (b : Bool) → (from_acts r.acts (r, mails)).1.0.leader ≡ r.leader → (cond {A = Found} b (None, (r, mails)) (from_acts r.acts (r, mails))).1.0.leader ≡ r.leader
+    by true e = refl
+    by false e = e
+
+pub offering_must : (slot at : ℕ) (set : List ℕ) (command : Command) (r : ReplicaState) (mails : List Mail) → must at (offered slot set command (r, mails)).0.leader ≡ must at r.leader
+unfolding offered
+offering_must slot at set command r mails = refl
 
 module _ (ways : Ways) where
   -- ---- what is found in the queues
@@ -80,10 +105,6 @@ module _ (ways : Ways) where
   unfolding from_backlog
   calls_owe r mails = let le = next_owes r.me (is_idle r) r.group.core r.backlog mails in omega (arith, le)
 
-  calls_leader : (r : ReplicaState) (mails : List Mail) → (from_backlog (r, mails)).1.0.leader ≡ r.leader
-  unfolding from_backlog
-  calls_leader r mails = refl
-
   acts_owe : (acts : List Command) (r : ReplicaState) (mails : List Mail) → r.acts ≡ acts → found_owes ways (from_acts acts (r, mails)) ≤ place_owes ways (r, mails)
   acts_owe [] r mails e = calls_owe r mails
   acts_owe (act ∷ acts) r mails e = by (is_idle r)
@@ -95,14 +116,6 @@ module _ (ways : Ways) where
           omega (arith, s, same)
       by false = omega arith
 
-  acts_leader : (acts : List Command) (r : ReplicaState) (mails : List Mail) → (from_acts acts (r, mails)).1.0.leader ≡ r.leader
-  acts_leader [] r mails = calls_leader r mails
-  acts_leader (act ∷ acts) r mails = by (is_idle r)
-    where
-      by : (b : Bool) → (cond {A = Found} b (Some act, (record r { acts = acts }, mails)) (None, (r, mails))).1.0.leader ≡ r.leader
-      by true = refl
-      by false = refl
-
   queues_owe : (r : ReplicaState) (mails : List Mail) → found_owes ways (from_queues (r, mails)) ≤ place_owes ways (r, mails)
   unfolding from_queues
   queues_owe r mails = by (list_any is_act (under_way r)) (acts_owe r.acts r mails refl)
@@ -111,19 +124,7 @@ module _ (ways : Ways) where
       by true le = omega arith
       by false le = le
 
-  queues_leader : (r : ReplicaState) (mails : List Mail) → (from_queues (r, mails)).1.0.leader ≡ r.leader
-  unfolding from_queues
-  queues_leader r mails = by (list_any is_act (under_way r)) (acts_leader r.acts r mails)
-    where
-      by : (b : Bool) → (from_acts r.acts (r, mails)).1.0.leader ≡ r.leader → (cond {A = Found} b (None, (r, mails)) (from_acts r.acts (r, mails))).1.0.leader ≡ r.leader
-      by true e = refl
-      by false e = e
-
   -- ---- what is found for a slot at which no report binds the leader
-
-  found_is : (slot : ℕ) (r : ReplicaState) (mails : List Mail) → must slot r.leader ≡ Open → found_for slot (r, mails) ≡ from_queues (r, mails)
-  unfolding found_for
-  found_is slot r mails e = ap (λ (m : Must Command). found_by m (r, mails)) e
 
   -- ---- what is offered
 
@@ -135,10 +136,6 @@ module _ (ways : Ways) where
       let all = all_owe ways r.me (Accept (name_of r) r.leader.ballot slot command) 2 (λ node. omega arith) set mails in
       let least = command_most ways.most command in
       omega (arith, one, all, least, few)
-
-  offering_must : (slot at : ℕ) (set : List ℕ) (command : Command) (r : ReplicaState) (mails : List Mail) → must at (offered slot set command (r, mails)).0.leader ≡ must at r.leader
-  unfolding offered
-  offering_must slot at set command r mails = refl
 
   -- ---- the pump
 

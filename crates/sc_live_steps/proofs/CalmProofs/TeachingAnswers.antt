@@ -1,5 +1,5 @@
 -- Answers by which a client comes to know another group.
-use Rattle.std.proofs.Common.{◌≡◌, ℕ, ◌+◌, ◌≤◌, Bool, true, false, cond, List, [], ◌∷◌, ◌++◌, Option, Some, None, ◌⊎◌, inl, inr, refl, ◌∙◌, ap, arith}
+use Rattle.std.proofs.Common.{◌≡◌, ℕ, ◌+◌, ◌≤◌, Bool, true, false, cond, List, [], ◌∷◌, ◌++◌, Option, Some, None, inl, inr, refl, ◌∙◌, ap, arith}
 use Rattle.std.specs.Prelude.{is_some}
 use Rattle.std.specs.Map.{lookup, set_value}
 use Rattle.std.proofs.lemmas.List.Sums.{sum_by-cons}
@@ -8,8 +8,8 @@ use Rattle.sc_node_table.specs.Values.{Draw, Op, Link, Route}
 use Rattle.sc_base.proofs.Lemmas.{same_name}
 use Rattle.sc_client_table.specs.lookup.Definitions.{KnownGroups, way_to, target_in, changed, starting, group_learnt, learnt_from_not_mine, learnt_from_gone, new_way}
 use Rattle.sc_client_table.specs.declared.lookup.ways.Way.{Way}
-use Rattle.sc_client_table.specs.table.Definitions.{Client as ClientState, waiting_request, ClientStep, asked_of, sent_where, chosen_for, request_sent, waits_for, was_asked}
-use Rattle.sc_live_steps.specs.calm.Definitions.{unknown_one, unknown, LearnsOneGroup, NotMineTeaches, IsSentOn, GoneSendsOn, AreBounded, Ways}
+use Rattle.sc_client_table.specs.table.Definitions.{Client as ClientState, waiting_request, asked_of, sent_where, chosen_for, request_sent}
+use Rattle.sc_live_steps.specs.calm.Definitions.{unknown_one, unknown, LearnsOneGroup, IsSentOn, AreBounded, Ways}
 use Rattle.sc_live_steps.proofs.CalmProofs.ClientRows.{request_owes}
 
 -- ---- whom a client knows

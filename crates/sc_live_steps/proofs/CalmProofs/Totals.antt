@@ -10,7 +10,7 @@ use Rattle.sc_actor.proofs.Lemmas.{value-snoc}
 use Rattle.sc_node_table.specs.Definitions.{NodeState, replica_of, ReplicaState}
 use Rattle.sc_live_orderly.proofs.Lemmas.{one_changes}
 use Rattle.sc_meaning.specs.sound.Definitions.{Player, player_table}
-use Rattle.sc_live_steps.specs.calm.Definitions.{idle_owes, election, idle_with, Elsewhere, groups_owe, Rows, is_leading, leads, is_led, led_elsewhere, group_idles, players_owe, node_part, TotalsChangeAsParties}
+use Rattle.sc_live_steps.specs.calm.Definitions.{idle_owes, election, idle_with, Elsewhere, groups_owe, Rows, is_leading, leads, is_led, led_elsewhere, group_idles, players_owe}
 
 -- ---- any of some seats, of which one stands apart
 

@@ -1,21 +1,22 @@
 -- What the entries of splits and transactions say, and whom they add.
-use Rattle.std.proofs.Common.{◌≡◌, ℕ, ◌+◌, ◌*◌, ◌≤◌, not, Bool, true, false, true≢false, cond, List, [], ◌∷◌, ◌++◌, length, take, drop, sum_by, Option, Some, None, inl, inr, refl, sym, ◌∙◌, ap, subst, arith, take-append-drop}
+use Rattle.std.proofs.Common.{◌≡◌, ℕ, ◌+◌, ◌*◌, ◌≤◌, not, Bool, true, false, true≢false, cond, List, [], ◌∷◌, length, take, drop, sum_by, Option, Some, None, refl, sym, ◌∙◌, ap, subst, arith, take-append-drop}
 use Rattle.std.specs.List.{filter}
-use Rattle.sc_base.specs.Definitions.{Among, same_draw, is_member, with_member, least_of, united}
-use Rattle.sc_node_table.specs.Values.{Draw, Body, Offer, Watch, Command, Noop, Call, Join, Leave, Split, Begin, Prepared, RecordVote, GiveUp, Finish, Watched, RecordWatch, Core, Lock, Free, Coordinating, Promised, Watching, Effect, Link, Route, OrderRefusal, OrderResult, Frozen, Heard, No, Outcome, Past, Vote, AnswerBody, Mail, TxPrepare, TxVote, TxOutcome, TxWatched}
+use Rattle.sc_base.specs.Definitions.{Among, is_member, with_member, least_of, united}
+use Rattle.sc_node_table.specs.Values.{Draw, Body, Offer, Watch, Command, Noop, Call, Join, Leave, Split, Begin, Prepared, RecordVote, GiveUp, Finish, Watched, RecordWatch, Core, Lock, Free, Promised, Watching, Effect, Link, Route, OrderRefusal, OrderResult, Heard, No, Outcome, Past, Vote, AnswerBody, Mail, TxPrepare, TxVote, TxOutcome, TxWatched}
 use Rattle.sc_words.specs.commands.Definitions.{is_alone, is_changed, decided_in, cast_in}
 use Rattle.sc_words.specs.declared.commands.bodies.Body.TheVariants as At
 use Rattle.sc_words.specs.declared.commands.effects.Effect.TheVariants as Was
 use Rattle.sc_words.specs.declared.commands.orders.OrderRefusal.TheVariants.{NotLeader}
-use Rattle.sc_words.specs.declared.commands.votes.Outcome.TheVariants as Is
 use Rattle.sc_words.specs.declared.commands.votes.Past.TheVariants as Cast
 use Rattle.sc_words.specs.declared.commands.votes.Vote.TheVariants as Says
-use Rattle.sc_group_table.specs.machine.Definitions.{gained_group, lost_group, welcomed_group, participant_after, settled_in, finished, Group, applied, ordered_by, split_group, refusal_of, ordered, frozen_of, closing_plan, repart_plan, migrate_plan, staying, has_named, left_group, begun_group, decided_group, heard_group, committed, granted, participant_answered, asks_watcher, vote_recorded, has_voted, voted_on, vote_of, watch_vote_of}
+use Rattle.sc_group_table.specs.machine.Definitions.{finished, Group, applied, ordered_by, split_group, refusal_of, ordered, frozen_of, staying, has_named, left_group, begun_group, decided_group, heard_group, vote_recorded, has_voted, voted_on, vote_of, watch_vote_of}
 use Rattle.sc_node_table.specs.Definitions.{sent, entered, order_result, effect_reported, answered_or_put_back, announced, answer_of, is_act, offer_of, asked_link, question, asked_first, ReplicaState, Place, members, forgotten, before_of, asked_on, vote_sent, watch_sent, released_to, vote_answered, watch_answered_by, begun_reported, went_on, spoken_mails, spoken}
+use Rattle.sc_law_walks.proofs.Lemmas.{vote_step, decided_walk, finish_step}
 use Rattle.sc_live_steps.specs.calm.Definitions.{AreBounded, said_place, newcomers, Ways, mail_owes}
 use Rattle.sc_live_steps.proofs.CalmProofs.PotentialSums.{sent_owes}
 use Rattle.sc_live_steps.proofs.CalmProofs.LearntEntries.{filter_short, begun_owes}
 use Rattle.sc_live_steps.proofs.CalmProofs.MemberChanges.{among_member, same_new, one_new, entered_members, ordered_members}
+use Rattle.sc_paxos_law.proofs.Lemmas.{Among-left as among_more}
 
 -- ---- whom an entry adds
 
@@ -41,12 +42,6 @@ by_members P draw why after group a g = by (has_named group.core draw) (ordered_
 pub begin_new : (tx : Draw) (body : Body) (order : ℕ) (r : ReplicaState) → length (newcomers (Begin tx body order) r) ≡ 0
 begin_new tx body order r =
     same_added (Begin tx body order) r (by_members (λ xs. xs ≡ members r) tx (refusal_of r.group.core (Begin tx body order)) (begun_group r.group tx body order) r.group refl refl)
-
--- a part of the members
-among_more : {X : Type 0} (x : X) (xs ys : List X) → Among x xs → Among x (xs ++ ys)
-among_more x [] ys a = absurd a
-among_more x (y ∷ xs) ys (inl same) = inl same
-among_more x (y ∷ xs) ys (inr a) = inr (among_more x xs ys a)
 
 among_taken : (x n : ℕ) (xs : List ℕ) → Among x (take n xs) → Among x xs
 among_taken x n xs a = subst (Among x) (take-append-drop n xs) (among_more x (take n xs) (drop n xs) a)
@@ -79,24 +74,17 @@ pub watched_new : (tx : Draw) (watch : Watch) (r : ReplicaState) → length (new
 watched_new tx watch r = same_added (Watched tx watch) r (voted_members (watch_vote_of r.group.core watch) (Watching tx watch) r.group tx)
 
 -- an outcome adds one member at most
-module _ (P : List ℕ → Type 0) (tx : Draw) (group : Group) (same : P group.core.members) (more : (node : ℕ) → P (united group.core.members (node ∷ []))) where
-  settled_by : (b : Bool) (outcome : Outcome) (after : Group) → P after.core.members → P (settled_in (cond b (Some after) None) group tx outcome).0.core.members
-  settled_by true outcome after p = p
-  settled_by false outcome after p = same
-
-  settled_members : (outcome : Outcome) (offer : Offer) → P (settled_in (participant_after outcome group offer) group tx outcome).0.core.members
-  settled_members Is.Abort offer = same
-  settled_members (Is.Merged into) offer = same
-  settled_members (Is.Moved at (Some gift)) offer = settled_by _ (Is.Moved at (Some gift)) (gained_group group offer at gift) same
-  settled_members (Is.Moved at None) offer = settled_by _ (Is.Moved at None) (lost_group group at) same
-  settled_members (Is.Migrated node) offer = settled_by _ (Is.Migrated node) (welcomed_group group node) (more node)
-  settled_members Is.Divided offer = same
-
-  finished_members : (lock : Lock) (outcome : Outcome) → P (finished lock group tx outcome).0.core.members
-  finished_members Free outcome = same
-  finished_members (Coordinating locked body order heard) outcome = same
-  finished_members (Promised locked offer) outcome = either_step (λ step. P step.0.core.members) (same_draw locked tx) _ _ (settled_members outcome offer) same
-  finished_members (Watching locked watch) outcome = either_step (λ step. P step.0.core.members) (same_draw locked tx) _ _ same same
+finished_members : (P : List ℕ → Type 0) (tx : Draw) (group : Group) → P group.core.members → ((node : ℕ) → P (united group.core.members (node ∷ []))) → (outcome : Outcome) → P (finished group.core.lock group tx outcome).0.core.members
+finished_members P tx group same more =
+    finish_step group tx (λ outcome made. P made.0.core.members) (record {
+      quiet = λ outcome. same;
+      stays = λ offer lock. same;
+      goes = λ offer lock into. same;
+      gains = λ offer lock at gift can. same;
+      loses = λ offer lock at can. same;
+      welcomes = λ offer lock node few. more node;
+      sees_end = λ watch lock outcome. same;
+    })
 
 united_one : (before : List ℕ) (node : ℕ) → length (filter (λ n. not (is_member before n)) (united before (node ∷ []))) ≤ 1
 united_one before node = by (is_member before node)
@@ -110,7 +98,7 @@ finish_new tx outcome r =
     let before = members r in
     let none = ap length (same_new before before (λ x a. among_member x before a)) in
     subst (λ (xs : List ℕ). length (filter (λ n. not (is_member before n)) xs) ≤ 1) (sym (entered_members (Finish tx outcome) r))
-    (finished_members (λ xs. length (filter (λ n. not (is_member before n)) xs) ≤ 1) tx r.group (omega (arith, none)) (λ node. united_one before node) r.group.core.lock outcome)
+    (finished_members (λ xs. length (filter (λ n. not (is_member before n)) xs) ≤ 1) tx r.group (omega (arith, none)) (λ node. united_one before node) outcome)
 
 -- ---- what is said
 
@@ -292,10 +280,6 @@ module _ (ways : Ways) where
       answers_more : (step : Group × Effect) → is_changed step.1 ≡ false → Answers (159 + 2 * ways.most) step
       answers_more step quiet more = let le = answers_quiet step quiet more in omega (arith, le)
 
-      answers_committed : (o : Option (Group × Outcome)) → Answers (159 + 2 * ways.most) (committed o r.group tx)
-      answers_committed None = answers_more (r.group, Was.NoEffect tx) refl
-      answers_committed (Some plan) = answers_more (decided_group plan.0 tx plan.1, Was.Decided plan.1) refl
-
       answers_heard : (order : ℕ) (heard : Heard) → Answers (159 + 2 * ways.most) (heard_group r.group tx At.Merge order heard, Was.Changed)
       answers_heard order heard more =
           let core = (heard_group r.group tx At.Merge order heard).core in
@@ -304,28 +288,14 @@ module _ (ways : Ways) where
           let far = bounded heard.frozen.succ.group node in
           omega (arith, s, far)
 
-      answers_granted : (body : Body) (order : ℕ) (frozen : Frozen) → Answers (159 + 2 * ways.most) (granted body r.group tx order frozen from)
-      answers_granted At.Merge order frozen =
-          either_step (Answers (159 + 2 * ways.most)) (same_draw frozen.succ.group r.group.core.id) _ _ (answers_committed (closing_plan r.group frozen)) (answers_heard order (record { frozen = frozen; by = from }))
-      answers_granted (At.Repart at) order frozen = answers_committed (repart_plan r.group at frozen)
-      answers_granted (At.Migrate node) order frozen = answers_committed (migrate_plan r.group node frozen)
-      answers_granted (At.Split at child) order frozen = answers_more (r.group, Was.NoEffect tx) refl
-
-      answers_vote : (cast : Vote) (body : Body) (order : ℕ) → Answers (159 + 2 * ways.most) (participant_answered cast body r.group tx order from)
-      answers_vote (Says.Yes frozen) body order = answers_granted body order frozen
-      answers_vote (Says.No why) body order = answers_more (decided_group r.group tx Is.Abort, Was.Decided Is.Abort) refl
-
-      answers_recorded : (lock : Lock) → Answers (159 + 2 * ways.most) (vote_recorded lock r.group tx vote from)
-      answers_recorded Free = answers_more (r.group, Was.NoEffect tx) refl
-      answers_recorded (Promised locked offer) = answers_more (r.group, Was.NoEffect tx) refl
-      answers_recorded (Watching locked watch) = answers_more (r.group, Was.NoEffect tx) refl
-      answers_recorded (Coordinating locked body order heard) =
-          let none = answers_more (r.group, Was.NoEffect tx) refl in
-          either_step (Answers (159 + 2 * ways.most)) (same_draw locked tx) _ _ (either_step (Answers (159 + 2 * ways.most)) (asks_watcher body heard) _ _ none (answers_vote vote body order)) none
+      answers_recorded : Answers (159 + 2 * ways.most) (vote_recorded r.group.core.lock r.group tx vote from)
+      answers_recorded =
+          vote_step r.group tx vote from (Answers (159 + 2 * ways.most)) (decided_walk r.group tx vote from (Answers (159 + 2 * ways.most)) (answers_more (r.group, Was.NoEffect tx) refl)
+          (λ order lock frozen votes. answers_heard order (record { frozen = frozen; by = from })) (λ body order lock after outcome stands. answers_more (decided_group after tx outcome, Was.Decided outcome) refl))
 
       pub vote_said : (mails : List Mail) → SaysMost (RecordVote tx vote from) r mails (159 + 2 * ways.most)
       unfolding went_on
-      vote_said mails = act_said (RecordVote tx vote from) r mails (159 + 2 * ways.most) refl refl (answers_recorded r.group.core.lock)
+      vote_said mails = act_said (RecordVote tx vote from) r mails (159 + 2 * ways.most) refl refl answers_recorded
 
       pub vote_quiet_said : (mails : List Mail) → is_changed (applied r.group (RecordVote tx vote from)).1 ≡ false → SaysMost (RecordVote tx vote from) r mails 31
       unfolding went_on
@@ -338,27 +308,10 @@ module _ (ways : Ways) where
       quiet_keeps : (step : Group × Effect) → is_changed step.1 ≡ false → KeepsMembers step
       quiet_keeps step quiet asks = absurd (true≢false (sym asks ∙ quiet))
 
-      committed_keeps : (o : Option (Group × Outcome)) → KeepsMembers (committed o r.group tx)
-      committed_keeps None = quiet_keeps (r.group, Was.NoEffect tx) refl
-      committed_keeps (Some plan) = quiet_keeps (decided_group plan.0 tx plan.1, Was.Decided plan.1) refl
-
-      granted_keeps : (body : Body) (order : ℕ) (frozen : Frozen) → KeepsMembers (granted body r.group tx order frozen from)
-      granted_keeps At.Merge order frozen = either_step KeepsMembers (same_draw frozen.succ.group r.group.core.id) _ _ (committed_keeps (closing_plan r.group frozen)) (λ asks. refl)
-      granted_keeps (At.Repart at) order frozen = committed_keeps (repart_plan r.group at frozen)
-      granted_keeps (At.Migrate node) order frozen = committed_keeps (migrate_plan r.group node frozen)
-      granted_keeps (At.Split at child) order frozen = quiet_keeps (r.group, Was.NoEffect tx) refl
-
-      vote_keeps : (cast : Vote) (body : Body) (order : ℕ) → KeepsMembers (participant_answered cast body r.group tx order from)
-      vote_keeps (Says.Yes frozen) body order = granted_keeps body order frozen
-      vote_keeps (Says.No why) body order = quiet_keeps (decided_group r.group tx Is.Abort, Was.Decided Is.Abort) refl
-
-      recorded_keeps : (lock : Lock) → KeepsMembers (vote_recorded lock r.group tx vote from)
-      recorded_keeps Free = quiet_keeps (r.group, Was.NoEffect tx) refl
-      recorded_keeps (Promised locked offer) = quiet_keeps (r.group, Was.NoEffect tx) refl
-      recorded_keeps (Watching locked watch) = quiet_keeps (r.group, Was.NoEffect tx) refl
-      recorded_keeps (Coordinating locked body order heard) =
-          let none = quiet_keeps (r.group, Was.NoEffect tx) refl in
-          either_step KeepsMembers (same_draw locked tx) _ _ (either_step KeepsMembers (asks_watcher body heard) _ _ none (vote_keeps vote body order)) none
+      recorded_keeps : KeepsMembers (vote_recorded r.group.core.lock r.group tx vote from)
+      recorded_keeps =
+          vote_step r.group tx vote from KeepsMembers (decided_walk r.group tx vote from KeepsMembers (quiet_keeps (r.group, Was.NoEffect tx) refl) (λ order lock frozen votes asks. refl)
+          (λ body order lock after outcome stands. quiet_keeps (decided_group after tx outcome, Was.Decided outcome) refl))
 
       pub vote_new : is_changed (applied r.group (RecordVote tx vote from)).1 ≡ true → length (newcomers (RecordVote tx vote from) r) ≡ 0
-      vote_new asks = same_added (RecordVote tx vote from) r (recorded_keeps r.group.core.lock asks)
+      vote_new asks = same_added (RecordVote tx vote from) r (recorded_keeps asks)

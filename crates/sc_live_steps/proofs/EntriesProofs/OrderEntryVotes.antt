@@ -10,7 +10,7 @@ use Rattle.sc_node_table.specs.Definitions.{entered, ReplicaState, next, members
 use Rattle.sc_words.specs.paxos.Definitions.{without_flight}
 use Rattle.sc_live_steps.specs.calm.Definitions.{IsPaid, LeavesFew, EndsAfter, newcomers, IsCounting, LeadsOn, StopsAfter, readied_at}
 use Rattle.sc_live_steps.specs.entries.LoneEntries.{IsEntry, OrderEntriesCount}
-use Rattle.sc_live_steps.proofs.EntriesProofs.MemberChanges.{join-stands, join-keeps, leave-stands, split-stands, split-keeps, vote-waits, watch-stands, finish-keeps}
+use Rattle.sc_live_steps.proofs.EntriesProofs.EntryMembers.{join-stands, join-keeps, leave-stands, split-stands, split-keeps, vote-waits, watch-stands, finish-keeps}
 use Rattle.sc_live_steps.proofs.EntriesProofs.LoneEntries.{leads_on}
 
 module _ (q : ReplicaState) (stands : q.group.core.gone ≡ None) (mine : is_member (members q) q.me ≡ true) (flights : without_flight (next q) q.leader.flights ≡ []) (alone : without_slot q.ready (next q) ≡ []) (backlog : q.backlog ≡ []) where
@@ -32,21 +32,21 @@ module _ (q : ReplicaState) (stands : q.group.core.gone ≡ None) (mine : is_mem
 
   vote_paid : (tx : Draw) (vote : Vote) (by : ℕ) → IsCounting (RecordVote tx vote by) q → (b : Bool) → is_changed (applied q.group (RecordVote tx vote by)).1 ≡ b
       → LeadsOn (RecordVote tx vote by) q ⊎ ((is_changed (applied q.group (RecordVote tx vote by)).1 ≡ false) × StopsAfter (RecordVote tx vote by) q)
-  vote_paid tx vote by c true e = (let w = vote-waits q.group q.group.core.lock tx vote by in inl (leads_if (RecordVote tx vote by) c w.0 (ap (λ l. is_member l q.me) (w.1 e) ∙ mine)))
-  vote_paid tx vote by c false e = elim (either_if (RecordVote tx vote by) c (vote-waits q.group q.group.core.lock tx vote by).0 (is_member (applied q.group (RecordVote tx vote by)).0.core.members q.me) refl) [ inl l ↦ inl l | inr s ↦ inr (e, s) ]
+  vote_paid tx vote by c true e = (let w = vote-waits q.group tx vote by in inl (leads_if (RecordVote tx vote by) c w.0 (ap (λ l. is_member l q.me) (w.1 e) ∙ mine)))
+  vote_paid tx vote by c false e = elim (either_if (RecordVote tx vote by) c (vote-waits q.group tx vote by).0 (is_member (applied q.group (RecordVote tx vote by)).0.core.members q.me) refl) [ inl l ↦ inl l | inr s ↦ inr (e, s) ]
 
   watch_paid : (tx : Draw) (by : ℕ) → IsCounting (RecordWatch tx Cast.Yes by) q
       → (is_member (applied q.group (RecordWatch tx Cast.Yes by)).0.core.members q.me ≡ true) ⊎ (((before_of q.group.core).heard ≡ None) × (length (newcomers (RecordWatch tx Cast.Yes by) q) ≡ 0))
       → LeadsOn (RecordWatch tx Cast.Yes by) q ⊎ (((before_of q.group.core).heard ≡ None) × (length (newcomers (RecordWatch tx Cast.Yes by) q) ≡ 0) × StopsAfter (RecordWatch tx Cast.Yes by) q)
-  watch_paid tx by c (inl m) = inl (leads_if (RecordWatch tx Cast.Yes by) c (watch-stands q.group q.group.core.lock tx) m)
-  watch_paid tx by c (inr n) = elim (either_if (RecordWatch tx Cast.Yes by) c (watch-stands q.group q.group.core.lock tx) (is_member (applied q.group (RecordWatch tx Cast.Yes by)).0.core.members q.me) refl) [
+  watch_paid tx by c (inl m) = inl (leads_if (RecordWatch tx Cast.Yes by) c (watch-stands q.group tx by) m)
+  watch_paid tx by c (inr n) = elim (either_if (RecordWatch tx Cast.Yes by) c (watch-stands q.group tx by) (is_member (applied q.group (RecordWatch tx Cast.Yes by)).0.core.members q.me) refl) [
     | inl l ↦ inl l
     | inr s ↦ inr (n.0, n.1, s)
   ]
 
   finish_paid : (tx : Draw) (outcome : Outcome) → IsCounting (Finish tx outcome) q → (o : Option Route) → (applied q.group (Finish tx outcome)).0.core.gone ≡ o → LeadsOn (Finish tx outcome) q ⊎ EndsAfter (Finish tx outcome) q
   unfolding entered forgotten
-  finish_paid tx outcome c None e = inl (record { counting = c; stands = e; stays = finish-keeps q.group q.group.core.lock tx outcome q.me mine })
+  finish_paid tx outcome c None e = inl (record { counting = c; stands = e; stays = finish-keeps q.group tx outcome q.me mine })
   finish_paid tx outcome c (Some into) e = inr (record { counting = c; into = into; goes = e; flights = flights; alone = alone })
 
   entry_paid : (command : Command) → IsCounting command q → LeavesFew command q → IsEntry command q → IsPaid command q

@@ -37,6 +37,13 @@ landed_is slot command r mails = by (flying r slot)
     by None = refl
     by (Some other) = refl
 
+-- so lands a place that was told of an entry
+pub landed_told : (before : List ℕ) (slot : ℕ) (command : Command) (r : ReplicaState) (mails : List Mail) → landed true slot command (welcomed true before (learnt_to true before slot command (r, mails)))
+    ≡ (record r { leader = without_flight_at slot r.leader; ready = without_slot r.ready slot }, (welcomed true before (learnt_to true before slot command (r, mails))).1)
+landed_told before slot command r mails =
+    let after : List Mail = (welcomed true before (learnt_to true before slot command (r, mails))).1 in
+    ap (λ (q : ReplicaState). landed true slot command (q, after)) (told_state before slot command r mails) ∙ landed_is slot command r after
+
 -- what an entry leaves
 pub entered_keeps : (command : Command) (r : ReplicaState) → ((entered command r).running ≡ r.running) × ((entered command r).leader ≡ r.leader) × ((entered command r).ready ≡ r.ready) × ((entered command r).me ≡ r.me)
 unfolding entered forgotten
@@ -110,9 +117,6 @@ module _ (at : Sets) (course : Course) (command : Command) (r : ReplicaState) (m
         ap (λ l. record here { leader = without_flight_at (next r) l; ready = without_slot (entered command r).ready (next r) }) (entered_keeps command r).1
         ∙ ap (λ es. record here { leader = without_flight_at (next r) r.leader; ready = without_slot es (next r) }) (entered_keeps command r).2
 
-    landed_there : landed true (next r) command told ≡ (over, told.1)
-    landed_there = ap (λ (q : ReplicaState). landed true (next r) command (q, told.1)) (told_state (members r) (next r) command here more) ∙ landed_is (next r) command here told.1
-
     goes_on : (entered command r).group.core.gone ≡ None → is_member (members (entered command r)) (entered command r).me ≡ true → LeadsPast at course command (r, mails) (over, told.1)
     goes_on stands stays = record {
       sends = tells;
@@ -137,7 +141,7 @@ module _ (at : Sets) (course : Course) (command : Command) (r : ReplicaState) (m
 
     past : LeadsPast at course command (r, mails) (looked (left (landed true (next r) command told)))
     past =
-        subst (λ (p : Place). LeadsPast at course command (r, mails) (looked (left p))) (sym landed_there)
+        subst (λ (p : Place). LeadsPast at course command (r, mails) (looked (left p))) (sym (landed_told (members r) (next r) command here more))
         (ends (LeadsPast at course command (r, mails)) over told.1 ((entered_keeps command r).0 ∙ led.running) is_next.roster goes_on ends_off)
 
   -- what follows once clients and the desk have their answers

@@ -6,6 +6,7 @@ use Rattle.std.proofs.lemmas.List.Sums.{sum_by-cons}
 use Rattle.sc_base.specs.Definitions.{votes_of, is_majority, is_member, with_member, IsRoster}
 use Rattle.sc_base.proofs.Lemmas.{length_with as with_one}
 use Rattle.sc_words.specs.paxos.Definitions.{kept_voters, add_voter, voters_after}
+use Rattle.sc_paxos_law.proofs.Among.{count_by-le as more_pass}
 
 -- ---- a set with one more
 
@@ -47,17 +48,6 @@ none b f = ap (λ c. cond {A = ℕ} c 1 0) f
 
 head : (p : ℕ → Bool) (y : ℕ) (xs : List ℕ) → count_by p (y ∷ xs) ≡ cond (p y) 1 0 + count_by p xs
 head p y xs = sum_by-cons (λ z. cond (p z) 1 0) y xs
-
-more_pass : (p q : ℕ → Bool) (xs : List ℕ) → ((y : ℕ) → p y ≡ true → q y ≡ true) → count_by p xs ≤ count_by q xs
-more_pass p q [] f = omega arith
-more_pass p q (y ∷ xs) f =
-    let c = head p y xs in
-    let d = head q y xs in
-    let rest = more_pass p q xs f in
-    elim (cases_Bool (p y)) [
-      | inl t ↦ (let a = one (p y) t in let b = one (q y) (f y t) in omega (arith, c, d, rest, a, b))
-      | inr n ↦ (let a = none (p y) n in omega (arith, c, d, rest, a))
-    ]
 
 -- where one more element passes, the count is higher by one at least
 one_more : (p q : ℕ → Bool) (x : ℕ) (xs : List ℕ) → ((y : ℕ) → p y ≡ true → q y ≡ true) → p x ≡ false → q x ≡ true → is_member xs x ≡ true → count_by p xs + 1 ≤ count_by q xs

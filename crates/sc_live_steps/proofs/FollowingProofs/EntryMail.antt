@@ -1,8 +1,7 @@
 -- What a leader sends of an entry that it counted: the members before it learn it, and those that join are welcomed.
 use Rattle.std.proofs.Common.{◌≡◌, ℕ, ◌+◌, ◌-◌, ◌<◌, ◌||◌, Some, not, eqb, Bool, true, false, true≢false, cond, List, [], ◌∷◌, ◌++◌, inl, inr, refl, sym, ◌∙◌, ap, arith, append-nil}
-use Rattle.std.specs.List.{All, AllPairs, filter}
+use Rattle.std.specs.List.{AllPairs, filter}
 use Rattle.std.proofs.lemmas.Bool.{cases_Bool, cases_eq, cond_both, cond-true, cond-false, eqb-true, eq-eqb, ne_eqb, or_left, or_from, not_from_true, not_from_false}
-use Rattle.std.proofs.lemmas.List.Elements.{All-head, All-tail}
 use Rattle.std.proofs.lemmas.List.Kept.{AllPairs-filter, AllPairs-from_increasing}
 use Rattle.sc_node_table.specs.Values.{Draw, Command, Mail, MailBody, Learn, Install, Prepare}
 use Rattle.sc_group_table.specs.machine.Definitions.{base_of}
@@ -12,6 +11,7 @@ use Rattle.sc_node_table.specs.Definitions.{learnt_to, welcomed, install_to, wel
 use Rattle.sc_live_steps.specs.following.Definitions.{Mark, Tells, Installs, Prepares, mark_of, Course, Sets, members_at, marks_for, IsLeader, EntriesReport, welcome, reported_of}
 use Rattle.sc_live_steps.proofs.FollowingProofs.LeastMembers.{append_one, pushed}
 use Rattle.sc_live_steps.proofs.FollowingProofs.MailTables.{same_mark}
+use Rattle.sc_law_walks.proofs.Lemmas.{none_below}
 
 -- ---- several nodes, each once
 
@@ -19,11 +19,6 @@ use Rattle.sc_live_steps.proofs.FollowingProofs.MailTables.{same_mark}
 abbrev pub blocks : List Mark → ℕ → List ℕ → List Mark
 blocks marks who [] = []
 blocks marks who (node ∷ nodes) = cond (eqb node who) marks [] ++ blocks marks who nodes
-
-none_below : (x : ℕ) (xs : List ℕ) → All (λ y. x < y) xs → is_member xs x ≡ false
-none_below x [] all = refl
-none_below x (y ∷ xs) all =
-    or_from (eqb y x) (is_member xs x) (ne_eqb y x (λ e. (let lt = All-head (λ z. x < z) y xs all in omega (arith, lt, e)))) (none_below x xs (All-tail (λ z. x < z) y xs all))
 
 once : (marks : List Mark) (who : ℕ) (nodes : List ℕ) → AllPairs (λ x y. x < y) nodes → blocks marks who nodes ≡ cond (is_member nodes who) marks []
 once marks who [] up = refl

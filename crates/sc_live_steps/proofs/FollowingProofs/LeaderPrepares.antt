@@ -14,7 +14,7 @@ use Rattle.sc_law_walks.specs.Definitions.{IfThere}
 use Rattle.sc_law_walks.proofs.Lemmas.{idle_ready}
 use Rattle.sc_live_steps.specs.following.Definitions.{Dated, marks_in, from_slot_of, dated_of, dated_for, AreLow, IsNoPrepare, AsksLow, RowsAskNext, Mark, Asks, Tells, Installs, Prepares, mark_of, reached, Course, Sets, IsLed, IsNext, AreNext, marks_for}
 use Rattle.sc_live_steps.proofs.FollowingProofs.QueueingRows.{aside_is, order_is}
-use Rattle.sc_live_steps.proofs.FollowingProofs.CountedEntries.{entered_keeps, landed_is, told_state, ends, entries_lead}
+use Rattle.sc_live_steps.proofs.FollowingProofs.CountedEntries.{entered_keeps, landed_told, ends, entries_lead}
 use Rattle.sc_live_steps.proofs.FollowingProofs.PrepareSlots.{low-append, none_low, nothing, prepares_are_known}
 use Rattle.sc_live_steps.proofs.FollowingProofs.EntryMail.{with_state, with_both}
 use Rattle.sc_live_steps.proofs.FollowingProofs.ExecutedEntries.{stays_led, ready_of}
@@ -201,12 +201,9 @@ module _ (name : Draw) where
       unfolding welcomed learnt_to
       low_told = low_welcome here (filter (λ node. not (is_member (members r) node)) (members here)) _ (low_others here.me (Learn (name_of here) (next r) command) (named_unasked (name_of here) (Tells (next r)) tt) (members r) more g)
 
-      landed_there : landed true (next r) command told ≡ (over, told.1)
-      landed_there = ap (λ (q : ReplicaState). landed true (next r) command (q, told.1)) (told_state (members r) (next r) command here more) ∙ landed_is (next r) command here told.1
-
       low_past : Low (looked (left (landed true (next r) command told))).1
       low_past =
-          subst (λ (p : Place). Low (looked (left p)).1) (sym landed_there)
+          subst (λ (p : Place). Low (looked (left p)).1) (sym (landed_told (members r) (next r) command here more))
           (ends (λ p. Low p.1) over told.1 ((entered_keeps command r).0 ∙ led.running) is_next.roster (λ stands stays. low_told) (λ why hint answer. ended_kept name Keeps (λ _ h. h) (λ a b c one other h. other (one h)) keep hint answer over told.1 low_told))
 
     pub low_entry : Low (executed_one true command (r, mails)).1

@@ -1,5 +1,5 @@
 -- What a leader's table does by what it counts, executes and offers is a leader's row.
-use Rattle.std.proofs.Common.{◌≡◌, ℕ, ◌+◌, ◌<◌, ◌≤◌, ◌||◌, not, eqb, ltb, Bool, true, false, true≢false, cond, List, [], ◌∷◌, ◌++◌, Option, Some, None, ◌⊎◌, inl, inr, refl, sym, ◌∙◌, ap, subst, arith}
+use Rattle.std.proofs.Common.{◌≡◌, ℕ, ◌+◌, ◌<◌, ◌≤◌, ◌||◌, not, eqb, ltb, Bool, true, false, true≢false, cond, List, [], ◌++◌, Option, Some, None, ◌⊎◌, inl, inr, refl, sym, ◌∙◌, ap, subst, arith}
 use Rattle.std.specs.Prelude.{is_some}
 use Rattle.std.specs.Option.{option_map}
 use Rattle.std.proofs.lemmas.Bool.{cases_lt, cond-true, cond-false, eqb-true, eq-eqb, le-ltb, lt-ltb, or_parts, or_from}
@@ -11,6 +11,7 @@ use Rattle.sc_node_table.specs.Definitions.{ReplicaState, Place, listed, name_of
 use Rattle.sc_live_steps.specs.following.Definitions.{Mark, Asks, Promises, Course, Progress, Sets, IsInFlight, members_at, IsLed, IsStill, IsStopped, LeadsBy, voters_of, IsPolled, IsLeadOf, progress_by, LeadsInto, StopsAlone, marks_for, to_bound, IsCount, IsElsewhere, IsOffer, IsOffered, IsCounted, IsKept, Leads, told_from}
 use Rattle.sc_live_steps.proofs.FollowingProofs.LeastMembers.{none_decided}
 use Rattle.sc_live_steps.proofs.FollowingProofs.Marks.{among-right}
+pub use Rattle.sc_law_walks.proofs.Lemmas.{none_there}
 
 -- ---- the votes for what is in flight
 
@@ -22,10 +23,6 @@ pub record Flies (r : ReplicaState) (slot : ℕ) (voters : List ℕ) : Type 0 wh
   pub flight : Flight Command
   pub found : flight_at slot r.leader.flights ≡ Some flight
   pub votes : kept_voters flight.voters ≡ voters
-
-pub none_there : {X : Type 0} (o : Option X) → is_some o ≡ false → o ≡ None
-none_there None e = refl
-none_there (Some x) e = absurd (true≢false e)
 
 some_there : {X : Type 0} (x y : X) → Some x ≡ Some y → x ≡ y
 some_there x y e = cc

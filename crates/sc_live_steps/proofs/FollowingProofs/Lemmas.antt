@@ -3,7 +3,7 @@ pub use Rattle.sc_live_steps.proofs.FollowingProofs.StoppingLeaders.{acts_stop_a
 pub use Rattle.sc_live_steps.proofs.FollowingProofs.QueueingRows.{rows_lead, aside_is, order_is}
 pub use Rattle.sc_live_steps.proofs.FollowingProofs.LeaderPrepares.{rows_ask_next}
 pub use Rattle.sc_live_steps.proofs.FollowingProofs.FirstLeaders.{leaders_begin}
-pub use Rattle.sc_live_steps.proofs.FollowingProofs.CountedEntries.{entries_lead, told_state, landed_is, entered_keeps, ends}
+pub use Rattle.sc_live_steps.proofs.FollowingProofs.CountedEntries.{entries_lead, told_state, landed_is, landed_told, entered_keeps, ends}
 pub use Rattle.sc_live_steps.proofs.FollowingProofs.PrepareSlots.{slots_are_kept, prepares_are_known, nothing}
 pub use Rattle.sc_live_steps.proofs.FollowingProofs.ElectionPrepares.{elections_ask_next}
 pub use Rattle.sc_live_steps.proofs.FollowingProofs.LeastMembers.{tables_elect}

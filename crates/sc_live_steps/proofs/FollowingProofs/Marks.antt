@@ -7,22 +7,9 @@ use Rattle.sc_node_table.specs.Definitions.{listed, slots_ahead}
 use Rattle.sc_words.specs.paxos.Definitions.{IsAtLeast}
 use Rattle.sc_words.proofs.PaxosProofs.Lemmas.{at_least_itself, Each-append, Each-weaker}
 use Rattle.sc_live_steps.specs.following.Definitions.{Mark, Asks, Votes, Tells, Installs, Prepares, Promises, next_by, promise_by, reached, pledged, IsFit, AreFit, IsNoAsk, AreAskedFirst, Course, Sets, members_at, IsKnown, IsCount, IsOffer, welcome, reported_of, told_from}
+pub use Rattle.sc_paxos_law.proofs.Lemmas.{Among-left as among-left, Among-right as among-right, Among-either as among-either}
 
 -- ---- what stands in lists
-
-pub among-left : {X : Type 0} (x : X) (xs ys : List X) → Among x xs → Among x (xs ++ ys)
-among-left x [] ys a = absurd a
-among-left x (y ∷ xs) ys (inl e) = inl e
-among-left x (y ∷ xs) ys (inr a) = inr (among-left x xs ys a)
-
-pub among-right : {X : Type 0} (x : X) (xs ys : List X) → Among x ys → Among x (xs ++ ys)
-among-right x [] ys a = a
-among-right x (y ∷ xs) ys a = inr (among-right x xs ys a)
-
-pub among-either : {X : Type 0} (x : X) (xs ys : List X) → Among x (xs ++ ys) → Among x xs ⊎ Among x ys
-among-either x [] ys a = inr a
-among-either x (y ∷ xs) ys (inl e) = inl (inl e)
-among-either x (y ∷ xs) ys (inr a) = elim (among-either x xs ys a) [ inl b ↦ inl (inr b) | inr b ↦ inr b ]
 
 pub among-listed : (mark : Mark) (taken : Option Mark) → Among mark (listed taken) → taken ≡ Some mark
 among-listed mark None a = absurd a

@@ -17,9 +17,6 @@ module _ (at : Sets) (now after : Progress) (node : ℕ) (taken : Option Mark) (
   abbrev lead : ℕ
   lead = now.course.ballot.node
 
-  each : (P : Mark → Type 0) (who : ℕ) → Each P (marks who) → Each P (sent who) → Each P (marks_after who)
-  each P who = each-row now after node taken sent marks marks_after row P who
-
   order_row : (who : ℕ) → Each (Behind (sent who)) (marks who) → ArePromisedLast (sent who) → ArePromisedLast (marks_after who)
   order_row who behind g = elim (cases_eq who node) [
     | inl is ↦ (let behind_node = subst (λ n. Each (Behind (sent n)) (marks n)) is behind in
@@ -75,12 +72,12 @@ module _ (at : Sets) (now after : Progress) (node : ℕ) (taken : Option Mark) (
 
     pub takes_own : IsOwnFirst after marks_after
     takes_own = subst (λ c. IsOwnFirst (record { next = after.next; promise = after.promise; course = c }) marks_after) (sym t.course) (record {
-      home = λ who. each (IsHome now.course who) who (o.home who) (subst (Each (IsHome now.course who)) (sym (t.sends who)) (home_of t.mark (now.promise node) who known));
+      home = λ who. each-row now after node taken sent marks marks_after row (IsHome now.course who) who (o.home who) (subst (Each (IsHome now.course who)) (sym (t.sends who)) (home_of t.mark (now.promise node) who known));
       order = λ who. order_row who (each_all (Behind (sent who)) (behind_none (sent who) (nones who)) (marks who)) (promised_none (sent who) (nones who));
-      own = λ r who c. each IsNoPrepare lead (o.own r who c) (nones lead);
+      own = λ r who c. each-row now after node taken sent marks marks_after row IsNoPrepare lead (o.own r who c) (nones lead);
       some = o.some;
-      first = λ r f. each IsNoPrepare lead (o.first r f) (nones lead);
-      only = λ r. each (IsOwnPrepare now.course.ballot) lead (o.only r) (Each-weaker IsNoPrepare (IsOwnPrepare now.course.ballot) (none_own now.course.ballot) (sent lead) (nones lead));
+      first = λ r f. each-row now after node taken sent marks marks_after row IsNoPrepare lead (o.first r f) (nones lead);
+      only = λ r. each-row now after node taken sent marks marks_after row (IsOwnPrepare now.course.ballot) lead (o.only r) (Each-weaker IsNoPrepare (IsOwnPrepare now.course.ballot) (none_own now.course.ballot) (sent lead) (nones lead));
       stop = stop_row;
     })
 
@@ -107,12 +104,12 @@ module _ (at : Sets) (now after : Progress) (node : ℕ) (taken : Option Mark) (
     ]) (no_promised (sent who) (sent_each IsNoPromise (λ _. tt) (λ _. tt) tt (λ _ _. tt) who))
 
     home_then : (who : ℕ) → Each (IsHome now.course who) (marks_after who)
-    home_then who = each (IsHome now.course who) who (o.home who) (sent_each (IsHome now.course who) (λ _. tt) (λ _. tt) tt (λ _ _. tt) who)
+    home_then who = each-row now after node taken sent marks marks_after row (IsHome now.course who) who (o.home who) (sent_each (IsHome now.course who) (λ _. tt) (λ _. tt) tt (λ _ _. tt) who)
 
     -- once a promise is counted
     own_then : after.course.runs ≡ true → (who : ℕ) → after.course.counted who ≡ true → Each IsNoPrepare (marks_after lead)
     own_then r who counted = elim (c.grown r who counted) [
-      | inl before ↦ each IsNoPrepare lead (o.own l.runs who before) own_none
+      | inl before ↦ each-row now after node taken sent marks marks_after row IsNoPrepare lead (o.own l.runs who before) own_none
       | inr takes ↦ (let here : marks node ≡ Promises who now.course.ballot ∷ row.left = row.takes ∙ ap (λ x. listed x ++ row.left) takes in
           let others = (subst ArePromisedLast here (o.order node)).0 in
           let only = (subst (Each (IsOwnPrepare now.course.ballot)) here (subst (λ n. Each (IsOwnPrepare now.course.ballot) (marks n)) (sym l.mine) (o.only l.runs))).1 in
@@ -146,9 +143,9 @@ module _ (at : Sets) (now after : Progress) (node : ℕ) (taken : Option Mark) (
       order = order_then;
       own = λ r who counted. at_lead (Each IsNoPrepare) (own_then r who counted);
       some = c.some;
-      first = λ r f. at_lead (Each IsNoPrepare) (each IsNoPrepare lead (o.first l.runs (sym l.first ∙ f)) own_none);
+      first = λ r f. at_lead (Each IsNoPrepare) (each-row now after node taken sent marks marks_after row IsNoPrepare lead (o.first l.runs (sym l.first ∙ f)) own_none);
       only = λ r. subst (λ (b : Ballot). Each (IsOwnPrepare b) (marks_after b.node)) (sym l.ballot)
-          (each (IsOwnPrepare now.course.ballot) lead (o.only l.runs) (Each-weaker IsNoPrepare (IsOwnPrepare now.course.ballot) (none_own now.course.ballot) (sent lead) own_none));
+          (each-row now after node taken sent marks marks_after row (IsOwnPrepare now.course.ballot) lead (o.only l.runs) (Each-weaker IsNoPrepare (IsOwnPrepare now.course.ballot) (none_own now.course.ballot) (sent lead) own_none));
       stop = stop_then;
     }
 
@@ -178,7 +175,7 @@ module _ (at : Sets) (now after : Progress) (node : ℕ) (taken : Option Mark) (
 
     pub elects_own : IsOwnFirst after marks_after
     elects_own = record {
-      home = λ who. each (IsHome after.course who) who (Each-weaker (IsHome now.course who) (IsHome after.course who) (later_home who) (marks who) (o.home who)) (asks_each (IsHome after.course who) tt who);
+      home = λ who. each-row now after node taken sent marks marks_after row (IsHome after.course who) who (Each-weaker (IsHome now.course who) (IsHome after.course who) (later_home who) (marks who) (o.home who)) (asks_each (IsHome after.course who) tt who);
       order = λ who. order_row who (Each-weaker (IsHome now.course who) (Behind (sent who)) (behind_asked who) (marks who) (o.home who)) (no_promised (sent who) (asks_each IsNoPromise tt who));
       own = λ r who counted. absurd (true≢false (sym counted ∙ c.none who));
       some = λ r later_ below_. absurd (let n = e.newest in let b = e.bound in let same = was.offered e.idle in omega (arith, n, b, same, below_));

@@ -127,17 +127,18 @@ slots_are_kept = record {
 
 -- ---- what follows
 
+-- dated marks, without their slots
+pub marks_all : (name : Draw) (mails : List Mail) → marks_in (dated_of name mails) ≡ marks_of name mails
+marks_all name [] = refl
+marks_all name (mail ∷ mails) = by (mark_of name mail.from mail.body) (marks_all name mails)
+  where
+    by : (o : Option Mark) → marks_in (dated_of name mails) ≡ marks_of name mails → marks_in (listed (option_map (λ mark. (mark, from_slot_of mail.body)) o) ++ dated_of name mails) ≡ listed o ++ marks_of name mails
+    by None rest = rest
+    by (Some mark) rest = ap (λ l. mark ∷ l) rest
+
 -- So an acceptor that has forgotten nothing from its next slot on is asked from above what it has forgotten.
 pub prepares_are_known : PreparesAreKnown
 prepares_are_known = record {
   above = λ now dated node ballot from_slot rest r was is same low. (let least = (subst (AreLow (now.next node)) is (was node)).0 in omega (arith, least, same, low));
-  same = λ name who mails. all name (filter (λ mail. eqb mail.to who) mails);
+  same = λ name who mails. marks_all name (filter (λ mail. eqb mail.to who) mails);
 }
-  where
-    all : (name : Draw) (mails : List Mail) → marks_in (dated_of name mails) ≡ marks_of name mails
-    all name [] = refl
-    all name (mail ∷ mails) = by (mark_of name mail.from mail.body) (all name mails)
-      where
-        by : (o : Option Mark) → marks_in (dated_of name mails) ≡ marks_of name mails → marks_in (listed (option_map (λ mark. (mark, from_slot_of mail.body)) o) ++ dated_of name mails) ≡ listed o ++ marks_of name mails
-        by None rest = rest
-        by (Some mark) rest = ap (λ l. mark ∷ l) rest

@@ -1,10 +1,7 @@
 -- A leader stops by what is offered alone, and so has executed all that it offered.
-use Rattle.std.proofs.Common.{◌≡◌, ℕ, ◌+◌, ◌≤◌, eqb, ltb, true, false, true≢false, List, [], ◌∷◌, Option, Some, None, inl, inr, refl, sym, ◌∙◌, ap, subst, arith}
-use Rattle.std.specs.FinMap.{get}
-use Rattle.std.proofs.lemmas.Bool.{cond_both}
-use Rattle.sc_node_table.specs.Values.{Noted, Op, Command, Noop, Call, Core, Lock, Free, Coordinating, Promised, Watching, Effect, Route}
-use Rattle.sc_words.specs.ideal.Definitions.{key_of, holds_key}
-use Rattle.sc_group_table.specs.machine.Definitions.{Group, served_by_note, served, called, applied}
+use Rattle.std.proofs.Common.{◌≡◌, ℕ, ◌+◌, ◌≤◌, true, false, true≢false, List, [], ◌∷◌, Option, Some, None, inl, inr, refl, sym, ◌∙◌, ap, subst, arith}
+use Rattle.sc_node_table.specs.Values.{Command, Noop, Call, Core}
+use Rattle.sc_group_table.specs.machine.Definitions.{applied}
 use Rattle.sc_base.specs.Definitions.{is_member}
 use Rattle.sc_node_table.specs.Definitions.{entered, executed_one, next_child, next_ready, ending, executed_ready, executed, is_act, pumped, ReplicaState, Place, Executed, childless, next, forgotten, mailed, at_slot}
 use Rattle.sc_law_walks.specs.Definitions.{IfThere}
@@ -16,22 +13,9 @@ use Rattle.sc_live_steps.proofs.FollowingProofs.FlightSlots.{slot_out}
 use Rattle.sc_live_steps.proofs.FollowingProofs.LeaderTables.{none_taken}
 use Rattle.sc_live_steps.proofs.FollowingProofs.Offers.{pumps_offer}
 use Rattle.sc_live_steps.proofs.FollowingProofs.LeaderVotes.{vote_row}
+pub use Rattle.sc_law_walks.proofs.CoreWalks.{noted_core as note_core, served_core, called_core}
 
 -- ---- calls and fillers leave a group's core as it is
-
-pub note_core : (o : Option Noted) (group : Group) (client seq : ℕ) (op : Op) → (served_by_note o group client seq op).0.core ≡ group.core
-note_core None group client seq op = refl
-note_core (Some noted) group client seq op = cond_both (ltb noted.seq seq) _ _ (λ (s : Group × Effect). s.0.core ≡ group.core) (λ _. refl) (λ _. cond_both (eqb noted.seq seq) _ _ (λ (s : Group × Effect). s.0.core ≡ group.core) (λ _. refl) (λ _. refl))
-
-pub served_core : (group : Group) (client seq : ℕ) (op : Op) → (served group client seq op).0.core ≡ group.core
-served_core group client seq op = cond_both (holds_key group.core.arc (key_of op)) _ _ (λ (s : Group × Effect). s.0.core ≡ group.core) (λ _. note_core (get group.clients client) group client seq op) (λ _. refl)
-
-pub called_core : (gone : Option Route) (lock : Lock) (group : Group) (client seq : ℕ) (op : Op) → (called gone lock group client seq op).0.core ≡ group.core
-called_core (Some into) lock group client seq op = refl
-called_core None Free group client seq op = served_core group client seq op
-called_core None (Watching tx watch) group client seq op = served_core group client seq op
-called_core None (Coordinating tx body order heard) group client seq op = refl
-called_core None (Promised tx offer) group client seq op = refl
 
 pub entered_core : (command : Command) (r : ReplicaState) → (entered command r).group.core ≡ (applied r.group command).0.core
 unfolding entered forgotten

@@ -159,28 +159,32 @@ works_more (first ∷ commands) command = ap (λ l. listed (work_by first) ++ l)
 
 -- ---- what a leader takes
 
-module _ (act : Command) (work : Work) (r : ReplicaState) (is : work_by act ≡ Some work) (may : MayFile r) where
-  acts_none : works_in r.acts ≡ []
+module _ (r : ReplicaState) (may : MayFile r) where
+  pub acts_none : works_in r.acts ≡ []
   acts_none = left_none (works_in r.acts) (works_in r.backlog ++ (works_flying r.leader.flights ++ works_ready r.ready)) may.idle
 
   rest_none : works_in r.backlog ++ (works_flying r.leader.flights ++ works_ready r.ready) ≡ []
   rest_none = right_none (works_in r.acts) (works_in r.backlog ++ (works_flying r.leader.flights ++ works_ready r.ready)) may.idle
 
-  under_none : works_flying r.leader.flights ++ works_ready r.ready ≡ []
+  pub calls_none : works_in r.backlog ≡ []
+  calls_none = left_none (works_in r.backlog) (works_flying r.leader.flights ++ works_ready r.ready) rest_none
+
+  pub under_none : works_flying r.leader.flights ++ works_ready r.ready ≡ []
   under_none = right_none (works_in r.backlog) (works_flying r.leader.flights ++ works_ready r.ready) rest_none
 
+module _ (act : Command) (work : Work) (r : ReplicaState) (is : work_by act ≡ Some work) (may : MayFile r) where
   none_of_kind : has_act act r ≡ false
   none_of_kind =
-      ap (λ b. b || list_any (is_of_kind act) (under_way r)) (idle_kind act r.acts acts_none)
-      ∙ taken_kinds act r (left_none (works_flying r.leader.flights) (works_ready r.ready) under_none) (right_none (works_flying r.leader.flights) (works_ready r.ready) under_none) (open_slots r)
+      ap (λ b. b || list_any (is_of_kind act) (under_way r)) (idle_kind act r.acts (acts_none r may))
+      ∙ taken_kinds act r (left_none (works_flying r.leader.flights) (works_ready r.ready) (under_none r may)) (right_none (works_flying r.leader.flights) (works_ready r.ready) (under_none r may)) (open_slots r)
 
   abbrev filed : ReplicaState
   filed = record r { acts = r.acts ++ act ∷ [] }
 
   filed_work : works filed ≡ work ∷ []
   filed_work =
-      ap (λ l. l ++ (works_in r.backlog ++ (works_flying r.leader.flights ++ works_ready r.ready))) (works_more r.acts act ∙ (ap (λ l. l ++ listed (work_by act)) acts_none ∙ ap listed is))
-      ∙ ap (λ l. work ∷ l) rest_none
+      ap (λ l. l ++ (works_in r.backlog ++ (works_flying r.leader.flights ++ works_ready r.ready))) (works_more r.acts act ∙ (ap (λ l. l ++ listed (work_by act)) (acts_none r may) ∙ ap listed is))
+      ∙ ap (λ l. work ∷ l) (rest_none r may)
 
   pub queued-files : Works (work ∷ []) [] r (act_queued act (r, []))
   unfolding act_queued

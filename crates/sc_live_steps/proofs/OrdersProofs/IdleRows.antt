@@ -6,12 +6,12 @@ use Rattle.sc_base.specs.Definitions.{same_ballot, is_member, least_of}
 use Rattle.sc_node_table.specs.Values.{Ballot, Draw, Command, Noop, Base, Effect, Route, OrderResult, AnswerBody, Mail, Accept, Ask, Install, Learn, Nack, Prepare, Promise, AcceptAnswer, PrepareAnswer, Flight, Report}
 use Rattle.sc_mail.specs.declared.bodies.AnswerBody.TheVariants as Says
 use Rattle.sc_group_table.specs.machine.Definitions.{applied}
-use Rattle.sc_node_table.specs.Definitions.{saw, ended, stopped, elected, open_nodes, entered, announced, order_result, effect_reported, learnt_to, welcomed, slot_lost, landed, left_gone, left, is_among, looked_for, looked, executed_one, executed_ready, executed, install_to, jumped, sent, sent_all, answered_all, order_number, pumped, ReplicaState, Place, Executed, childless, name_of, next, members, flying, under_way, forgotten, last_slot, listed, mailed, learn_row, looked_up, took_over, install_row, without_slot, before_of, spoken, spoken_mails, leads, promise_row, hinted, promise_to, promised, prepare_row, accepted_to, took, accept_row, nack_row}
+use Rattle.sc_node_table.specs.Definitions.{saw, ended, stopped, elected, open_nodes, entered, announced, order_result, effect_reported, learnt_to, welcomed, slot_lost, landed, left_gone, left, is_among, looked_for, looked, executed_one, executed, install_to, jumped, sent, sent_all, answered_all, order_number, pumped, ReplicaState, Place, Executed, childless, name_of, next, members, flying, under_way, forgotten, last_slot, listed, mailed, learn_row, looked_up, took_over, install_row, without_slot, before_of, spoken, spoken_mails, leads, promise_row, hinted, promise_to, promised, prepare_row, accepted_to, took, accept_row, nack_row}
 use Rattle.sc_words.specs.declared.paxos.answers.AcceptAnswer.TheVariants as Asked
 use Rattle.sc_words.specs.declared.paxos.answers.Must.TheVariants.{Free as Open}
 use Rattle.sc_words.specs.declared.paxos.answers.PrepareAnswer.TheVariants as Prepared
 use Rattle.sc_words.specs.paxos.Definitions.{accepted as accepted_by, AcceptorState, below, chosen_value, names_above, LeaderState, must, must_without, flight_at, new_leader, without_flight, without_flight_at, prepared}
-use Rattle.sc_law_walks.proofs.Lemmas.{idle_pump}
+use Rattle.sc_law_walks.proofs.Lemmas.{idle_pump, none_ready as ready_still}
 use Rattle.sc_law_walks.specs.Definitions.{GoesOn}
 use Rattle.sc_live_steps.specs.orders.Definitions.{Work, works_in, works_flying, works_ready, works, errands_for, IsUnbound, Works, IsIdle, Rested, TablesRest, PromisesKeepWork}
 use Rattle.sc_live_steps.proofs.OrdersProofs.Errands.{errands-none, errands-all}
@@ -241,11 +241,6 @@ module _ (command : Command) (r : ReplicaState) (idle : IsIdle r) where
       let place4 : Place = welcomed false (members r) place3 in let s4 = welcomed_still place3.0 place3.1 s3 in
       let place5 : Place = landed false (next r) command place4 in let s5 = landed_still place4.0 place4.1 s4 in
       let place6 : Place = left place5 in let s6 = left_still place5.0 place5.1 s5 in looked_still place6.0 place6.1 s6)
-
-  ready_still : (place : Place) (ready : List (ℕ × Command)) → ready ≡ [] → executed_ready ready place ≡ childless place
-  unfolding executed_ready
-  ready_still place [] e = refl
-  ready_still place (entry ∷ ready) e = cc
 
   still_work : (q : ReplicaState) (mails : List Mail) → IsStill q mails → works q ≡ []
   still_work q mails s = ap (λ l. l ++ (works_in q.backlog ++ (works_flying q.leader.flights ++ works_ready q.ready))) s.acts

@@ -5,12 +5,12 @@ use Rattle.sc_base.specs.Definitions.{client_actor, is_member, least_of}
 use Rattle.sc_node_table.specs.Values.{Draw, Command, Noop, Call, Join, Leave, Split, Begin, Prepared, RecordVote, GiveUp, Finish, Watched, RecordWatch, Effect, Route, OrderResult, AnswerBody, Mail, MailBody, Answer, Prepare, Learn, Told}
 use Rattle.sc_mail.specs.declared.bodies.AnswerBody.TheVariants as Says
 use Rattle.sc_group_table.specs.machine.Definitions.{Group, applied}
-use Rattle.sc_node_table.specs.Definitions.{elected, ended, stopped, open_nodes, entered, answer_of, answered_or_put_back, order_result, effect_reported, announced, learnt_to, welcomed, slot_lost, landed, left_gone, left, is_among, looked_for, looked, executed_one, executed_ready, executed, install_to, asked_to_promise, welcomed_all, sent, sent_all, sent_others, answered, answered_all, dismissed, dismissed_all, order_reported, result_sent, order_number, pumped, ReplicaState, Place, Executed, childless, name_of, next, members, flying, under_way, forgotten, without_slot, before_of, begun_result, result_reported, begun_reported, went_on, spoken_mails, spoken}
+use Rattle.sc_node_table.specs.Definitions.{elected, ended, stopped, open_nodes, entered, answer_of, answered_or_put_back, order_result, effect_reported, announced, learnt_to, welcomed, slot_lost, landed, left_gone, left, is_among, looked_for, looked, executed_one, executed, install_to, asked_to_promise, welcomed_all, sent, sent_all, sent_others, answered, answered_all, dismissed, dismissed_all, order_reported, result_sent, order_number, pumped, ReplicaState, Place, Executed, name_of, next, members, flying, under_way, forgotten, without_slot, before_of, begun_result, result_reported, begun_reported, went_on, spoken_mails, spoken}
 use Rattle.sc_node_table.specs.declared.Before.{Before}
 use Rattle.sc_words.specs.declared.paxos.answers.Must.TheVariants.{Free as Open}
 use Rattle.sc_words.specs.paxos.Definitions.{must, new_leader, without_flight, without_flight_at}
 use Rattle.sc_group_table.specs.policy.Definitions.{is_reported}
-use Rattle.sc_law_walks.proofs.Lemmas.{entered_next}
+use Rattle.sc_law_walks.proofs.Lemmas.{entered_next, none_ready as ready_none}
 use Rattle.sc_live_steps.specs.orders.Definitions.{Work, work_by, works_in, works_flying, works_ready, errand_by, errands_for, IsLone, RunsAlone, EntriesRunAlone}
 use Rattle.sc_live_steps.proofs.OrdersProofs.SentErrands.{went-adds}
 use Rattle.sc_live_steps.proofs.OrdersProofs.Errands.{errands-none, errands-all}
@@ -307,12 +307,6 @@ module _ (command : Command) (work : Work) (r : ReplicaState) (lone : IsLone com
   one_done =
       (let place5 : Place = landed true (next r) command place4 in
       let d5 = landed_done place4.0 place4.1 state4 sends4 in let place6 : Place = left place5 in let d6 = left_done place5.0 place5.1 d5 in looked_done place6.0 place6.1 d6)
-
-  -- 7 and 8. nothing else is ready, and the pump finds no work
-  ready_none : (place : Place) (ready : List (ℕ × Command)) → ready ≡ [] → executed_ready ready place ≡ childless place
-  unfolding executed_ready
-  ready_none place [] e = refl
-  ready_none place (entry ∷ ready) e = cc
 
   pub runs-alone : RunsAlone command r (executed true command (r, [])).0
   unfolding executed

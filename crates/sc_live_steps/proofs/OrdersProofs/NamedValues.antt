@@ -4,6 +4,7 @@ use Rattle.sc_base.specs.Definitions.{Among, Each, same_draw}
 use Rattle.sc_node_table.specs.Values.{Draw}
 use Rattle.sc_base.proofs.Lemmas.{draw_is, same_name}
 use Rattle.sc_live_steps.specs.orders.Definitions.{Bond, Errand, Work, Here, free, IsNone, IsOnly}
+pub use Rattle.sc_paxos_law.proofs.Lemmas.{Among-left as among-left, Among-right as among-right}
 
 -- two names are the same or not
 pub cases-draw : (a b : Draw) → (a ≡ b) ⊎ (a ≡ b → ⊥)
@@ -21,15 +22,6 @@ pub here-is : (h : Here) (bond : Bond) (work : List Work) (errands : List Errand
 here-is h bond work errands b w e = ap (λ x. having x h.work h.errands) b ∙ (ap (λ x. having bond x h.errands) w ∙ ap (λ x. having bond work x) e)
 
 -- ---- elements of lists
-
-pub among-left : {X : Type 0} (x : X) (xs ys : List X) → Among x xs → Among x (xs ++ ys)
-among-left x (z ∷ xs) ys (inl e) = inl e
-among-left x (z ∷ xs) ys (inr a) = inr (among-left x xs ys a)
-among-left x [] ys a = absurd a
-
-pub among-right : {X : Type 0} (x : X) (xs ys : List X) → Among x ys → Among x (xs ++ ys)
-among-right x [] ys a = a
-among-right x (z ∷ xs) ys a = inr (among-right x xs ys a)
 
 middle_not : {X : Type 0} (xs ys : List X) (x : X) → [] ≡ xs ++ (x ∷ ys) → ⊥
 middle_not [] ys x e = absurd cc

@@ -6,7 +6,7 @@ use Rattle.sc_words.specs.declared.commands.orders.Order.TheVariants as An
 use Rattle.sc_node_table.specs.Definitions.{ordered_command, ordered_row, queued_or_refused, untaken, pumped, with_order_queued, ReplicaState, listed}
 use Rattle.sc_live_steps.specs.orders.Definitions.{Work, Changes, Opens, IsOrder, work_by, works_in, works_flying, works_ready, works, Works, MayFile, TablesOrder}
 use Rattle.sc_live_steps.proofs.OrdersProofs.Errands.{errands-none}
-use Rattle.sc_live_steps.proofs.OrdersProofs.ErrandTables.{left_none, right_none, works_more}
+use Rattle.sc_live_steps.proofs.OrdersProofs.ErrandTables.{acts_none, calls_none, under_none, works_more}
 use Rattle.sc_live_steps.proofs.OrdersProofs.Pumps.{pumps-keep}
 
 -- the work of an order
@@ -17,20 +17,8 @@ order_work name number _ = (Opens name, tt, refl)
 
 called_work : (command : Command) (work : Work) (r : ReplicaState) → work_by command ≡ Some work → MayFile r → works (with_order_queued command r) ≡ work ∷ []
 called_work command work r is may =
-    ap (λ l. l ++ (works_in (r.backlog ++ command ∷ []) ++ (works_flying r.leader.flights ++ works_ready r.ready))) acts_none
-    ∙ (ap (λ l. l ++ (works_flying r.leader.flights ++ works_ready r.ready)) (works_more r.backlog command ∙ (ap (λ l. l ++ listed (work_by command)) calls_none ∙ ap listed is)) ∙ ap (λ l. work ∷ l) under_none)
-  where
-    acts_none : works_in r.acts ≡ []
-    acts_none = left_none (works_in r.acts) (works_in r.backlog ++ (works_flying r.leader.flights ++ works_ready r.ready)) may.idle
-
-    rest_none : works_in r.backlog ++ (works_flying r.leader.flights ++ works_ready r.ready) ≡ []
-    rest_none = right_none (works_in r.acts) (works_in r.backlog ++ (works_flying r.leader.flights ++ works_ready r.ready)) may.idle
-
-    calls_none : works_in r.backlog ≡ []
-    calls_none = left_none (works_in r.backlog) (works_flying r.leader.flights ++ works_ready r.ready) rest_none
-
-    under_none : works_flying r.leader.flights ++ works_ready r.ready ≡ []
-    under_none = right_none (works_in r.backlog) (works_flying r.leader.flights ++ works_ready r.ready) rest_none
+    ap (λ l. l ++ (works_in (r.backlog ++ command ∷ []) ++ (works_flying r.leader.flights ++ works_ready r.ready))) (acts_none r may)
+    ∙ (ap (λ l. l ++ (works_flying r.leader.flights ++ works_ready r.ready)) (works_more r.backlog command ∙ (ap (λ l. l ++ listed (work_by command)) (calls_none r may) ∙ ap listed is)) ∙ ap (λ l. work ∷ l) (under_none r may))
 
 called_works : (command : Command) (work : Work) (r : ReplicaState) → work_by command ≡ Some work → MayFile r → Works (work ∷ []) [] r (pumped (with_order_queued command r, []))
 called_works command work r is may =

@@ -4,13 +4,14 @@ use Rattle.std.specs.Prelude.{is_some, nat_le}
 use Rattle.std.specs.List.{list_any}
 use Rattle.std.proofs.lemmas.List.{append_assoc}
 use Rattle.sc_base.specs.Definitions.{client_actor}
-use Rattle.sc_node_table.specs.Values.{Draw, Command, Noop, Call, Core, AnswerBody, Mail, Accept, Answer, Must, Flight}
+use Rattle.sc_node_table.specs.Values.{Draw, Command, Noop, Call, Core, AnswerBody, Mail, Accept, Answer, Flight}
 use Rattle.sc_words.specs.declared.paxos.answers.Must.TheVariants.{Free as Open}
 use Rattle.sc_words.specs.paxos.Definitions.{must}
-use Rattle.sc_node_table.specs.Definitions.{answered, Found, is_act, waits, turned_down, next_queued, from_backlog, from_acts, from_queues, found_by, found_for, offered, pumped_from, pumped, ReplicaState, Place, name_of, next, settled, may_offer, taken_at, under_way, is_idle, last_slot, listed}
+use Rattle.sc_node_table.specs.Definitions.{answered, Found, is_act, waits, turned_down, next_queued, from_backlog, from_acts, from_queues, found_for, offered, pumped_from, pumped, ReplicaState, Place, name_of, next, settled, may_offer, taken_at, under_way, is_idle, last_slot, listed}
 use Rattle.sc_live_steps.specs.orders.Definitions.{Work, work_by, works_in, works_flying, works_ready, works, errands_for, IsUnbound, PumpsKeepWork}
 use Rattle.sc_live_steps.proofs.OrdersProofs.NamedValues.{single}
 use Rattle.sc_live_steps.proofs.OrdersProofs.Errands.{errands-none, errands-all}
+use Rattle.sc_live_steps.proofs.PumpProofs.Pumping.{open_found as found_is}
 
 -- ---- a lone element may stand anywhere in a list
 
@@ -119,10 +120,6 @@ module _ (r0 : ReplicaState) (mails0 : List Mail) (o : Option Work) where
       by : (b : Bool) → IsFound (from_acts r.acts (r, mails)) → IsFound (cond b (None, (r, mails)) (from_acts r.acts (r, mails)))
       by true f = p
       by false f = f
-
-  found_is : (slot : ℕ) (r : ReplicaState) (mails : List Mail) → must slot r.leader ≡ Open → found_for slot (r, mails) ≡ from_queues (r, mails)
-  unfolding found_for
-  found_is slot r mails e = ap (λ (m : Must Command). found_by m (r, mails)) e
 
   offered_pumps : (slot : ℕ) (set : List ℕ) (command : Command) (r : ReplicaState) (mails : List Mail) → IsFound (Some command, (r, mails)) → IsPumped (offered slot set command (r, mails))
   unfolding offered

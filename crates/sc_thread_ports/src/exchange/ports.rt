@@ -270,12 +270,13 @@ impl<M: Parcel + Drop, O: Drop> Port<M, O> {
 
     /// Lets two ports of one exchange exchange what they have seen. Afterwards what each has seen
     /// begins with what both had seen before, and what `other` has seen begins with what this port
-    /// has seen.
+    /// has seen. It takes no memory and never returns `OutOfMemory`.
     pub fn meet<R: Wait>(&mut self, rt: &R, other: &mut Port<M, O>) -> Result<(), OutOfMemory>
         requires { SameExchange self.old other.old }
         ensures mine { HasHeard self.old self.new (seen other.old) }
         ensures theirs { HasHeard other.old other.new (seen self.old) }
         ensures last { Begins (seen other.new) (seen self.new) }
+        ensures none { IsOk result }
     {
         self.seat.meet(rt, &mut other.seat)
     }

@@ -1,5 +1,5 @@
 //! The seats, from which threads take turns at one value.
-ghost use Rattle.std.specs.Prelude.{◌≡◌, ◌≢◌, ℕ, ◌+◌, ◌<◌, ◌^◌, ◌⊎◌, true, false, [], ◌∷◌, ◌++◌, length, Contains, IfOk, OnOk, OnErr, None, if◌then◌else◌};
+ghost use Rattle.std.specs.Prelude.{◌≡◌, ◌≢◌, ℕ, ◌+◌, ◌<◌, ◌^◌, ◌⊎◌, true, false, [], ◌∷◌, ◌++◌, length, Contains, IfOk, OnOk, OnErr, IsOk, None, if◌then◌else◌};
 ghost use Rattle.std.specs.Arc.{arc_value};
 ghost use Rattle.sc_thread_ports.specs.turn.Turn.{opener, newcomer, with_given, with_seen, entered_with, left_with, merged_seen, StartsWith, IsTrueOf, IsTrueLater, IsTrueOver, CanLeave, rows_by};
 
@@ -179,6 +179,7 @@ impl<T: Listed> TurnSeat<T> {
         ensures last { StartsWith (known other.new).seen (known self.new).seen }
         ensures facts { IsTrueOf (known self.new) (known self.new).seen
             × IsTrueOf (known other.new) (known other.new).seen }
+        ensures none { IsOk result }
     {
         self.hear(other);
         other.hear(self);

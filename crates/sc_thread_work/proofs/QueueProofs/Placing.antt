@@ -112,9 +112,9 @@ module _ {F T X : Type 0} (g : Shared F (T × Unit {0}) X) (f : F) where
     pub worked : AllWorked g f taken kept
     pub each : (k : ℕ) → k < length all → 1 ≤ weigh (at_place k) taken
 
-  pub completes : (all : List T) (v w : Hand T) (first rest kept : List (Item X)) (parts : ℕ) → Gathers g f parts (numbered 0 all) v first → parts ≡ all_parts → Did g f v w rest → Held 0 (KnowsWhole w) → kept ≡ first ++ rest → Complete all kept
-  completes all v w first rest kept parts a full d whole is =
-      let view_is : w ≡ hand parts true (numbered 0 all) (a.taken ++ d.taken) = d.view_is ∙ ap (λ (u : Hand T). with_all u d.taken) a.view_is in
+  pub completes : (all : List T) (v w : Hand T) (first rest kept : List (Item X)) (parts passes : ℕ) → Gathers g f parts passes (numbered 0 all) v first → parts ≡ all_parts → Did g f v w rest → Held 0 (KnowsWhole w) → kept ≡ first ++ rest → Complete all kept
+  completes all v w first rest kept parts passes a full d whole is =
+      let view_is : w ≡ hand parts true (numbered 0 all) (a.taken ++ d.taken) passes = d.view_is ∙ ap (λ (u : Hand T). with_all u d.taken) a.view_is in
       let knows = whole.2 (ap (λ (u : Hand T). u.puts) view_is) (ap (λ (u : Hand T). u.parts) view_is ∙ full) in record {
         taken = a.taken ++ d.taken;
         placed = subst (λ (u : Hand T). AllPlaced u.put u.taken) view_is knows.1;
@@ -127,9 +127,9 @@ module _ {F T X : Type 0} (g : Shared F (T × Unit {0}) X) (f : F) where
       }
 
   -- so the one that puts knows that each was put and taken once
-  pub worked_off : (all : List T) (v w : Hand T) (first rest : List (Item X)) (parts : ℕ) → Gathers g f parts (numbered 0 all) v first → parts ≡ all_parts → Did g f v w rest → Held 0 (KnowsWhole w) → IsWorkedOff all w
-  worked_off all v w first rest parts a full d whole =
-      let view_is : w ≡ hand parts true (numbered 0 all) (a.taken ++ d.taken) = d.view_is ∙ ap (λ (u : Hand T). with_all u d.taken) a.view_is in
+  pub worked_off : (all : List T) (v w : Hand T) (first rest : List (Item X)) (parts passes : ℕ) → Gathers g f parts passes (numbered 0 all) v first → parts ≡ all_parts → Did g f v w rest → Held 0 (KnowsWhole w) → IsWorkedOff all w
+  worked_off all v w first rest parts passes a full d whole =
+      let view_is : w ≡ hand parts true (numbered 0 all) (a.taken ++ d.taken) passes = d.view_is ∙ ap (λ (u : Hand T). with_all u d.taken) a.view_is in
       let knows = whole.2 (ap (λ (u : Hand T). u.puts) view_is) (ap (λ (u : Hand T). u.parts) view_is ∙ full) in record {
         put = ap (λ (u : Hand T). u.put) view_is;
         taken = λ h.
@@ -139,10 +139,10 @@ module _ {F T X : Type 0} (g : Shared F (T × Unit {0}) X) (f : F) where
       }
 
   -- at the start nothing was gathered
-  pub gathers_none : (parts : ℕ) (all : List T) (v w : Hand T) (kept : List (Item X)) → v ≡ hand all_parts true (numbered 0 all) [] → w ≡ hand parts v.puts v.put v.taken → kept ≡ [] → Gathers g f parts (numbered 0 all) w kept
+  pub gathers_none : (parts : ℕ) (all : List T) (v w : Hand T) (kept : List (Item X)) → v ≡ hand all_parts true (numbered 0 all) [] 0 → w ≡ hand parts v.puts v.put v.taken v.passes → kept ≡ [] → Gathers g f parts 0 (numbered 0 all) w kept
   gathers_none parts all v w kept is told none = record {
     taken = [];
-    view_is = told ∙ ap (λ (u : Hand T). hand parts u.puts u.put u.taken) is;
+    view_is = told ∙ ap (λ (u : Hand T). hand parts u.puts u.put u.taken u.passes) is;
     worked = subst (AllWorked g f []) (sym none) tt;
   }
 

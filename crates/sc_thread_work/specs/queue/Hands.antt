@@ -17,36 +17,36 @@ weigh h (x ∷ xs) = h x + weigh h xs
 
 module _ {T : Type 0} where
   -- The knowledge of a pass, made of its fields.
-  abbrev pub hand : ℕ → Bool → List (Item T) → List (Item T) → Hand T
-  hand parts puts put taken = record { parts = parts; puts = puts; put = put; taken = taken }
+  abbrev pub hand : ℕ → Bool → List (Item T) → List (Item T) → ℕ → Hand T
+  hand parts puts put taken passes = record { parts = parts; puts = puts; put = put; taken = taken; passes = passes }
 
-  -- The knowledge of the first pass: it has all parts, may put, and has put and taken nothing.
+  -- The knowledge of the first pass: it has all parts, may put, has put and taken nothing, and has taken in no pass.
   abbrev pub opener : Hand T
-  opener = hand all_parts true [] []
+  opener = hand all_parts true [] [] 0
 
   -- The knowledge of a new pass that only takes: it has one part.
   abbrev pub taker : Hand T
-  taker = hand 1 false [] []
+  taker = hand 1 false [] [] 0
 
   -- The knowledge of a pass that another has taken in: it has no part.
   abbrev pub idle : Hand T
-  idle = hand 0 false [] []
+  idle = hand 0 false [] [] 0
 
   -- The knowledge of a pass from which another was split off: it has one part less.
   abbrev pub less : Hand T → Hand T
-  less v = hand (v.parts - 1) v.puts v.put v.taken
+  less v = hand (v.parts - 1) v.puts v.put v.taken v.passes
 
-  -- The knowledge of the pass `v` that has taken in `w`: it has the parts of both and has taken what both have taken.
+  -- The knowledge of the pass `v` that has taken in `w`: it has the parts of both, has taken what both have taken, and has taken in one pass more.
   abbrev pub joined : Hand T → Hand T → Hand T
-  joined v w = hand (v.parts + w.parts) v.puts v.put (v.taken ++ w.taken)
+  joined v w = hand (v.parts + w.parts) v.puts v.put (v.taken ++ w.taken) (v.passes + (w.passes + 1))
 
   -- The knowledge of a pass once it has put the item.
   abbrev pub with_put : Hand T → Item T → Hand T
-  with_put v x = hand v.parts v.puts (v.put ++ x ∷ []) v.taken
+  with_put v x = hand v.parts v.puts (v.put ++ x ∷ []) v.taken v.passes
 
   -- The knowledge of a pass once it has taken the item.
   abbrev pub with_taken : Hand T → Item T → Hand T
-  with_taken v x = hand v.parts v.puts v.put (v.taken ++ x ∷ [])
+  with_taken v x = hand v.parts v.puts v.put (v.taken ++ x ∷ []) v.passes
 
   -- Each of the items is in the list `put` at its own place.
   abbrev pub AllPlaced : List (Item T) → List (Item T) → Type 0
@@ -78,7 +78,7 @@ module _ {T : Type 0} where
 
   -- The knowledge of a pass once it has taken these items.
   abbrev pub with_all : Hand T → List (Item T) → Hand T
-  with_all v xs = hand v.parts v.puts v.put (v.taken ++ xs)
+  with_all v xs = hand v.parts v.puts v.put (v.taken ++ xs) v.passes
 
   -- The elements as items with their places, from `n` on.
   abbrev pub numbered : ℕ → List T → List (Item T)

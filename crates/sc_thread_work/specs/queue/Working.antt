@@ -32,10 +32,10 @@ module _ {F T X : Type 0} (g : Shared F (T × Unit {0}) X) (f : F) where
     pub view_is : w ≡ with_all v taken
     pub worked : AllWorked g f taken kept
 
-  -- What the pass that puts has gathered so far: it has `parts` parts, has put `put`, and `kept` has what calls of `f` returned with all that was taken.
-  pub record Gathers (parts : ℕ) (put : List (Item T)) (v : Hand T) (kept : List (Item X)) : Type 0 where
+  -- What the pass that puts has gathered so far: it has `parts` parts, has put `put`, has taken in `passes` passes, and `kept` has what calls of `f` returned with all that was taken.
+  pub record Gathers (parts passes : ℕ) (put : List (Item T)) (v : Hand T) (kept : List (Item X)) : Type 0 where
     pub taken : List (Item T)
-    pub view_is : v ≡ hand parts true put taken
+    pub view_is : v ≡ hand parts true put taken passes
     pub worked : AllWorked g f taken kept
 
   -- Each element of `ys` is what a call of `f` returned with the element of `xs` at the same place.

@@ -41,7 +41,7 @@ fn put_all<T: Drop, R: Wait>(rt: &R, bench: &Bench<T>, pass: &mut Holder<T>, all
     requires fresh { view pass.old ≡ opener }
     requires room { vec_len all ≤ ruled_capacity bench.now }
     ensures pass { IsPassOf bench.now pass.new }
-    ensures put { view pass.new ≡ hand all_parts true (numbered 0 all.items) [] }
+    ensures put { view pass.new ≡ hand all_parts true (numbered 0 all.items) [] 0 }
 {
     let mut place = 0;
     for work in all {
@@ -61,7 +61,8 @@ fn cut<T: Drop>(
     requires parts { ((view pass.old).parts ≡ all_parts) × (many < all_parts) }
     ensures pass { IsPassOf bench.now pass.new }
     ensures left { IfOk result (λ v. view pass.new
-        ≡ hand (all_parts - many) (view pass.old).puts (view pass.old).put (view pass.old).taken) }
+        ≡ hand (all_parts - many) (view pass.old).puts (view pass.old).put (view pass.old).taken
+        (view pass.old).passes) }
     ensures each { IfOk result (λ v. (vec_len v ≡ many)
         × All (λ p. IsPassOf bench.now p × (view p ≡ taker)) v.items) }
 {
@@ -201,9 +202,9 @@ fn gather_one<T: Drop, X: Drop, F: Fn(T) -> X>(
     requires done { IsPassOf bench.now done.pass
         × Did F.Fn f.now taker (view done.pass) done.kept.items }
     ensures pass { IsPassOf bench.now pass.new }
-    ensures more { OnOk result ((parts : ℕ) (put : List (Item T)) →
-        Gathers F.Fn f.now parts put (view pass.old) kept.old.items →
-        Gathers F.Fn f.now (parts + 1) put (view pass.new) kept.new.items) }
+    ensures more { OnOk result ((parts passes : ℕ) (put : List (Item T)) →
+        Gathers F.Fn f.now parts passes put (view pass.old) kept.old.items →
+        Gathers F.Fn f.now (parts + 1) (passes + 1) put (view pass.new) kept.new.items) }
 {
     let Done {
         pass: other,
@@ -227,12 +228,13 @@ fn gather<T: Drop, X: Drop, F: Fn(T) -> X>(
     requires part { 0 < (view pass.old).parts }
     requires done { All (λ d. IsPassOf bench.now d.pass
         × Did F.Fn f.now taker (view d.pass) d.kept.items) all.items }
-    requires before { (parts : ℕ) × (put : List (Item T))
-        × Gathers F.Fn f.now parts put (view pass.old) kept.old.items }
+    requires before { (parts : ℕ) × (passes : ℕ) × (put : List (Item T))
+        × Gathers F.Fn f.now parts passes put (view pass.old) kept.old.items }
     ensures pass { IsPassOf bench.now pass.new }
-    ensures more { OnOk result ((parts : ℕ) (put : List (Item T)) →
-        Gathers F.Fn f.now parts put (view pass.old) kept.old.items →
-        Gathers F.Fn f.now (parts + vec_len all) put (view pass.new) kept.new.items) }
+    ensures more { OnOk result ((parts passes : ℕ) (put : List (Item T)) →
+        Gathers F.Fn f.now parts passes put (view pass.old) kept.old.items →
+        Gathers F.Fn f.now (parts + vec_len all) (passes + vec_len all) put (view pass.new)
+        kept.new.items) }
 {
     for done in all {
         gather_one(bench, f, pass, kept, done)?;
@@ -264,11 +266,12 @@ fn finish<T: Drop, X: Drop, F: Fn(T) -> X, R: Wait>(
     requires calls { F.IsAlwaysCallable f.now }
     requires pass { IsPassOf bench.now pass }
     requires many { many ≡ length (works (view pass).put) }
-    requires gathered { Gathers F.Fn f.now all_parts (numbered 0 (works (view pass).put))
-        (view pass) kept.items }
+    requires gathered { Gathers F.Fn f.now all_parts (view pass).passes
+        (numbered 0 (works (view pass).put)) (view pass) kept.items }
     ensures len { IfOk result (λ o. vec_len o.given ≡ length (works (view pass).put)) }
     ensures each { IfOk result (λ o. AllGiven F.Fn f.now (works (view pass).put) o.given.items) }
     ensures once { IfOk result (λ o. IsWorkedOff (works (view pass).put) (view o.holder)) }
+    ensures passes { IfOk result (λ o. (view o.holder).passes ≡ (view pass).passes) }
 {
     let mut slots = vacant(alloc, many)?;
     let last = work(rt, alloc, bench, f, pass);
@@ -289,7 +292,8 @@ fn finish<T: Drop, X: Drop, F: Fn(T) -> X, R: Wait>(
 /// Returns what calls of `f` return with the elements of `all`, in their order. Each element is put
 /// once into one queue, from which `threads` threads take, the caller's among them; then the caller
 /// works what is left. The pass that is returned shows that each element was put once, at its
-/// place, and taken once.
+/// place, and taken once, and, where there is an element, that `threads` passes took from the
+/// queue beside it.
 ///
 /// Where no thread can be started, the calls run one after another. `Err(AllocError)`: there was no
 /// memory for the queue, its passes or the results, and elements that were not worked yet are
@@ -306,6 +310,8 @@ pub fn work_off<T: Send + Drop, X: Send + Drop, F: Fn(T) -> X + Sync, R: Threads
     ensures len { IfOk result (λ o. vec_len o.given ≡ vec_len all) }
     ensures each { IfOk result (λ o. AllGiven F.Fn f.now all.items o.given.items) }
     ensures once { IfOk result (λ o. IsWorkedOff all.items (view o.holder)) }
+    ensures passes { IfOk result
+        (λ o. 0 < length all.items → (view o.holder).passes ≡ threads) }
 {
     let many = all.len();
     let (bench, mut pass) = Bench::ruled(alloc, many.max(1))?;

@@ -23,6 +23,8 @@ pub struct Hand<T> {
     pub put: LinkedList<Item<T>>,
     /// The items that the pass has taken.
     pub taken: LinkedList<Item<T>>,
+    /// The number of passes that the pass has taken in.
+    pub passes: u64,
 }
 
 /// The rule of the queue: between any two steps each item that was put is in the queue or was taken

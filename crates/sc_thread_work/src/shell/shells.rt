@@ -177,7 +177,7 @@ impl<A: Actor> Shell<A> {
     }
 
     /// Lets the shell's port and `net` exchange what they have seen. Afterwards what each has seen
-    /// begins with what both had seen before.
+    /// begins with what both had seen before. It takes no memory and never returns `OutOfMemory`.
     pub fn meet<R: Wait>(
         &mut self,
         rt: &R,
@@ -188,6 +188,7 @@ impl<A: Actor> Shell<A> {
         ensures mine { HasHeard (port_of self.old) (port_of self.new) (seen net.old) }
         ensures theirs { HasHeard net.old net.new (seen (port_of self.old)) }
         ensures last { Begins (seen net.new) (seen (port_of self.new)) }
+        ensures none { IsOk result }
     {
         self.port.meet(rt, net)
     }

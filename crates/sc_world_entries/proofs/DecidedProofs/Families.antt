@@ -185,3 +185,14 @@ found_all rows bases i groups within known calm =
       known = subst (λ (bs : List Base). AreKnown rows bs groups.knowns.items) (calm ∙ sym last) known;
       settled = λ t. ap (with_next_children as_nodes rows) last ∙ calm ∙ sym last;
     }
+
+-- ---- no groups
+
+none_descend : (rows : List (Row Mail OrderLine)) (n : ℕ) → with_descendants as_nodes rows n [] ≡ []
+none_descend rows zero = refl
+none_descend rows (suc n) = ap (with_next_children as_nodes rows) (none_descend rows n)
+
+-- where there are no groups to begin with, none are found
+pub none_known : (rows : List (Row Mail OrderLine)) (n : ℕ) (bases : List Base) (knowns : List Known) → bases ≡ [] → AreKnown rows (with_descendants as_nodes rows n bases) knowns → knowns ≡ []
+none_known rows n bases [] none are = refl
+none_known rows n bases (known ∷ knowns) none are = absurd (omega (arith, ap length (are.bases_are ∙ ap (with_descendants as_nodes rows n) none ∙ none_descend rows n)))

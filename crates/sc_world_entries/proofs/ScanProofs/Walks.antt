@@ -1,5 +1,5 @@
 -- The walk of an arc through a ring that covers.
-use Rattle.std.proofs.Common.{◌≡◌, ℕ, zero, suc, ◌+◌, ◌-◌, ◌^◌, ◌<◌, ◌≤◌, Bool, true, false, inl, inr, List, [], ◌∷◌, ◌++◌, find, Option, Some, None, refl, sym, ◌∙◌, ap, ap₂, subst, arith, append-nil, append_assoc}
+use Rattle.std.proofs.Common.{◌≡◌, ℕ, zero, suc, ◌+◌, ◌-◌, ◌^◌, ◌<◌, ◌≤◌, Bool, true, false, inl, inr, List, [], ◌∷◌, ◌++◌, find, Option, Some, None, refl, sym, ◌∙◌, ap, ap₂, subst, arith, append-nil, append_assoc, length, length-append}
 use Rattle.std.specs.Prelude.{IsTrue, min, ◌==◌}
 use Rattle.std.proofs.lemmas.Bool.{cases_Bool, cond-true, cond-false, ltb-true, lt-ltb, cases_lt, ne_eqb}
 use Rattle.sc_base.specs.Among.{Among}
@@ -76,6 +76,13 @@ pub parts_stop : (ring : List Cut) (arc : Arc) → 1 ≤ arc.len → find (holds
 parts_stop ring arc some e = parts_step ring arc some ∙ ap (λ o. parts_from o arc (parts_in ring)) e
 
 -- ---- the walk, as a loop takes it
+
+-- an arc of which one part was found has a part
+pub has_part : (ring : List Cut) (arc rest : Arc) (cut : Cut) (found : List Part) → 1 ≤ rest.len → find (holds_start rest) ring ≡ Some cut → found ++ parts_in ring rest ≡ parts_in ring arc → parts_in ring arc ≡ [] → ⊥
+has_part ring arc rest cut found some e so_far none =
+    let behind : List Part = first_part rest cut ∷ parts_in ring (left_behind rest (first_part rest cut)) in
+    let whole : found ++ behind ≡ [] = ap (λ (parts : List Part). found ++ parts) (sym (parts_next ring rest cut some e)) ∙ so_far ∙ none in
+    omega (arith, ap length whole, length-append found behind)
 
 -- where no cut holds the start, those so far are all
 pub parts_end : (ring : List Cut) (arc rest : Arc) (before : List Part) → 1 ≤ rest.len → find (holds_start rest) ring ≡ None → before ++ parts_in ring rest ≡ parts_in ring arc → before ≡ parts_in ring arc

@@ -1,6 +1,6 @@
 //! The groups that rows decide: those of a scenario, and round by round the children that the
 //! decided logs of the groups found so far create.
-ghost use Rattle.std.specs.Prelude.{◌≡◌, ◌&&◌, ◌++◌, ◌∷◌, [], List, true, fold, find, IfOk, OnOk};
+ghost use Rattle.std.specs.Prelude.{◌≡◌, ◌&&◌, ◌++◌, ◌∷◌, [], List, true, None, fold, find, IfOk, IsOk, OnOk};
 ghost use Rattle.std.specs.List.{flat_map, list_any};
 ghost use Rattle.std.specs.Option.{option_copied, option_to_list};
 ghost use Rattle.sc_words.specs.declared.commands.cores.Base.{Base};
@@ -42,7 +42,8 @@ fn first_knowns(
     bases: &[Base],
     rows: &[Row<Mail, OrderLine>],
 ) -> Result<Vec<Known>, OutOfMemory>
-    ensures { IfOk result (λ knowns. AreKnown rows.now bases.now knowns.items) }
+    ensures known { IfOk result (λ knowns. AreKnown rows.now bases.now knowns.items) }
+    ensures none { bases.now ≡ [] → IsOk result }
 {
     let mut knowns = Vec::new(alloc);
     for base in bases {
@@ -52,7 +53,9 @@ fn first_knowns(
 }
 
 fn add_found(children: &mut Vec<Base>, child: Option<Base>) -> Result<(), OutOfMemory>
-    ensures { OnOk result (children.new.items ≡ children.old.items ++ option_to_list child) }
+    ensures children { OnOk result
+        (children.new.items ≡ children.old.items ++ option_to_list child) }
+    ensures none { child ≡ None → IsOk result }
 {
     match child {
         Some(child) => {
@@ -93,8 +96,9 @@ fn add_children(alloc: Global, known: &Known, children: &mut Vec<Base>) -> Resul
 }
 
 fn all_children(alloc: Global, knowns: &[Known]) -> Result<Vec<Base>, OutOfMemory>
-    ensures { IfOk result (λ children. children.items ≡
+    ensures children { IfOk result (λ children. children.items ≡
         flat_map (λ known. children_of (group_of known.base) known.log.items) knowns.now) }
+    ensures none { knowns.now ≡ [] → IsOk result }
 {
     let mut children = Vec::new(alloc);
     for known in knowns {
@@ -141,9 +145,11 @@ fn add_births(
     children: &[Base],
     rows: &[Row<Mail, OrderLine>],
 ) -> Result<bool, OutOfMemory>
-    ensures { IfOk result (λ were. (bases : List Base) → AreKnown rows.now bases knowns.old.items →
+    ensures known { IfOk result
+        (λ were. (bases : List Base) → AreKnown rows.now bases knowns.old.items →
         AreKnown rows.now (fold with_birth bases children.now) knowns.new.items ×
         (were ≡ true → fold with_birth bases children.now ≡ bases)) }
+    ensures none { children.now ≡ [] → IsOk result }
 {
     let mut were = true;
     for child in children {
@@ -159,9 +165,11 @@ fn look_on(
     knowns: &mut Vec<Known>,
     rows: &[Row<Mail, OrderLine>],
 ) -> Result<bool, OutOfMemory>
-    ensures { IfOk result (λ were. (bases : List Base) → AreKnown rows.now bases knowns.old.items →
+    ensures known { IfOk result
+        (λ were. (bases : List Base) → AreKnown rows.now bases knowns.old.items →
         AreKnown rows.now (with_next_children as_nodes rows.now bases) knowns.new.items ×
         (were ≡ true → with_next_children as_nodes rows.now bases ≡ bases)) }
+    ensures none { knowns.old.items ≡ [] → IsOk result }
 {
     let kept = knowns.as_slice();
     let children = all_children(alloc, kept)?;
@@ -176,7 +184,8 @@ pub(crate) fn groups_of(
     bases: &[Base],
     rows: &[Row<Mail, OrderLine>],
 ) -> Result<Groups, OutOfMemory>
-    ensures { IfOk result (λ groups. AreTracked bases.now rows.now groups) }
+    ensures tracked { IfOk result (λ groups. AreTracked bases.now rows.now groups) }
+    ensures none { bases.now ≡ [] → IsOk result }
 {
     let mut knowns = first_knowns(alloc, bases, rows)?;
     for _round in 0..rows.len() {

@@ -1,5 +1,5 @@
 //! The rows that decide entries of logs, each with its entries.
-ghost use Rattle.std.specs.Prelude.{◌≡◌, ◌++◌, [], IfOk, OnOk};
+ghost use Rattle.std.specs.Prelude.{◌≡◌, ◌++◌, [], IfOk, IsOk, OnOk};
 ghost use Rattle.sc_meaning.specs.sound.Players.{as_nodes};
 ghost use Rattle.sc_world_entries.specs.decided.Deciding.{deciding_from, with_entries};
 
@@ -28,8 +28,9 @@ fn add_row(
     row: u64,
     entries: Vec<LogEntry>,
 ) -> Result<(), OutOfMemory>
-    ensures { OnOk result (deciding.new.items ≡
+    ensures deciding { OnOk result (deciding.new.items ≡
         deciding.old.items ++ with_entries row entries.items) }
+    ensures none { entries.items ≡ [] → IsOk result }
 {
     if entries.is_empty() {
         return Ok(());
@@ -48,8 +49,9 @@ pub fn deciding_rows(
     bases: &[Base],
     rows: &[Row<Mail, OrderLine>],
 ) -> Result<Vec<DecidingRow>, OutOfMemory>
-    ensures { IfOk result (λ deciding.
+    ensures deciding { IfOk result (λ deciding.
         deciding.items ≡ deciding_from as_nodes bases.now [] rows.now) }
+    ensures none { bases.now ≡ [] → rows.now ≡ [] → IsOk result }
 {
     let mut deciding = Vec::new(alloc);
     let mut sent = Vec::new(alloc);

@@ -1,5 +1,5 @@
 //! The entries of all logs, row by row, and by slot within one row.
-ghost use Rattle.std.specs.Prelude.{◌≡◌, ◌+◌, ◌<◌, ◌++◌, ◌∷◌, [], List, true, Some, length, map, take, drop, find, if◌then◌else◌, IfOk, OnOk};
+ghost use Rattle.std.specs.Prelude.{◌≡◌, ◌+◌, ◌<◌, ◌++◌, ◌∷◌, [], List, true, Some, None, length, map, take, drop, find, if◌then◌else◌, IfOk, IsOk, OnOk};
 ghost use Rattle.std.specs.List.{flat_map};
 ghost use Rattle.sc_base.specs.Same.{same_draw};
 ghost use Rattle.sc_base.specs.Among.{Each};
@@ -192,13 +192,14 @@ pub(crate) fn after_row(
     groups: Groups,
     accepted: Option<(Draw, Acceptance)>,
 ) -> Result<Groups, OutOfMemory>
-    ensures { IfOk result (λ found.
+    ensures entries { IfOk result (λ found.
         (row : Row Mail OrderLine) → after.now ≡ before.now ++ row ∷ [] →
         Adds accepted before.now after.now →
         AreTracked bases.now before.now groups →
         AreTracked bases.now after.now found ×
         (entries.new.items ≡
         entries.old.items ++ entries_by_row as_nodes bases.now before.now row)) }
+    ensures none { groups.settled ≡ true → accepted ≡ None → IsOk result }
 {
     if !groups.settled {
         let found = look_again(alloc, entries, bases, before, after)?;
@@ -229,7 +230,9 @@ pub fn entries_of(
     bases: &[Base],
     rows: &[Row<Mail, OrderLine>],
 ) -> Result<Vec<LogEntry>, OutOfMemory>
-    ensures { IfOk result (λ entries. entries.items ≡ entries_at as_nodes bases.now rows.now) }
+    ensures entries { IfOk result
+        (λ entries. entries.items ≡ entries_at as_nodes bases.now rows.now) }
+    ensures none { bases.now ≡ [] → rows.now ≡ [] → IsOk result }
 {
     let mut entries = Vec::new(alloc);
     let mut sent = Vec::new(alloc);
@@ -256,7 +259,8 @@ pub fn log_at(
     rows: &[Row<Mail, OrderLine>],
     name: Draw,
 ) -> Result<Vec<Command>, OutOfMemory>
-    ensures { IfOk result (λ log. log.items ≡ log_at as_nodes bases.now rows.now name) }
+    ensures log { IfOk result (λ log. log.items ≡ log_at as_nodes bases.now rows.now name) }
+    ensures none { bases.now ≡ [] → IsOk result }
 {
     let groups = groups_of(alloc, bases, rows)?;
     let kept = groups.knowns.as_slice();

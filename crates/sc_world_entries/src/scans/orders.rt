@@ -1,5 +1,5 @@
 //! The pairs of a part of an arc, in the order of the ring from the part's start on.
-ghost use Rattle.std.specs.Prelude.{◌≡◌, ◌<◌, ◌^◌, ◌++◌, ◌∷◌, [], not, AllPairs, IfOk, OnOk};
+ghost use Rattle.std.specs.Prelude.{◌≡◌, ◌<◌, ◌^◌, ◌++◌, ◌∷◌, [], not, AllPairs, IfOk, IsOk, OnOk};
 ghost use Rattle.std.specs.List.{filter};
 ghost use Rattle.sc_base.specs.Among.{Each};
 ghost use Rattle.sc_base.specs.Limits.{longest_key};
@@ -36,8 +36,9 @@ fn add_high(
     part: &RingArc,
     pairs: &[(Key, Value)],
 ) -> Result<(), OutOfMemory>
-    ensures { OnOk result (list.new.items ≡ list.old.items
+    ensures list { OnOk result (list.new.items ≡ list.old.items
         ++ filter (λ pair. not (is_low part.now pair)) (held part.now pairs.now)) }
+    ensures none { held part.now pairs.now ≡ [] → IsOk result }
 {
     for pair in pairs {
         let pos = pair.0.pos();
@@ -59,6 +60,7 @@ fn add_low(
     ensures list { OnOk result (list.new.items ≡ list.old.items
         ++ filter (is_low part.now) (held part.now pairs.now)) }
     ensures start { part.now.lo < 2 ^ 32 }
+    ensures none { held part.now pairs.now ≡ [] → IsOk result }
 {
     let start = part.lo();
     for pair in pairs {
@@ -71,7 +73,8 @@ fn add_low(
 }
 
 /// Returns the pairs whose keys a part holds, by the distance of their positions from the part's
-/// start, and by their keys where positions are the same. The only error is out of memory.
+/// start, and by their keys where positions are the same. The only error is out of memory, where the
+/// part holds a key.
 pub fn ordered(
     alloc: Global,
     part: &RingArc,
@@ -79,6 +82,7 @@ pub fn ordered(
 ) -> Result<Vec<(Key, Value)>, OutOfMemory>
     ensures same { IfOk result (λ list. list.items ≡ ordered part.now pairs.now) }
     ensures rises { IfOk result (λ list. AllPairs (ComesBefore part.now) list.items) }
+    ensures none { held part.now pairs.now ≡ [] → IsOk result }
 {
     let mut list = Vec::new(alloc);
     let all = pairs.as_slice();

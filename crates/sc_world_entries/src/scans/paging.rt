@@ -1,5 +1,5 @@
 //! How a list of pairs is cut into pages.
-ghost use Rattle.std.specs.Prelude.{◌≡◌, ◌≤◌, ◌++◌, ◌∷◌, [], length, take, drop, IfOk};
+ghost use Rattle.std.specs.Prelude.{◌≡◌, ◌≤◌, ◌++◌, ◌∷◌, [], length, take, drop, IfOk, IsOk};
 ghost use Rattle.std.specs.Option.{option_copied};
 ghost use Rattle.sc_world_entries.specs.scans.Pages.{after_key, last_key, next_key};
 
@@ -25,7 +25,8 @@ fn place_after(all: &[(Key, Value)], after: Option<&Key>) -> usize
 }
 
 fn dup_all(alloc: Global, pairs: &[(Key, Value)]) -> Result<Vec<(Key, Value)>, OutOfMemory>
-    ensures { IfOk result (λ copy. copy.items ≡ pairs.now) }
+    ensures copy { IfOk result (λ copy. copy.items ≡ pairs.now) }
+    ensures none { pairs.now ≡ [] → IsOk result }
 {
     let mut copy = Vec::new(alloc);
     for pair in pairs {
@@ -35,7 +36,8 @@ fn dup_all(alloc: Global, pairs: &[(Key, Value)]) -> Result<Vec<(Key, Value)>, O
 }
 
 fn last_key(alloc: Global, pairs: &[(Key, Value)]) -> Result<Option<Key>, OutOfMemory>
-    ensures { IfOk result (λ key. key ≡ last_key pairs.now) }
+    ensures key { IfOk result (λ key. key ≡ last_key pairs.now) }
+    ensures none { pairs.now ≡ [] → IsOk result }
 {
     match pairs.get(pairs.len().saturating_sub(1)) {
         Some(pair) => Ok(Some(pair.0.dup(alloc)?)),
@@ -47,7 +49,8 @@ fn last_key(alloc: Global, pairs: &[(Key, Value)]) -> Result<Option<Key>, OutOfM
 /// given, and the last of their keys where more pairs follow. A page of no pairs gives no key, and
 /// behind a key that the list lacks there is nothing. Where the keys of the list differ and `most`
 /// is at least 1, the pages from the start on, each behind the key that the one before it gave,
-/// until one gives none, are the list (`pages_follow`). The only error is out of memory.
+/// until one gives none, are the list (`pages_follow`). The only error is out of memory, where the
+/// page has a pair.
 pub fn page(
     alloc: Global,
     all: &[(Key, Value)],
@@ -58,6 +61,7 @@ pub fn page(
         page.pairs.items ≡ take most (after_key (option_copied after.entry) all.now)) }
     ensures next { IfOk result (λ page.
         page.next ≡ next_key most (after_key (option_copied after.entry) all.now)) }
+    ensures none { take most (after_key (option_copied after.entry) all.now) ≡ [] → IsOk result }
 {
     let rest = &all[place_after(all, after)..];
     if rest.len() <= most as usize {

@@ -1,5 +1,5 @@
 //! The parts of an arc, by the ranges of a ring.
-ghost use Rattle.std.specs.Prelude.{◌≡◌, ◌<◌, ◌≤◌, ◌^◌, IsTrue, find, IfOk};
+ghost use Rattle.std.specs.Prelude.{◌≡◌, ◌<◌, ◌≤◌, ◌^◌, [], IsTrue, find, IfOk, IsOk};
 ghost use Rattle.std.specs.Option.{option_copied};
 ghost use Rattle.sc_base.specs.Arc.{holds, IsArc};
 ghost use Rattle.sc_world_entries.specs.scans.Walk.{first_part, parts_in, reach};
@@ -53,10 +53,11 @@ fn cut_at(ring: &[Cut], lo: u32) -> Option<&Cut>
 
 /// Returns the parts of an arc, from its start on: each starts where the last one ended, lies in a
 /// range that holds its start, and ends with that range or with the arc. Where no range holds a
-/// start, no more parts come. The only error is out of memory.
+/// start, no more parts come. The only error is out of memory, where the arc has a part.
 pub fn parts(alloc: Global, ring: &[Cut], arc: &RingArc) -> Result<Vec<Part>, OutOfMemory>
     ensures parts { IfOk result (λ parts. parts.items ≡ parts_in ring.now arc.now) }
     ensures arc { IsArc arc.now × (arc.now.lo < 2 ^ 32) }
+    ensures none { parts_in ring.now arc.now ≡ [] → IsOk result }
 {
     let mut parts = Vec::new(alloc);
     let mut lo = arc.lo();

@@ -1,21 +1,21 @@
-use Rattle.sc_live_answers.proofs.ChartedScenarios.{LineLaws, journals_go_on}
-use Rattle.sc_live_answers.proofs.SegmentParts.{SegmentLaws}
-use Rattle.sc_live_answers.proofs.SegmentRows.{RowLaws}
-use Rattle.sc_live_answers.proofs.PrefixLaws.{journals_begin_resting, orders_leave_resting}
-use Rattle.sc_live_answers.proofs.RequestPhaseLaws.{asked_rows_find_calm, asked_rows_go_on, requests_begin_asked, requests_keep_groups, requests_rest_again}
-use Rattle.sc_live_answers.proofs.ErrandReceiverLaws.{requests_send_no_errands}
-use Rattle.sc_live_answers.proofs.ErrandReceivers.{homeward_actors as node_errands_reach_players}
-use Rattle.sc_live_answers.proofs.NameLaws.{clients_are_near, names_stay_few}
-use Rattle.sc_live_answers.proofs.OrderInvariantLaws.{deliveries_keep_ordered, orders_begin_ordered}
-use Rattle.sc_live_answers.proofs.QuietPrefixLaws.{prefixes_are_found}
-use Rattle.sc_live_answers.proofs.WellLedLeaders.{well_led_lead_alone}
-use Rattle.sc_live_answers.proofs.RequestLaws.{lawful_replicas_are_named_once}
-use Rattle.sc_live_answers.proofs.PlayerViews.{views_agree}
+use Rattle.sc_live_answers.proofs.AnswersProofs.ChartedScenarios.{LineLaws, journals_go_on}
+use Rattle.sc_live_answers.proofs.AnswersProofs.SegmentParts.{SegmentLaws}
+use Rattle.sc_live_answers.proofs.AnswersProofs.SegmentRows.{RowLaws}
+use Rattle.sc_live_answers.proofs.RestProofs.PrefixLaws.{journals_begin_resting, orders_leave_resting}
+use Rattle.sc_live_answers.proofs.RequestsProofs.RequestPhaseLaws.{asked_rows_find_calm, asked_rows_go_on, requests_begin_asked, requests_keep_groups, requests_rest_again}
+use Rattle.sc_live_answers.proofs.ErrandsProofs.ErrandReceiverLaws.{requests_send_no_errands}
+use Rattle.sc_live_answers.proofs.ErrandsProofs.ErrandReceivers.{homeward_actors as node_errands_reach_players}
+use Rattle.sc_live_answers.proofs.ReplicasProofs.NameLaws.{clients_are_near, names_stay_few}
+use Rattle.sc_live_answers.proofs.OrdersProofs.OrderInvariantLaws.{deliveries_keep_ordered, orders_begin_ordered}
+use Rattle.sc_live_answers.proofs.QuietProofs.QuietPrefixLaws.{prefixes_are_found}
+use Rattle.sc_live_answers.proofs.MailProofs.WellLedLeaders.{well_led_lead_alone}
+use Rattle.sc_live_answers.proofs.RequestsProofs.RequestLaws.{lawful_replicas_are_named_once}
+use Rattle.sc_live_answers.proofs.ReplicasProofs.PlayerViews.{views_agree}
 use Rattle.sc_live_journals.proofs.MailProofs.Lemmas.{desks_are_not_born, mail_is_posted, replicas_last}
 use Rattle.sc_live_journals.proofs.ChartsProofs.Lemmas.{charts_follow, quiet_charts_rest}
-use Rattle.sc_live_answers.proofs.SettingLaws.{quiet_journals_have_frames}
-use Rattle.sc_live_answers.proofs.CalmRowLaws.{chart_hints_rise, order_charts_follow}
-use Rattle.sc_live_answers.proofs.AnswerLaws.{calm_journals_are_short, orders_may_be_given}
+use Rattle.sc_live_answers.proofs.LinesProofs.SettingLaws.{quiet_journals_have_frames}
+use Rattle.sc_live_answers.proofs.AnswersProofs.CalmRowLaws.{chart_hints_rise, order_charts_follow}
+use Rattle.sc_live_answers.proofs.AnswersProofs.AnswerLaws.{calm_journals_are_short, orders_may_be_given}
 use Rattle.sc_live_plain.proofs.Lemmas.{calm_lines_are_spaced, roomy_scenarios_are_calm}
 use Rattle.sc_live_steps.proofs.CalmProofs.Lemmas.{kept_calm_is_measured, resting_owes_little}
 use Rattle.sc_live_answers.proofs.answered_laws.calm_journals_go_on.Goals as goal

@@ -1,5 +1,5 @@
-use Rattle.sc_live_answers.proofs.ChartedScenarios.{lines_settle}
-use Rattle.sc_live_answers.proofs.AnswerLaws.{calm_lines_end_quiet}
+use Rattle.sc_live_answers.proofs.AnswersProofs.ChartedScenarios.{lines_settle}
+use Rattle.sc_live_answers.proofs.AnswersProofs.AnswerLaws.{calm_lines_end_quiet}
 use Rattle.sc_live_answers.proofs.answered_laws.calm_lines_settle.Goals as goal
 
 pub returns : goal.returns

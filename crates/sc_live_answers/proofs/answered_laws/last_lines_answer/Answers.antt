@@ -1,4 +1,4 @@
-use Rattle.sc_live_answers.proofs.LastLineAnswers.{last_lines_answer}
+use Rattle.sc_live_answers.proofs.AnswersProofs.LastLineAnswers.{last_lines_answer}
 use Rattle.sc_live_answers.proofs.answered_laws.last_lines_answer.Goals as goal
 
 pub returns : goal.returns

@@ -1,4 +1,4 @@
-use Rattle.sc_live_answers.proofs.ChartedScenarios.{plain_answered}
+use Rattle.sc_live_answers.proofs.AnswersProofs.ChartedScenarios.{plain_answered}
 use Rattle.sc_live_answers.proofs.answered_laws.plain_journals_are_answered.Goals as goal
 
 pub returns : goal.returns

@@ -1,4 +1,4 @@
-use Rattle.sc_live_answers.proofs.SettledOrders.{orders_reported}
+use Rattle.sc_live_answers.proofs.AnswersProofs.SettledOrders.{orders_reported}
 use Rattle.sc_live_answers.proofs.answered_laws.settled_orders_are_reported.Goals as goal
 
 pub returns : goal.returns

@@ -1,4 +1,4 @@
-use Rattle.sc_live_answers.proofs.ChartedScenarios.{settled_answered}
+use Rattle.sc_live_answers.proofs.AnswersProofs.ChartedScenarios.{settled_answered}
 use Rattle.sc_live_answers.proofs.answered_laws.settled_requests_are_answered.Goals as goal
 
 pub returns : goal.returns

@@ -17,5 +17,5 @@ returns-in_default g c =
 pub returns : goal.returns
 returns g c =
     let at : IsPlace c.args.company.now.shells.items c.args.who c.in-Some.place = subst (λ l. IsPlace l c.args.who c.in-Some.place) c.as_slice.ensures.value c.in-Some.ensures.some in
-    subst (RowEnds (λ s rows. line_row s rows (Deliver c.args.who c.args.k)) c.args.company.now c.act_by_turn.new.company) (sym c.row_made.ensures)
-    (delivers_so c.args.company.now c.act_by_turn.new.company c.args.who c.in-Some.place c.args.k c.in_ok-turn.turn at c.in_ok-turn.ensures.served)
+    subst (RowEnds (λ s rows. line_row s rows (Deliver c.args.who c.args.k)) c.args.company.now c.act_by_turn-turn.new.company) (sym c.row_made.ensures)
+    (delivers_so c.args.company.now c.act_by_turn-turn.new.company c.args.who c.in-Some.place c.args.k c.act_by_turn-turn.result.0 at c.act_by_turn-turn.ensures.served)

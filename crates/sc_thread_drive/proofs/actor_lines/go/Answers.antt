@@ -14,5 +14,5 @@ returns-in_default g c =
 pub returns : goal.returns
 returns g c =
     let at : IsPlace c.args.company.now.shells.items c.args.who c.in-Some.place = subst (λ l. IsPlace l c.args.who c.in-Some.place) c.as_slice.ensures.value c.in-Some.ensures.some in
-    subst (RowEnds (λ s rows. acts s rows c.args.who Go) c.args.company.now c.act_on_event.new.company) (sym c.row_made.ensures)
-    (goes_so c.args.company.now c.act_on_event.new.company c.args.who c.in-Some.place c.in_ok-turn.turn at c.requires.runs c.in_ok-turn.ensures)
+    subst (RowEnds (λ s rows. acts s rows c.args.who Go) c.args.company.now c.act_on_event-turn.new.company) (sym c.row_made.ensures)
+    (goes_so c.args.company.now c.act_on_event-turn.new.company c.args.who c.in-Some.place c.act_on_event-turn.result at c.requires.runs c.act_on_event-turn.ensures)

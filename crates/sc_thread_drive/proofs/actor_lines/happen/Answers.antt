@@ -12,5 +12,5 @@ returns-in_default g c =
 pub returns : goal.returns
 returns g c =
     let at : IsPlace c.args.company.now.shells.items c.args.who c.in-Some.place = subst (λ l. IsPlace l c.args.who c.in-Some.place) c.as_slice.ensures.value c.in-Some.ensures.some in
-    subst (RowEnds (λ s rows. unless_crashed s rows c.args.who c.args.event) c.args.company.now c.act_on_event.new.company) (sym c.row_made.ensures)
-    (happens_so c.args.company.now c.act_on_event.new.company c.args.who c.in-Some.place c.args.event c.in_ok-turn.turn at c.in_ok-turn.ensures)
+    subst (RowEnds (λ s rows. unless_crashed s rows c.args.who c.args.event) c.args.company.now c.act_on_event-turn.new.company) (sym c.row_made.ensures)
+    (happens_so c.args.company.now c.act_on_event-turn.new.company c.args.who c.in-Some.place c.args.event c.act_on_event-turn.result at c.act_on_event-turn.ensures)

@@ -12,31 +12,31 @@ use Rattle.sc_thread_ports.proofs.ExchangeProofs.Knowing.{looked_trans, stays_tr
 
 pub returns : goal.returns
 returns g c =
-    let ss = c.args.company.now.shells.items in let k = c.args.place in let t = c.meet_then_event.new.shell in let mid = c.meet_then_event.new.net in let next = c.gather_after.new.net in let after = c.gather_after.new.shells.items in
+    let ss = c.args.company.now.shells.items in let k = c.args.place in let t = c.meet_then_event-turn.new.shell in let mid = c.meet_then_event-turn.new.net in let next = c.gather_after.new.net in let after = c.gather_after.new.shells.items in
     let is : c.index_mut.result.now ≡ get_or ss k t = c.index_mut.ensures.value ∙ get_any ss k c.index_mut.result.now t c.requires.inside in
-    let m : MetAndHappened c.args.event c.in_ok-turn.turn (get_or ss k t) t c.args.company.now.net mid = subst (λ s. MetAndHappened c.args.event c.in_ok-turn.turn s t c.args.company.now.net mid) is c.in_ok-turn.ensures in
+    let m : MetAndHappened c.args.event c.meet_then_event-turn.result (get_or ss k t) t c.args.company.now.net mid = subst (λ s. MetAndHappened c.args.event c.meet_then_event-turn.result s t c.args.company.now.net mid) is c.meet_then_event-turn.ensures in
     let still : AreStill mid next (set ss k t) after = search rules in
-    let gathered = c.in_ok-gather_after.ensures.gathered in
+    let gathered = c.gather_after.ensures.gathered in
     record {
       kept = kept_acted c.args.company.now.net mid next ss after k t c.requires.inside c.requires.together.crew.exchange (stays_trans (get_or ss k t).port m.met.port t.port m.still.goes.stays m.stays) m.looked still gathered;
-      sound = sound_after_event ss after k m.met t c.requires.inside m.still c.requires.together.crew.sound still.len still.still c.args.event c.in_ok-turn.turn m.effect_holds;
-      answer = is_event_answer (state m.met) (state t) c.args.event c.in_ok-turn.turn m.effect_holds;
+      sound = sound_after_event ss after k m.met t c.requires.inside m.still c.requires.together.crew.sound still.len still.still c.args.event c.meet_then_event-turn.result m.effect_holds;
+      answer = is_event_answer (state m.met) (state t) c.args.event c.meet_then_event-turn.result m.effect_holds;
       told = λ births company.
           event_leaves births c.args.company.now.net mid next ss after k t company c.requires.inside c.requires.together.crew.exchange m.met m.still m.ahead m.stays m.keeps
-          (looked_trans c.args.company.now.net mid next m.looked still.looked) (still.len ∙ length_set ss k t) still.still gathered gathered.rows c.args.event c.in_ok-turn.turn c.requires.event m.effect_holds;
+          (looked_trans c.args.company.now.net mid next m.looked still.looked) (still.len ∙ length_set ss k t) still.still gathered gathered.rows c.args.event c.meet_then_event-turn.result c.requires.event m.effect_holds;
       score = refl;
     }
 
 pub gather_after-requires-clause-exchange : goal.gather_after-requires-clause-exchange
 gather_after-requires-clause-exchange g c κs within =
-    let ss = c.args.company.now.shells.items in let k = c.args.place in let t = c.meet_then_event.new.shell in let mid = c.meet_then_event.new.net in
+    let ss = c.args.company.now.shells.items in let k = c.args.place in let t = c.meet_then_event-turn.new.shell in let mid = c.meet_then_event-turn.new.net in
     let is : c.index_mut.result.now ≡ get_or ss k t = c.index_mut.ensures.value ∙ get_any ss k c.index_mut.result.now t c.requires.inside in
-    let m : MetAndHappened c.args.event c.in_ok-turn.turn (get_or ss k t) t c.args.company.now.net mid = subst (λ s. MetAndHappened c.args.event c.in_ok-turn.turn s t c.args.company.now.net mid) is c.in_ok-turn.ensures in
+    let m : MetAndHappened c.args.event c.meet_then_event-turn.result (get_or ss k t) t c.args.company.now.net mid = subst (λ s. MetAndHappened c.args.event c.meet_then_event-turn.result s t c.args.company.now.net mid) is c.meet_then_event-turn.ensures in
     all_of_acted c.args.company.now.net mid ss k t c.requires.inside c.requires.together.crew.exchange (stays_trans (get_or ss k t).port m.met.port t.port m.still.goes.stays m.stays) m.looked
 
 pub gather_after-requires-clause-others : goal.gather_after-requires-clause-others
 gather_after-requires-clause-others g c κs within =
-    let ss = c.args.company.now.shells.items in let k = c.args.place in let t = c.meet_then_event.new.shell in let mid = c.meet_then_event.new.net in
+    let ss = c.args.company.now.shells.items in let k = c.args.place in let t = c.meet_then_event-turn.new.shell in let mid = c.meet_then_event-turn.new.net in
     let is : c.index_mut.result.now ≡ get_or ss k t = c.index_mut.ensures.value ∙ get_any ss k c.index_mut.result.now t c.requires.inside in
-    let m : MetAndHappened c.args.event c.in_ok-turn.turn (get_or ss k t) t c.args.company.now.net mid = subst (λ s. MetAndHappened c.args.event c.in_ok-turn.turn s t c.args.company.now.net mid) is c.in_ok-turn.ensures in
+    let m : MetAndHappened c.args.event c.meet_then_event-turn.result (get_or ss k t) t c.args.company.now.net mid = subst (λ s. MetAndHappened c.args.event c.meet_then_event-turn.result s t c.args.company.now.net mid) is c.meet_then_event-turn.ensures in
     others_met c.args.company.now.net mid ss k t c.requires.together.over m.looked

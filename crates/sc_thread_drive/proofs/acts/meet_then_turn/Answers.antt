@@ -15,5 +15,5 @@ returns g c = let m = c.meet.ensures in record {
   looked = m.theirs.looked;
   stays = c.turn.ensures.stays;
   keeps = c.turn.ensures.replay;
-  effect_holds = c.turn.ensures.takes;
+  effect_holds = (c.turn.ensures.takes, c.turn.ensures.memory);
 }

@@ -10,7 +10,7 @@ use Rattle.sc_thread_drive.proofs.free_lines.run_free.Goals as goal
 pub returns-in-Quiet-clause-goes : goal.returns-in-Quiet-clause-goes
 returns-in-Quiet-clause-goes g c =
     let net = c.args.company.now.net in let mid = c.freed.new.net in let next = c.gather.new.net in let ss = c.args.company.now.shells.items in let mids = c.freed.new.shells.items in let after = c.gather.new.shells.items in
-    let later = c.in_ok-end.ensures.later in let still = c.gather.ensures.still in let gathered = c.in_ok-gather.ensures.gathered in
+    let later = c.in_ok-end.ensures.later in let still = c.gather.ensures.still in let gathered = c.gather.ensures.gathered in
     let end : IsEnd (Quiet c.in-Quiet.used) mid ss mids (crew_numbers ss) c.args.most = subst (λ r. IsEnd r mid ss mids (crew_numbers ss) c.args.most) c.in-Quiet.is c.in_ok-end.ensures.end in
     record {
       on = record { kept = kept_gone net mid next ss mids after c.requires.together.crew.exchange later still gathered; sound = still_sound mids after still.len still.still end.5 };
@@ -21,7 +21,7 @@ returns-in-Quiet-clause-goes g c =
 pub returns-in-Limit-clause-goes : goal.returns-in-Limit-clause-goes
 returns-in-Limit-clause-goes g c =
     let net = c.args.company.now.net in let mid = c.freed.new.net in let next = c.gather.new.net in let ss = c.args.company.now.shells.items in let mids = c.freed.new.shells.items in let after = c.gather.new.shells.items in
-    let later = c.in_ok-end.ensures.later in let still = c.gather.ensures.still in let gathered = c.in_ok-gather.ensures.gathered in
+    let later = c.in_ok-end.ensures.later in let still = c.gather.ensures.still in let gathered = c.gather.ensures.gathered in
     let end : IsEnd (Limit c.in-Limit.used) mid ss mids (crew_numbers ss) c.args.most = subst (λ r. IsEnd r mid ss mids (crew_numbers ss) c.args.most) c.in-Limit.is c.in_ok-end.ensures.end in
     record {
       on = record { kept = kept_gone net mid next ss mids after c.requires.together.crew.exchange later still gathered; sound = still_sound mids after still.len still.still end.5 };
@@ -30,9 +30,9 @@ returns-in-Limit-clause-goes g c =
     }
 
 pub returns-in-Full-clause-fills : goal.returns-in-Full-clause-fills
-returns-in-Full-clause-fills g c = λ _.
+returns-in-Full-clause-fills g c = λ _ _.
     let net = c.args.company.now.net in let mid = c.freed.new.net in let next = c.gather.new.net in let ss = c.args.company.now.shells.items in let mids = c.freed.new.shells.items in let after = c.gather.new.shells.items in
-    let later = c.in_ok-end.ensures.later in let still = c.gather.ensures.still in let gathered = c.in_ok-gather.ensures.gathered in
+    let later = c.in_ok-end.ensures.later in let still = c.gather.ensures.still in let gathered = c.gather.ensures.gathered in
     let end : IsEnd (Full c.in-Full.bytes) mid ss mids (crew_numbers ss) c.args.most = subst (λ r. IsEnd r mid ss mids (crew_numbers ss) c.args.most) c.in-Full.is c.in_ok-end.ensures.end in
     record {
       kept = kept_gone net mid next ss mids after c.requires.together.crew.exchange later still gathered;

@@ -23,10 +23,6 @@ vouch-requires-clause-met g c κs within =
     all_met_later mid c.first_receiver-found.new.self (set ss c.args.place t) c.first_receiver-found.ensures.looked.looked
     (all_met c.args.net.now mid ss c.args.place c.index_mut.result.now t c.requires.inside c.requires.others c.meet_one.ensures)
 
-pub returns-in_err-meet_one-clause-still : goal.returns-in_err-meet_one-clause-still
-returns-in_err-meet_one-clause-still g c =
-    one_met c.args.net.now c.meet_one.new.net c.args.shells.now.items c.args.place c.index_mut.result.now c.meet_one.new.shell c.requires.inside c.index_mut.ensures.value c.meet_one.ensures
-
 pub returns-clause-still : goal.returns-clause-still
 returns-clause-still g c =
     let ss = c.args.shells.now.items in let t = c.meet_one.new.shell in let mid = c.meet_one.new.net in

@@ -8,13 +8,13 @@ use Rattle.sc_thread_workers.proofs.Crews.{all_of_later}
 pub returns-in_default : goal.returns-in_default
 returns-in_default g c =
     let none : c.receiver.result ≡ None = search rules in
-    repeats_nothing c.args.company.now (record c.args.company.now { net = c.gather.new.net; shells = c.gather.new.shells }) c.receiver.new.self c.receiver.ensures.looked.looked c.requires.together c.gather.ensures.still c.in_ok-gather.ensures.gathered refl
+    repeats_nothing c.args.company.now (record c.args.company.now { net = c.gather.new.net; shells = c.gather.new.shells }) c.receiver.new.self c.receiver.ensures.looked.looked c.requires.together c.gather.ensures.still c.gather.ensures.gathered refl
     c.args.number (sym none ∙ c.receiver.ensures.receiver)
 
 pub returns-in_default-place_of : goal.returns-in_default-place_of
 returns-in_default-place_of g c =
     let none : c.place_of.result ≡ None = search rules in
-    repeats_out c.args.company.now (record c.args.company.now { net = c.gather-in_default-place_of.new.net; shells = c.gather-in_default-place_of.new.shells }) c.receiver.new.self c.receiver.ensures.looked.looked c.requires.together c.gather-in_default-place_of.ensures.still c.in_ok-gather-2.ensures.gathered refl
+    repeats_out c.args.company.now (record c.args.company.now { net = c.gather-in_default-place_of.new.net; shells = c.gather-in_default-place_of.new.shells }) c.receiver.new.self c.receiver.ensures.looked.looked c.requires.together c.gather-in_default-place_of.ensures.still c.gather-in_default-place_of.ensures.gathered refl
     c.args.number c.in-Some.who (sym c.in-Some.is ∙ c.receiver.ensures.receiver) (subst (λ l. IsNowhere l c.in-Some.who) c.as_slice.ensures.value (c.place_of.ensures.none none))
 
 pub returns : goal.returns

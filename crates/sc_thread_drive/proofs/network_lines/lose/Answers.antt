@@ -17,7 +17,7 @@ pub returns-in_default-pending : goal.returns-in_default-pending
 returns-in_default-pending g c =
     let at : IsPlace c.args.company.now.shells.items c.args.who c.in-Some.field-0 = subst (λ l. IsPlace l c.args.who c.in-Some.field-0) c.as_slice.ensures.value c.in-Some.ensures.some in
     let none : c.pending.result ≡ None = search rules in
-    loses_nothing c.args.company.now (record c.args.company.now { net = c.gather.new.net; shells = c.gather.new.shells }) c.pending.new.self c.pending.ensures.looked.looked c.requires.together c.gather.ensures.still c.in_ok-gather.ensures.gathered refl
+    loses_nothing c.args.company.now (record c.args.company.now { net = c.gather.new.net; shells = c.gather.new.shells }) c.pending.new.self c.pending.ensures.looked.looked c.requires.together c.gather.ensures.still c.gather.ensures.gathered refl
     c.args.who c.args.k c.in-Some.field-0 at (sym none ∙ c.pending.ensures.kth)
 
 pub returns : goal.returns

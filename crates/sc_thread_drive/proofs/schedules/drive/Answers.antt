@@ -16,7 +16,7 @@ use Rattle.sc_thread_drive.proofs.schedules.drive.Goals as goal
 pub loop-line-init : goal.loop-line-init
 loop-line-init g c =
     let old = c.args.company.now in let net = old.net in let next = c.gather.new.net in let ss = old.shells.items in let after = c.gather.new.shells.items in
-    let still = c.gather.ensures.still in let gathered = c.in-Ok.ensures.gathered in record {
+    let still = c.gather.ensures.still in let gathered = c.gather.ensures.gathered in record {
       on = on_gathered net net next ss after c.requires.begins.1.birth.crew.exchange c.requires.begins.1.birth.crew.sound (stays_same net) still gathered;
       at = λ births opened.
           drive_begins two_words births c.args.lines.now next after old.score
@@ -45,22 +45,22 @@ lowest-requires-clause-together g c κs within = let old = c.args.company.now in
 
 pub loop-line-preserved : goal.loop-line-preserved
 loop-line-preserved g c = let inv = c.loop-line.invariant in let old = c.args.company.now in let mid = c.loop-line.company in let new = c.run_line.new.company in record {
-  on = on_then old.net mid.net new.net old.shells.items mid.shells.items new.shells.items inv.on c.in-Ok-run_line.ensures.goes.on;
+  on = on_then old.net mid.net new.net old.shells.items mid.shells.items new.shells.items inv.on c.in-Ok.ensures.goes.on;
   at = λ births opened.
       drive_on two_words births c.args.lines.now mid.net new.net mid.shells.items new.shells.items mid.score new.score c.loop-line.line-index c.line-item.result c.loop-line-test.true c.line-item.is
-      (inv.at births opened) c.in-Ok-run_line.ensures.goes.goes;
+      (inv.at births opened) c.in-Ok.ensures.goes.goes;
 }
 
-pub returns-in-Err-Full-clause-driven : goal.returns-in-Err-Full-clause-driven
-returns-in-Err-Full-clause-driven g c = λ births opened.
+pub returns-in-Err-JournalFull-clause-driven : goal.returns-in-Err-JournalFull-clause-driven
+returns-in-Err-JournalFull-clause-driven g c = λ births opened.
     let inv = c.loop-line.invariant in let old = c.args.company.now in let mid = c.loop-line.company in
     drive_fills two_words births c.args.lines.now old.net mid.net c.run_line.new.company.net mid.shells.items mid.score c.loop-line.line-index c.line-item.result inv.on.kept.stays.exchange.2 c.loop-line-test.true c.line-item.is
-    (inv.at births opened) (c.in-Err-Full.ensures.fills (ap Err c.in-Err-Full.field-0-is)).fills
+    (inv.at births opened) (c.in-Err-JournalFull.ensures.fills _ (ap Err c.in-Err-JournalFull.field-0-is)).fills
 
-pub returns-in-Err-Full-clause-kept : goal.returns-in-Err-Full-clause-kept
-returns-in-Err-Full-clause-kept g c = λ _.
+pub returns-in-Err-JournalFull-clause-kept : goal.returns-in-Err-JournalFull-clause-kept
+returns-in-Err-JournalFull-clause-kept g c = λ _.
     let inv = c.loop-line.invariant in let old = c.args.company.now in let mid = c.loop-line.company in let new = c.run_line.new.company in
-    kept_then old.net mid.net new.net old.shells.items mid.shells.items new.shells.items inv.on.kept.stays inv.on.kept.same (c.in-Err-Full.ensures.fills (ap Err c.in-Err-Full.field-0-is)).kept
+    kept_then old.net mid.net new.net old.shells.items mid.shells.items new.shells.items inv.on.kept.stays inv.on.kept.same (c.in-Err-JournalFull.ensures.fills _ (ap Err c.in-Err-JournalFull.field-0-is)).kept
 
 quiet_told : (found : Option ℕ) (quiet : Bool) → is_some found ≡ not quiet → is_none found ≡ quiet
 quiet_told None true e = refl

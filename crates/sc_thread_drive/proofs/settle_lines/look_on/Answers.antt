@@ -16,7 +16,7 @@ gather-requires-clause-exchange g c κs within = all_of_later c.args.company.now
 pub returns : goal.returns
 returns g c =
     let net = c.args.company.now.net in let mid = c.look.new.self in let next = c.gather.new.net in let ss = c.args.company.now.shells.items in let after = c.gather.new.shells.items in let still = c.gather.ensures.still in
-    let looked = c.look.ensures.looked.looked in let gathered = c.in_ok-gather.ensures.gathered in
+    let looked = c.look.ensures.looked.looked in let gathered = c.gather.ensures.gathered in
     let found : IsFirstPlaced after c.as_slice-2.result.now c.first_placed.result = subst (λ l. IsFirstPlaced l c.as_slice-2.result.now c.first_placed.result) c.as_slice.ensures.value c.first_placed.ensures in
     let spots : c.as_slice-2.result.now ≡ spots_of g.A.Mail.Parcel.receiver net.actors (seen mid) = c.as_slice-2.ensures ∙ c.in_ok-look.ensures.look.spots in
     let all : c.as_slice-2.result.now ≡ spots_of g.A.Mail.Parcel.receiver mid.actors (seen mid) = subst (λ n. c.as_slice-2.result.now ≡ spots_of g.A.Mail.Parcel.receiver n (seen mid)) (sym looked.stays.exchange.1) spots in

@@ -1,7 +1,7 @@
 use Rattle.std.proofs.Common.{rules, ◌≡◌, ◌-◌, Option, Result, Err, None, [], ◌∷◌, ap, subst, ℕ}
 use Rattle.sc_actor.specs.Walk.{Settles}
-use Rattle.sc_thread_drive.specs.declared.company.Stop.{Stop}
-use Rattle.sc_thread_drive.specs.declared.company.Stop.TheVariants.{Full}
+use Rattle.sc_thread_ledger.specs.declared.errors.PostError.{PostError}
+use Rattle.sc_thread_ledger.specs.declared.errors.PostError.TheVariants.{JournalFull}
 use Rattle.sc_thread_drive.specs.Lowest.{FindsLowest}
 use Rattle.sc_thread_drive.proofs.Settled.{cut_settles, line_refused_then, line_rested, line_then, quiet_settles, together_after}
 use Rattle.sc_thread_drive.proofs.Working.{same_stop}
@@ -45,9 +45,9 @@ returns-then-left-eq0-clause-goes g c =
     (cut_settles mid left c.in-Some.place (together_after c.args.company.now mid (Settles c.args.most ∷ []) (Settles left ∷ []) c.requires.together inv.line) (search rules) (subst (FindsLowest mid.net mid.shells.items) c.in-Some.is inv.finds))
 
 pub returns-in_err-found-2-clause-fills : goal.returns-in_err-found-2-clause-fills
-returns-in_err-found-2-clause-fills g c = λ e.
+returns-in_err-found-2-clause-fills g c = λ bytes e.
     let inv = c.loop-found.invariant in let left = c.loop-found.left in
     let stop = c.in_err-found-2.field-0.0 in
-    let is : stop ≡ Full = same_stop c.from_residual-in_err-found-2.result stop c.from_residual-in_err-found-2.ensures.1 e in
-    let why : (let r : Result (Option ℕ) Stop = Err stop in r) ≡ Err Full = ap (λ s. Err s) is in
-    line_refused_then c.args.company.now c.loop-found.company c.settle_step.new.company (Settles c.args.most ∷ []) (Settles left ∷ []) inv.line (c.in_err-found-2.ensures.fills why)
+    let is : stop ≡ JournalFull bytes = same_stop c.from_residual-in_err-found-2.result stop bytes c.from_residual-in_err-found-2.ensures.1 e in
+    let why : (let r : Result (Option ℕ) PostError = Err stop in r) ≡ Err (JournalFull bytes) = ap (λ s. Err s) is in
+    line_refused_then c.args.company.now c.loop-found.company c.settle_step.new.company (Settles c.args.most ∷ []) (Settles left ∷ []) inv.line (c.in_err-found-2.ensures.fills bytes why)

@@ -1,4 +1,4 @@
-use Rattle.std.proofs.Common.{rules, ◌≡◌, ◌∙◌, refl, sym, ap, true, false, subst}
+use Rattle.std.proofs.Common.{rules, ◌≡◌, ◌∙◌, refl, sym, ap, false, subst}
 use Rattle.std.proofs.lemmas.Result.{on_ok_weaker}
 use Rattle.sc_actor.specs.System.{acts}
 use Rattle.sc_actor.specs.declared.rows.Event.TheVariants.{Go}
@@ -9,10 +9,10 @@ use Rattle.sc_thread_drive.proofs.Working.{same_stop}
 use Rattle.sc_thread_drive.proofs.single_lines.run_go.Goals as goal
 
 pub returns-in_err-go-clause-fills : goal.returns-in_err-go-clause-fills
-returns-in_err-go-clause-fills g c = λ e.
+returns-in_err-go-clause-fills g c = λ bytes e.
     let no : c.is_listed.result ≡ false = search rules in
     let fresh : is_in c.args.who c.args.company.now.score.started.items ≡ false = ap (is_in c.args.who) (sym c.as_slice.ensures.value) ∙ (sym c.is_listed.ensures ∙ no) in
-    go_refused c.args.who c.args.company.now c.go.new.company fresh c.in_err-go.field-0.0 (same_stop c.from_residual.result c.in_err-go.field-0.0 c.from_residual.ensures.1 e) c.in_err-go.ensures
+    go_refused c.args.who c.args.company.now c.go.new.company fresh c.in_err-go.field-0.0 bytes (same_stop c.from_residual.result c.in_err-go.field-0.0 bytes c.from_residual.ensures.1 e) c.in_err-go.ensures
 
 pub returns-then-branch-clause-goes : goal.returns-then-branch-clause-goes
 returns-then-branch-clause-goes g c =

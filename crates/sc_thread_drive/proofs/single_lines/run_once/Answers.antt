@@ -1,4 +1,4 @@
-use Rattle.std.proofs.Common.{true, false, subst}
+use Rattle.std.proofs.Common.{subst}
 use Rattle.std.proofs.lemmas.Result.{on_ok_weaker}
 use Rattle.sc_actor.specs.Walk.{line_row}
 use Rattle.sc_thread_drive.specs.Working.{RowEnded}
@@ -12,8 +12,8 @@ returns-then-branch-clause-goes g c =
     once_made line old new c.requires.calm (subst (RowEnded (λ s rows. line_row s rows line) old new) c.if-branch.true c.in_ok-step_line.ensures)
 
 pub returns-in_err-step_line-clause-fills : goal.returns-in_err-step_line-clause-fills
-returns-in_err-step_line-clause-fills g c = λ e.
-    once_refused c.args.line.now c.args.company.now c.step_line.new.company c.in_err-step_line.field-0.0 (same_stop c.from_residual.result c.in_err-step_line.field-0.0 c.from_residual.ensures.1 e) c.in_err-step_line.ensures
+returns-in_err-step_line-clause-fills g c = λ bytes e.
+    once_refused c.args.line.now c.args.company.now c.step_line.new.company c.in_err-step_line.field-0.0 bytes (same_stop c.from_residual.result c.in_err-step_line.field-0.0 bytes c.from_residual.ensures.1 e) c.in_err-step_line.ensures
 
 pub returns-clause-goes : goal.returns-clause-goes
 returns-clause-goes g c =

@@ -1,4 +1,3 @@
-use Rattle.std.proofs.Common.{sym}
 use Rattle.sc_thread_drive.proofs.single_lines.step_line.Goals as goal
 
 pub returns-in-Deliver : goal.returns-in-Deliver
@@ -16,5 +15,5 @@ returns-in-Tick g c = rw c.in-Tick.is c.happen.ensures
 pub returns-in-Crash : goal.returns-in-Crash
 returns-in-Crash g c = rw c.in-Crash.is c.happen-in-Crash.ensures
 
-pub returns-in_ok-order-in-Told : goal.returns-in_ok-order-in-Told
-returns-in_ok-order-in-Told g c = rw (c.in-Told.is, sym c.in_ok-order-in-Told.ensures) c.happen-in-Told.ensures
+pub returns-in-Told : goal.returns-in-Told
+returns-in-Told g c = rw c.in-Told.is c.tell.ensures

@@ -12,7 +12,7 @@ returns-clause-goes g c =
     storm_ended (two_words storm.number storm.step) c.in_ok-line.line c.args.company.now c.storm_line.new.company c.run_deed.new.company c.in_ok-line.ensures.rested c.in_ok-line.ensures.line c.in_ok-line.ensures.calm c.in_ok-run_deed.field-0 c.in_ok-run_deed.ensures
 
 pub returns-in_err-run_deed-clause-fills : goal.returns-in_err-run_deed-clause-fills
-returns-in_err-run_deed-clause-fills g c = λ e.
+returns-in_err-run_deed-clause-fills g c = λ bytes e.
     let storm = c.args.storm.now in let stop = c.in_err-run_deed.field-0.0 in
-    storm_refused (two_words storm.number storm.step) c.in_ok-line.line c.args.company.now c.storm_line.new.company c.run_deed.new.company c.in_ok-line.ensures.rested c.in_ok-line.ensures.line stop
-    (same_stop c.from_residual-in_err-run_deed.result stop c.from_residual-in_err-run_deed.ensures.1 e) c.in_err-run_deed.ensures
+    storm_refused (two_words storm.number storm.step) c.in_ok-line.line c.args.company.now c.storm_line.new.company c.run_deed.new.company c.in_ok-line.ensures.rested c.in_ok-line.ensures.line stop bytes
+    (same_stop c.from_residual-in_err-run_deed.result stop bytes c.from_residual-in_err-run_deed.ensures.1 e) c.in_err-run_deed.ensures

@@ -11,7 +11,7 @@ vouch-requires-clause-exchange g c κs within =
 
 pub vouch-requires-clause-met : goal.vouch-requires-clause-met
 vouch-requires-clause-met g c κs within =
-    let met : HaveMet c.args.net.now c.meet.new.net c.meet.new.shells.items = c.in_ok-meet.ensures.met in
+    let met : HaveMet c.args.net.now c.meet.new.net c.meet.new.shells.items = c.meet.ensures.met in
     all_met_later c.meet.new.net c.first_receiver-found.new.self c.meet.new.shells.items c.first_receiver-found.ensures.looked.looked met.met
 
 pub returns-clause-still : goal.returns-clause-still

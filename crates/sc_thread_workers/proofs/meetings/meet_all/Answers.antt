@@ -1,4 +1,4 @@
-use Rattle.std.proofs.Common.{rules, arith, get_or, ◌+◌, subst, sym}
+use Rattle.std.proofs.Common.{rules, arith, get_or, subst, sym}
 use Rattle.sc_thread_ports.specs.exchange.Ports.{SameExchange}
 use Rattle.sc_thread_workers.specs.Crews.{Still, Met, HasMet, IsAhead}
 use Rattle.sc_thread_workers.proofs.Lists.{changed_more, left_more, item_was}
@@ -16,17 +16,6 @@ loop-shell-preserved g c =
           (λ k d lt. has_later c.loop-shell.net c.meet_one.new.net (get_or c.loop-shell.shells k d) met.net (inv.met k d lt)) inv.left met.has;
       ahead = changed_more (λ s t. IsAhead c.args.net.now t) c.args.shells.now c.loop-shell.shells c.loop-shell.shell-index c.shell-item.result c.meet_one.new.shell (omega arith) (omega arith) c.shell-item.is inv.ahead inv.left (ahead_before c.args.net.now c.loop-shell.net c.meet_one.new.shell inv.net met.ahead);
       left = left_more c.args.shells.now c.loop-shell.shells c.loop-shell.shell-index c.meet_one.new.shell inv.left;
-    }
-
-pub returns-in_err-meet_one-clause-still : goal.returns-in_err-meet_one-clause-still
-returns-in_err-meet_one-clause-still g c =
-    let inv = c.loop-shell.invariant in
-    let met : Met c.shell-item.result c.meet_one.new.shell c.loop-shell.net c.meet_one.new.net = search rules in record {
-      len = search rules;
-      still = all_partly Still still_same c.args.shells.now _ (c.loop-shell.shell-index + 1)
-          (changed_more Still c.args.shells.now c.loop-shell.shells c.loop-shell.shell-index c.shell-item.result c.meet_one.new.shell (omega arith) (omega arith) c.shell-item.is inv.done inv.left met.still)
-          (left_more c.args.shells.now c.loop-shell.shells c.loop-shell.shell-index c.meet_one.new.shell inv.left);
-      looked = looked_trans c.args.net.now c.loop-shell.net c.meet_one.new.net inv.net met.net;
     }
 
 pub meet_one-requires-clause-exchange : goal.meet_one-requires-clause-exchange

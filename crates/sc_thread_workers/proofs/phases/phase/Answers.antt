@@ -1,4 +1,4 @@
-use Rattle.std.proofs.Common.{rules, ◌≡◌, ◌≤◌, ◌*◌, arith, length, ap, sym, subst, ◌∙◌}
+use Rattle.std.proofs.Common.{rules, ◌≡◌, ◌<◌, ◌≤◌, ◌*◌, arith, length, ap, sym, subst, ◌∙◌}
 use Rattle.sc_thread_work.specs.queue.Hands.{IsWorkedOff, known}
 use Rattle.sc_thread_workers.specs.Phases.{AllServed}
 use Rattle.sc_thread_workers.proofs.Holding.{one_holder}
@@ -29,3 +29,8 @@ pub returns-clause-holders : goal.returns-clause-holders
 returns-clause-holders g c =
     let off = subst (λ l. IsWorkedOff l (known c.in_ok-off.off.holder)) (ap (λ v. v.items) c.replace-all.ensures.value) c.in_ok-off.ensures.once in
     one_holder c.args.shells.now.items (known c.in_ok-off.off.holder).put off.put
+
+pub returns-clause-passes : goal.returns-clause-passes
+returns-clause-passes g c =
+    let some : 0 < length c.replace-all.result.items = subst (λ l. 0 < length l) (sym (ap (λ v. v.items) c.replace-all.ensures.value)) c.requires.many.0 in
+    c.in_ok-off.ensures.passes some ∙ c.workers_for-workers.ensures.value

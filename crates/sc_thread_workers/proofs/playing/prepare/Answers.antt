@@ -12,11 +12,11 @@ vouch-requires-clause-exchange g c κs within =
 
 pub vouch-requires-clause-met : goal.vouch-requires-clause-met
 vouch-requires-clause-met g c κs within =
-    let met : HaveMet c.args.net.now c.meet.new.net c.meet.new.shells.items = c.in-Ok.ensures.met in
+    let met : HaveMet c.args.net.now c.meet.new.net c.meet.new.shells.items = c.meet.ensures.met in
     all_met_later c.meet.new.net c.waiting.new.self c.meet.new.shells.items c.waiting.ensures.looked.looked met.met
 
-pub returns-in_default-waiting-clause-still : goal.returns-in_default-waiting-clause-still
-returns-in_default-waiting-clause-still g c = are_still_looked c.args.net.now c.meet.new.net c.waiting.new.self c.args.shells.now.items c.meet.new.shells.items c.meet.ensures.still c.waiting.ensures.looked.looked
+pub returns-in_default-clause-still : goal.returns-in_default-clause-still
+returns-in_default-clause-still g c = are_still_looked c.args.net.now c.meet.new.net c.waiting.new.self c.args.shells.now.items c.meet.new.shells.items c.meet.ensures.still c.waiting.ensures.looked.looked
 
 pub returns-then-not-any-clause-still : goal.returns-then-not-any-clause-still
 returns-then-not-any-clause-still g c = are_still_then c.args.net.now c.waiting.new.self c.vouch.new.net c.args.shells.now.items c.meet.new.shells.items c.vouch.new.shells.items (are_still_looked c.args.net.now c.meet.new.net c.waiting.new.self c.args.shells.now.items c.meet.new.shells.items c.meet.ensures.still c.waiting.ensures.looked.looked) c.vouch.ensures.still
@@ -39,7 +39,7 @@ returns-clause-gathered g c = gathered_so c.waiting.new.self c.vouch.new.net c.m
 pub returns-then-not-any-clause-end : goal.returns-then-not-any-clause-end
 returns-then-not-any-clause-end g c =
     let told : c.any_of-any.result ≡ false = search rules in
-    let none : any_waits c.waiting.new.self c.args.whos.now ≡ false = any_found c.waiting.new.self c.args.whos.now c.in-Ok-waiting.found.items c.any_of-any.result c.in-Ok-waiting.ensures.waiting (c.any_of-any.ensures ∙ ap (list_any (λ wait. wait)) c.as_slice.ensures.value) ∙ told in let n = c.vouch.ensures.vouched in (
+    let none : any_waits c.waiting.new.self c.args.whos.now ≡ false = any_found c.waiting.new.self c.args.whos.now c.in-Ok.found.items c.any_of-any.result c.in-Ok.ensures.waiting (c.any_of-any.ensures ∙ ap (list_any (λ wait. wait)) c.as_slice.ensures.value) ∙ told in let n = c.vouch.ensures.vouched in (
       n.over,
       waits_same c.waiting.new.self c.vouch.new.net c.args.whos.now c.vouch.ensures.still.looked.stays.exchange.1 n.seen ∙ none,
       refl,
@@ -48,7 +48,7 @@ returns-then-not-any-clause-end g c =
 pub returns-then-used-limit-clause-end : goal.returns-then-used-limit-clause-end
 returns-then-used-limit-clause-end g c =
     let told : c.any_of-any.result ≡ true = search rules in
-    let some : any_waits c.waiting.new.self c.args.whos.now ≡ true = any_found c.waiting.new.self c.args.whos.now c.in-Ok-waiting.found.items c.any_of-any.result c.in-Ok-waiting.ensures.waiting (c.any_of-any.ensures ∙ ap (list_any (λ wait. wait)) c.as_slice.ensures.value) ∙ told in let all : c.args.used ≡ c.args.limit = search rules in let n = c.vouch.ensures.vouched in (
+    let some : any_waits c.waiting.new.self c.args.whos.now ≡ true = any_found c.waiting.new.self c.args.whos.now c.in-Ok.found.items c.any_of-any.result c.in-Ok.ensures.waiting (c.any_of-any.ensures ∙ ap (list_any (λ wait. wait)) c.as_slice.ensures.value) ∙ told in let all : c.args.used ≡ c.args.limit = search rules in let n = c.vouch.ensures.vouched in (
       n.over,
       waits_same c.waiting.new.self c.vouch.new.net c.args.whos.now c.vouch.ensures.still.looked.stays.exchange.1 n.seen ∙ some,
       refl,
@@ -58,7 +58,7 @@ returns-then-used-limit-clause-end g c =
 pub returns-clause-begin : goal.returns-clause-begin
 returns-clause-begin g c = λ none.
     let told : c.any_of-any.result ≡ true = search rules in
-    let some : any_waits c.waiting.new.self c.args.whos.now ≡ true = any_found c.waiting.new.self c.args.whos.now c.in-Ok-waiting.found.items c.any_of-any.result c.in-Ok-waiting.ensures.waiting (c.any_of-any.ensures ∙ ap (list_any (λ wait. wait)) c.as_slice.ensures.value) ∙ told in let n = c.vouch.ensures.vouched in (
+    let some : any_waits c.waiting.new.self c.args.whos.now ≡ true = any_found c.waiting.new.self c.args.whos.now c.in-Ok.found.items c.any_of-any.result c.in-Ok.ensures.waiting (c.any_of-any.ensures ∙ ap (list_any (λ wait. wait)) c.as_slice.ensures.value) ∙ told in let n = c.vouch.ensures.vouched in (
       record {
         waits = waits_same c.waiting.new.self c.vouch.new.net c.args.whos.now c.vouch.ensures.still.looked.stays.exchange.1 n.seen ∙ some;
         gathered = returns-clause-gathered g c;

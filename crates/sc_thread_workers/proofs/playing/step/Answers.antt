@@ -50,7 +50,7 @@ pub returns-in-None-clause-serves : goal.returns-in-None-clause-serves
 returns-in-None-clause-serves g c =
     let start = c.args.shells.now.items in let met = c.meet.new.shells.items in let after = c.play_round.new.shells.items in let last = c.prepare.new.shells.items in
     let calm : AllSound after = subst AllSound c.as_slice.ensures.value (c.refused_in.ensures.none (search rules)) in
-    let ahead : AllAhead c.args.net.now met = c.in-Ok.ensures.met.ahead in
+    let ahead : AllAhead c.args.net.now met = c.meet.ensures.met.ahead in
     calm_maps c.prepare.result
     (λ (gathered : IsGathered c.prepare.new.net last).
     let some = delivers_one c.args.net.now c.prepare.new.net start met after last c.in-Some.did (c.args.play.now.limit - c.args.standing.now.used) c.meet.ensures.still.len c.in-Some.ensures.played.len c.prepare.ensures.still.len
@@ -70,7 +70,7 @@ returns-in-None-clause-end g c =
 pub returns-in-Some-refused_in-clause-end : goal.returns-in-Some-refused_in-clause-end
 returns-in-Some-refused_in-clause-end g c =
     let start = c.args.shells.now.items in let met = c.meet.new.shells.items in let after = c.play_round.new.shells.items in let last = c.ended.new.shells.items in
-    let ahead : AllAhead c.args.net.now met = c.in-Ok.ensures.met.ahead in
+    let ahead : AllAhead c.args.net.now met = c.meet.ensures.met.ahead in
     let refusal : HasRefusal after c.in-Some-refused_in.refused = subst (λ l. HasRefusal l c.in-Some-refused_in.refused) c.as_slice.ensures.value c.in-Some-refused_in.ensures.some in
     let short = c.in-Some.ensures.played.short c.in-Some-refused_in.refused refusal in
     step_end c.ended.result c.in-Some-refused_in.refused c.ended.new.net start last _ c.args.play.now.limit _ c.ended.ensures.end
@@ -93,7 +93,7 @@ returns-in-Some-refused_in-clause-end g c =
 pub returns-in-None-clause-served : goal.returns-in-None-clause-served
 returns-in-None-clause-served g c =
     let start = c.args.shells.now.items in let met = c.meet.new.shells.items in let after = c.play_round.new.shells.items in let last = c.prepare.new.shells.items in
-    let ahead : AllAhead c.args.net.now met = c.in-Ok.ensures.met.ahead in
+    let ahead : AllAhead c.args.net.now met = c.meet.ensures.met.ahead in
     held_maps c.prepare.result
     (λ (gathered : IsGathered c.prepare.new.net last).
     round_serves c.args.net.now c.prepare.new.net start met after last c.meet.ensures.still.len c.in-Some.ensures.played.len c.prepare.ensures.still.len
@@ -103,7 +103,7 @@ returns-in-None-clause-served g c =
 pub returns-in-Some-refused_in-clause-served : goal.returns-in-Some-refused_in-clause-served
 returns-in-Some-refused_in-clause-served g c =
     let start = c.args.shells.now.items in let met = c.meet.new.shells.items in let after = c.play_round.new.shells.items in let last = c.ended.new.shells.items in
-    let ahead : AllAhead c.args.net.now met = c.in-Ok.ensures.met.ahead in
+    let ahead : AllAhead c.args.net.now met = c.meet.ensures.met.ahead in
     refused_held c.ended.result c.in-Some-refused_in.refused c.ended.new.net last
     (λ gathered. round_serves c.args.net.now c.ended.new.net start met after last c.meet.ensures.still.len c.in-Some.ensures.played.len c.ended.ensures.still.len
     (looked_trans c.args.net.now c.meet.new.net c.ended.new.net c.meet.ensures.still.looked c.ended.ensures.still.looked) c.requires.crew.first c.meet.ensures.still.still ahead c.in-Some.ensures.played.worked c.ended.ensures.still.still gathered c.requires.crew.exchange)

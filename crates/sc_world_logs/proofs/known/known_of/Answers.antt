@@ -16,7 +16,7 @@ returns c =
     let no_log : c.new-log.result.items ≡ [] = search rules in
     let no_members : c.new-members.result.items ≡ [] = search rules in
     let told =
-    matches_first h c.args.base kept c.in_ok-found.found.items c.new-log.result.items c.new-members.result.items c.in_ok-state.state c.in_ok-behind.behind no_log no_members c.in_ok-found.ensures c.in_ok-index.ensures
+    matches_first h c.args.base kept c.in_ok-found.found.items c.new-log.result.items c.new-members.result.items c.in_ok-state.state c.in_ok-behind.behind no_log no_members c.in_ok-found.ensures.found c.in_ok-index.ensures.index
     (c.in_ok-state.ensures ∙ ap group_of c.in_ok-one.ensures) (c.in_ok-behind.ensures ∙ ap group_of c.in_ok-other.ensures) in
     let done = c.in_ok-_childless.ensures h told in
     (known_is c.args.rows.now c.args.base _ done.0 done.1 done.2, done.1)

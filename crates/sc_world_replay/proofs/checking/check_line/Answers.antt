@@ -1,4 +1,5 @@
 use Rattle.sc_actor.proofs.TaskLemmas.{one_of}
+use Rattle.sc_world_replay.proofs.Checks.{no_row_next}
 use Rattle.sc_texts.specs.chance.Words.{two_words}
 use Rattle.sc_world_replay.proofs.checking.check_line.Goals as goal
 
@@ -14,4 +15,10 @@ returns-in-Storm-clause-is g c = rw c.in-Storm.is c.check_storm.ensures.is
 pub returns-in_default : goal.returns-in_default
 returns-in_default g c =
     let one = one_of two_words c.args.line.now c.in_default.not-Settle c.in_default.not-Free c.in_default.not-Storm in
-    record { is = rw one c.check_once.ensures.is; skipped = c.check_once.ensures.skipped }
+    record { is = rw one c.check_once.ensures.is; skipped = c.check_once.ensures.skipped; ended = c.check_once.ensures.ended }
+
+pub returns-in-Settle-clause-ended : goal.returns-in-Settle-clause-ended
+returns-in-Settle-clause-ended g c = λ never ended. c.check_many.ensures.none (λ row is. absurd (no_row_next c.args.stage.now.rows c.args.rows.now row ended is))
+
+pub returns-in-Free-clause-ended : goal.returns-in-Free-clause-ended
+returns-in-Free-clause-ended g c = λ never ended. c.check_many-in-Free.ensures.none (λ row is. absurd (no_row_next c.args.stage.now.rows c.args.rows.now row ended is))

@@ -2,7 +2,7 @@ use Rattle.std.proofs.Common.{◌≡◌, ◌+◌, ◌-◌, [], ◌∷◌, refl, 
 use Rattle.std.proofs.lemmas.Bool.{MatchBool-at_true, MatchBool-at_false}
 use Rattle.sc_world_replay.specs.Checks.{DidWithRow, Misses}
 use Rattle.sc_world_replay.specs.Moves.{rules_of, many}
-use Rattle.sc_world_replay.proofs.Checks.{room_mails, none_if, next_row, taking_next, taking_same, Ends-many, Ends-then, Breaks-many, Breaks-none, Breaks-then, StageGoes-chosen, loud_off, quiet_off}
+use Rattle.sc_world_replay.proofs.Checks.{chooses_none, room_mails, none_if, next_row, taking_next, taking_same, Ends-many, Ends-then, Breaks-many, Breaks-none, Breaks-then, StageGoes-chosen, loud_off, quiet_off}
 use Rattle.sc_world_replay.proofs.ActionLemmas.{quiet_is}
 use Rattle.sc_world_replay.proofs.Steps.{StageGoes-quiet, StageGoes-close, StageGoes-then, StageGoes-count}
 use Rattle.sc_world_replay.proofs.checking.check_many.Goals as goal
@@ -59,6 +59,8 @@ loop-done-preserved g c =
           (StageGoes-chosen r c.loop-done.stage c.take_row.new.stage c.args.rows.now c.args.free (c.args.most - c.loop-done.done) c.in-Some.action c.index-rows-at.result (sym c.in-Some.ensures.is) c.in-Some.ensures.can (omega arith) (sym (c.is_quiet.ensures ∙ quiet) ∙ c.if-is_quiet.false) took)),
       taking_next r c.loop-done.stage c.take_row.new.stage c.in-Some.action c.index-rows-at.result c.args.rows.now c.loop-done.invariant.1 next.more next.is took,
       c.in_ok-take_row.ensures.skipped ∙ c.loop-done.invariant.2,
+      λ never.
+          absurd (chooses_none g.A.Mail.Parcel.receiver c.args.stage.now c.loop-done.stage c.args.rows.now c.args.free c.index-rows-at.result c.in-Some.action never (c.loop-done.invariant.3 never) next c.in-Some.ensures.is),
     )
 
 pub returns-then-not-is_quiet-clause-is : goal.returns-then-not-is_quiet-clause-is
@@ -80,3 +82,8 @@ returns-else-not-is_quiet-clause-is g c =
           (StageGoes-close r c.loop-done.stage c.loop-done.stage c.args.free (record { rows = refl; seats = refl }) refl (quiet_off c.loop-done.stage.unsettled _ (sym (c.is_quiet-2.ensures ∙ quiet) ∙ c.if-not-is_quiet.false))),
       c.loop-done.invariant.1,
     )
+
+pub returns-in_err-take_row-clause-none : goal.returns-in_err-take_row-clause-none
+returns-in_err-take_row-clause-none g c = λ never.
+    let next = next_row c.loop-done.stage.rows c.args.rows.now c.index-rows-at.result c.len-at.result c.len-at.ensures c.if-at-rows.false c.index-rows-at.is in
+    absurd (chooses_none g.A.Mail.Parcel.receiver c.args.stage.now c.loop-done.stage c.args.rows.now c.args.free c.index-rows-at.result c.in-Some.action never (c.loop-done.invariant.3 never) next c.in-Some.ensures.is)

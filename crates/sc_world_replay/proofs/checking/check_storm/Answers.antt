@@ -1,4 +1,4 @@
-use Rattle.std.proofs.Common.{◌≡◌, ◌+◌, ◌<◌, ◌^◌, [], ◌∷◌, refl, ◌∙◌, ap, subst, arith, mod-eq_of_lt}
+use Rattle.std.proofs.Common.{◌≡◌, ◌+◌, ◌<◌, ◌^◌, [], ◌∷◌, length, refl, ◌∙◌, ap, subst, arith, mod-eq_of_lt}
 use Rattle.sc_actor.specs.Walk.{Storms}
 use Rattle.sc_texts.specs.chance.Words.{ChanceStep, two_words, after_step}
 use Rattle.sc_world_replay.specs.declared.checked.Checked.TheVariants.{On, Ended, Wrong}
@@ -12,6 +12,7 @@ loop-done-init g c = record {
   goes = StageGoes-begin (rules_of g.A.Actor.table g.A.Mail.Parcel.receiver) c.args.stage.now (two_words c.args.number) c.args.most;
   taking = c.requires.taking;
   skipped = refl;
+  stays = λ ended. refl;
   chance = c.start-chance.ensures;
 }
 
@@ -26,6 +27,7 @@ loop-done-preserved g c =
       goes = StageGoes-storm r c.args.stage.now c.loop-done.stage new c.args.rows.now (two_words c.args.number) c.args.most done (omega arith) inv.goes on.0;
       taking = on.1;
       skipped = c.in_ok-check_step.ensures.skipped ∙ inv.skipped;
+      stays = λ ended. c.in_ok-check_step.ensures.stays (ap length (inv.stays ended) ∙ ended) ∙ inv.stays ended;
       chance = c.draw-words.ensures.next ∙ (ap after_step inv.chance ∙ ap (λ k. record { number = c.args.number; step = k }) (mod-eq_of_lt few));
     }
 
@@ -49,3 +51,6 @@ pub returns-clause-is : goal.returns-clause-is
 returns-clause-is g c =
     let inv = c.loop-done.invariant in
     (StageGoes-end (rules_of g.A.Actor.table g.A.Mail.Parcel.receiver) c.args.stage.now (two_words c.args.number) c.args.most c.loop-done.stage c.loop-done.done (omega arith) inv.goes, inv.taking)
+
+pub returns-in_err-check_step-clause-ended : goal.returns-in_err-check_step-clause-ended
+returns-in_err-check_step-clause-ended g c = λ ended. c.check_step.ensures.ended (ap length (c.loop-done.invariant.stays ended) ∙ ended)

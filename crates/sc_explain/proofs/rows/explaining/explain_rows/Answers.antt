@@ -10,11 +10,11 @@ use Rattle.sc_explain.proofs.rows.explaining.explain_rows.Goals as goal
 pub loop-row-init : goal.loop-row-init
 loop-row-init c = record {
   said = c.in_ok-said.ensures.0;
-  arcs = subst (λ (world : StoreWorld). HaveArcsThroughout world (flat_map (λ (d : DecidingRow). d.entries) c.args.deciding.now)) (sym c.in_ok-world.ensures) c.requires;
+  arcs = subst (λ (world : StoreWorld). HaveArcsThroughout world (flat_map (λ (d : DecidingRow). d.entries) c.args.deciding.now)) (sym c.in_ok-world.ensures.world) c.requires;
   lines =
       ap (λ (lines : List (List ℕ)). lines ++ lines_by c.in_ok-world.world c.args.deciding.now) c.in_ok-said.ensures.1
       ∙ ap (λ (lines : List (List ℕ)). (lines ++ row_lines 0 no_world [] c.in_ok-world.world) ++ lines_by c.in_ok-world.world c.args.deciding.now) c.new-lines.ensures.items
-      ∙ ap (λ (world : StoreWorld). row_lines 0 no_world [] world ++ lines_by world c.args.deciding.now) c.in_ok-world.ensures;
+      ∙ ap (λ (world : StoreWorld). row_lines 0 no_world [] world ++ lines_by world c.args.deciding.now) c.in_ok-world.ensures.world;
 }
 
 pub unreachable-requires : goal.unreachable-requires

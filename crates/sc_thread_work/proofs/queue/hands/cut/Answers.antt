@@ -15,7 +15,7 @@ loop-preserved g c = record {
   pass = search rules;
   left =
       c.another.ensures.rule.0 ∙ (ap less c.loop.invariant.left
-      ∙ ap (λ n. hand n (view c.args.pass.now).puts (view c.args.pass.now).put (view c.args.pass.now).taken) (let same : all_parts - c.loop.counter - 1 ≡ all_parts - (c.loop.counter + 1) = omega arith in same));
+      ∙ ap (λ n. hand n (view c.args.pass.now).puts (view c.args.pass.now).put (view c.args.pass.now).taken (view c.args.pass.now).passes) (let same : all_parts - c.loop.counter - 1 ≡ all_parts - (c.loop.counter + 1) = omega arith in same));
   len = search rules;
   each = subst (All (λ p. IsPassOf c.args.bench.now p × (view p ≡ taker))) (sym c.in_ok-push.ensures.items) (All-push (λ p. IsPassOf c.args.bench.now p × (view p ≡ taker)) c.loop.passes.items c.another.result c.loop.invariant.each (c.another.ensures.queue.1, c.another.ensures.rule.1));
 }

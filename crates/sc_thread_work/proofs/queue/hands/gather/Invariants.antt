@@ -9,5 +9,5 @@ abbrev pub invariant-loop-done : goal.invariant-loop-done
 invariant-loop-done g l = record {
   pass : IsPassOf l.bench l.pass;
   part : 0 < (view l.pass).parts;
-  more : (parts : ℕ) (put : List (Item _)) → Gathers g.F.Fn l.f parts put (view l.fn.pass) l.fn.kept.items → Gathers g.F.Fn l.f (parts + length l.yielded) put (view l.pass) l.kept.items;
+  more : (parts passes : ℕ) (put : List (Item _)) → Gathers g.F.Fn l.f parts passes put (view l.fn.pass) l.fn.kept.items → Gathers g.F.Fn l.f (parts + length l.yielded) (passes + length l.yielded) put (view l.pass) l.kept.items;
 }

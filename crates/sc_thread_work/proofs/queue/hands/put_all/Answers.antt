@@ -25,8 +25,8 @@ loop-work-preserved g c = record {
   put =
       c.put.ensures.put
       ∙ (ap (λ v. with_put v (record { place = c.loop-work.place; work = c.in-Some.work })) c.loop-work.invariant.put
-      ∙ (ap (λ n. hand all_parts true (numbered 0 c.loop-work.yielded ++ record { place = n; work = c.in-Some.work } ∷ []) []) c.loop-work.invariant.next
-      ∙ ap (λ l. hand all_parts true l []) (sym (numbered_more c.loop-work.yielded c.in-Some.work))));
+      ∙ (ap (λ n. hand all_parts true (numbered 0 c.loop-work.yielded ++ record { place = n; work = c.in-Some.work } ∷ []) [] 0) c.loop-work.invariant.next
+      ∙ ap (λ l. hand all_parts true l [] 0) (sym (numbered_more c.loop-work.yielded c.in-Some.work))));
   next = omega (arith, c.loop-work.invariant.next, length-append c.loop-work.yielded (c.in-Some.work ∷ []));
 }
 
@@ -34,4 +34,4 @@ pub returns-clause-put : goal.returns-clause-put
 returns-clause-put g c =
     let all = YieldsList-from_vec c.args.all.items c.into_iter-work-iterator.ensures.into_iter_gives.0 (c.into_iter-work-iterator.ensures.into_iter_gives.1 ∙ c.args.all.ok.0) in
     let end = YieldsList-end all c.loop-work.yielded c.loop-work.work-iterator c.loop-work.yielded_by c.next.result c.next.new.self c.in-None.is c.next.ensures.steps in
-    c.loop-work.invariant.put ∙ ap (λ l. hand all_parts true (numbered 0 l) []) (sym (map-id c.loop-work.yielded) ∙ end.0)
+    c.loop-work.invariant.put ∙ ap (λ l. hand all_parts true (numbered 0 l) [] 0) (sym (map-id c.loop-work.yielded) ∙ end.0)

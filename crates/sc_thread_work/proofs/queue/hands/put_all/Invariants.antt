@@ -7,6 +7,6 @@ use Rattle.sc_thread_work.proofs.queue.hands.put_all.Given as goal
 abbrev pub invariant-loop-work : goal.invariant-loop-work
 invariant-loop-work g l = record {
   pass : IsPassOf l.bench l.pass;
-  put : view l.pass ≡ hand all_parts true (numbered 0 l.yielded) [];
+  put : view l.pass ≡ hand all_parts true (numbered 0 l.yielded) [] 0;
   next : l.place ≡ length l.yielded;
 }

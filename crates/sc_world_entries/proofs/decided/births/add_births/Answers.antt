@@ -22,7 +22,7 @@ loop-child-preserved c = λ bases known.
       λ calm. let parts = and_parts c.loop-child.were c.in_ok-there.there (sym c.both-were.ensures ∙ calm) in next ∙ one.1 parts.1 ∙ so_far.1 parts.0,
     )
 
-pub returns : goal.returns
-returns c = λ bases known.
+pub returns-clause-known : goal.returns-clause-known
+returns-clause-known c = λ bases known.
     subst (λ (cs : List Base). AreKnown c.args.rows.now (fold with_birth bases cs) c.loop-child.knowns.items × (c.loop-child.were ≡ true → fold with_birth bases cs ≡ bases))
     (take_all c.loop-child.child-index c.args.children.now (omega (arith, c.loop-child-test.false))) (c.loop-child.invariant bases known)

@@ -11,9 +11,9 @@ returns c =
     let entries = c.args.entries.now.items in
     let old = c.in_ok-old.old.knowns.items in
     let new = c.in_ok-new.new.knowns.items in (
-      c.in_ok-new.ensures,
+      c.in_ok-new.ensures.tracked,
       λ row is. c.in_ok-add_gained.ensures
           ∙ ap (λ (ks : List Known). entries ++ flat_map (new_entries ks c.as_slice-news.result.now) c.as_slice-news.result.now) c.as_slice-olds.ensures.value
           ∙ ap (λ (ks : List Known). entries ++ flat_map (new_entries old ks) ks) c.as_slice-news.ensures.value
-          ∙ ap (λ (more : List LogEntry). entries ++ more) (gained_is c.args.bases.now c.args.before.now c.args.after.now row old new is c.in_ok-old.ensures.known c.in_ok-new.ensures.known),
+          ∙ ap (λ (more : List LogEntry). entries ++ more) (gained_is c.args.bases.now c.args.before.now c.args.after.now row old new is c.in_ok-old.ensures.tracked.known c.in_ok-new.ensures.tracked.known),
     )

@@ -22,7 +22,7 @@ loop-known-preserved c =
           let parts = and_parts c.loop-known.calm c.in_ok-was_calm.was_calm (sym c.both-calm.ensures ∙ calm) in
           stay_next c.args.knowns.now now i lt inv.long inv.left rows later x y c.known-item.is
           (λ all. inv.stay parts.0 rows later adds all)
-          (subst (λ (k : Known). IsKnown rows k → StaysKnown rows later k y) (sym c.known-item.is) (λ is. c.in_ok-was_calm.ensures parts.1 rows later adds is)) each;
+          (subst (λ (k : Known). IsKnown rows k → StaysKnown rows later k y) (sym c.known-item.is) (λ is. c.in_ok-was_calm.ensures.known parts.1 rows later adds is)) each;
       left = left_next c.args.knowns.now now i lt inv.long inv.left y;
     }
 

@@ -1,6 +1,6 @@
 use Rattle.std.proofs.Common.{◌≡◌, ◌-◌, ap, sym, arith}
 use Rattle.sc_base.specs.Arc.{Arc}
-use Rattle.sc_world_entries.proofs.ScanProofs.Walks.{found_holds, parts_end, parts_over, parts_push}
+use Rattle.sc_world_entries.proofs.ScanProofs.Walks.{found_holds, has_part, parts_end, parts_over, parts_push}
 use Rattle.sc_world_entries.proofs.scans.walking.parts.Goals as goal
 
 pub returns-in_default-clause-parts : goal.returns-in_default-clause-parts
@@ -26,3 +26,8 @@ returns-clause-parts c =
     let rest : Arc = record { lo = c.loop-left.lo; len = c.loop-left.left } in
     let over : c.loop-left.left ≡ 0 = omega (arith, c.loop-left-test.false) in
     parts_over c.args.ring.now c.args.arc.now rest c.loop-left.parts.items over c.loop-left.invariant.1
+
+pub returns-in_err-push-clause-none : goal.returns-in_err-push-clause-none
+returns-in_err-push-clause-none c =
+    let rest : Arc = record { lo = c.loop-left.lo; len = c.loop-left.left } in
+    λ none. absurd (has_part c.args.ring.now c.args.arc.now rest c.in-Some.cut.now c.loop-left.parts.items c.loop-left-test.true (sym c.in-Some.ensures) c.loop-left.invariant.1 none)

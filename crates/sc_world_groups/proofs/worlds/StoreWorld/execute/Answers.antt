@@ -14,7 +14,7 @@ returns c = λ group is.
     let stands : IsFirstNamed c.args.name inside.groups c.args.at = subst (λ (world : StoreWorld). IsFirstNamed c.args.name world.groups c.args.at) (sym c.self.view_is) c.requires in
     let found : named_group c.args.name inside.groups ≡ Some group = subst (λ (world : StoreWorld). named_group c.args.name world.groups ≡ Some group) (sym c.self.view_is) is in
     let done = c.in_ok-core.ensures group (sym stands.found ∙ found) in (
-      parts-are inside group c.args.command.now _ _ _ _ _ _ done.0 done.1 done.2 c.in_ok-add_entry.ensures c.in-Ok.ensures c.in_ok-note.ensures
+      parts-are inside group c.args.command.now _ _ _ _ _ _ done.0 done.1 done.2 c.in_ok-add_entry.ensures.after c.in-Ok.ensures c.in_ok-note.ensures.history
           ∙ ap (λ (world : StoreWorld). with_result world group c.args.command.now (applied group c.args.command.now)) c.self.view_is,
       done.1,
     )

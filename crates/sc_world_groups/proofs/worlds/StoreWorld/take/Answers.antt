@@ -1,5 +1,6 @@
 use Rattle.std.proofs.Common.{◌≡◌, List, Some, None, sym, ap, subst, ◌∙◌}
 use Rattle.std.specs.Option.{option_map}
+use Rattle.std.proofs.lemmas.Option.{none-some}
 use Rattle.sc_words.specs.declared.commands.effects.Effect.{Effect}
 use Rattle.sc_group_table.specs.machine.Group.{Group}
 use Rattle.sc_group_table.specs.machine.Machine.{applied}
@@ -9,8 +10,8 @@ use Rattle.sc_world_groups.specs.Places.{IsFirstNamed}
 use Rattle.sc_world_groups.proofs.Executing.{item-at}
 use Rattle.sc_world_groups.proofs.worlds.StoreWorld.take.Goals as goal
 
-pub returns-in-None : goal.returns-in-None
-returns-in-None c =
+pub returns-in-None-clause-told : goal.returns-in-None-clause-told
+returns-in-None-clause-told c =
     let none : named_group c.args.entry.now.group c.args.self.now.groups ≡ None =
     ap (λ (world : StoreWorld). named_group c.args.entry.now.group world.groups) (sym c.self.view_is) ∙ ap (named_group c.args.entry.now.group) (sym c.as_slice.ensures.value) ∙ c.in-None.ensures in (
       sym (ap (λ found. after_command c.args.self.now found c.args.entry.now.command) none),
@@ -22,8 +23,8 @@ execute-requires c =
     subst (λ (world : StoreWorld). IsFirstNamed c.args.entry.now.group world.groups c.in-Some.at) c.self.view_is
     (subst (λ (groups : List Group). IsFirstNamed c.args.entry.now.group groups c.in-Some.at) c.as_slice.ensures.value c.in-Some.ensures)
 
-pub returns-in-Ok : goal.returns-in-Ok
-returns-in-Ok c =
+pub returns-in-Ok-clause-told : goal.returns-in-Ok-clause-told
+returns-in-Ok-clause-told c =
     let entry = c.args.entry.now in let self = c.args.self.now in
     let stands : IsFirstNamed entry.group self.groups c.in-Some.at =
     subst (λ (world : StoreWorld). IsFirstNamed entry.group world.groups c.in-Some.at) c.self.view_is
@@ -35,8 +36,8 @@ returns-in-Ok c =
       ap (λ (effect : Effect). Some effect) made.1 ∙ sym (ap (option_map (λ (group : Group). (applied group entry.command).1)) found),
     )
 
-pub returns-in-Err : goal.returns-in-Err
-returns-in-Err c = λ same arcs.
+pub returns-in-Err-clause-told : goal.returns-in-Err-clause-told
+returns-in-Err-clause-told c = λ same arcs.
     let entry = c.args.entry.now in let self = c.args.self.now in
     let stands : IsFirstNamed entry.group self.groups c.in-Some.at =
     subst (λ (world : StoreWorld). IsFirstNamed entry.group world.groups c.in-Some.at) c.self.view_is
@@ -44,3 +45,12 @@ returns-in-Err c = λ same arcs.
     let item = item-at self.groups c.in-Some.at stands.within in
     let found : named_group entry.group self.groups ≡ Some item.0 = stands.found ∙ item.1 in
     c.in-Err.ensures same item.0 found (subst (λ (world : StoreWorld). HaveArcs world.ring) (ap (λ o. after_command self o entry.command) found) arcs)
+
+pub returns-in-Err-clause-none : goal.returns-in-Err-clause-none
+returns-in-Err-clause-none c = λ none.
+    let entry = c.args.entry.now in let self = c.args.self.now in
+    let stands : IsFirstNamed entry.group self.groups c.in-Some.at =
+    subst (λ (world : StoreWorld). IsFirstNamed entry.group world.groups c.in-Some.at) c.self.view_is
+    (subst (λ (groups : List Group). IsFirstNamed entry.group groups c.in-Some.at) c.as_slice.ensures.value c.in-Some.ensures) in
+    let item = item-at self.groups c.in-Some.at stands.within in
+    absurd (none-some item.0 (sym none ∙ stands.found ∙ item.1))

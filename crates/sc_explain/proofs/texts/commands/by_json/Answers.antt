@@ -1,0 +1,7 @@
+use Rattle.std.proofs.Common.{◌∙◌, ap}
+use Rattle.serde_json.specs.Written.{has_float}
+use Rattle.sc_explain.proofs.TextsProofs.Whole.{command_whole}
+use Rattle.sc_explain.proofs.texts.commands.by_json.Goals as goal
+
+pub add_json-requires : goal.add_json-requires
+add_json-requires c = ap has_float c.in_ok-json.ensures.json ∙ command_whole c.args.command.now c.in_ok-json.ensures.fits

@@ -1,0 +1,8 @@
+use Rattle.std.proofs.Common.{◌≡◌, ◌++◌, List, ℕ, ap, sym, subst, ◌∙◌}
+use Rattle.std.specs.Prelude.{OnOk}
+use Rattle.sc_explain.proofs.TextsProofs.Pieces.{reply_text}
+use Rattle.sc_explain.proofs.texts.values.ReplyToText.add_to.Goals as goal
+
+pub returns : goal.returns
+returns c =
+    subst (λ (t : List ℕ). OnOk c.add_word.result (c.add_word.new.text.items ≡ t)) (reply_text c.args.text.now.items c.add_next.new.text.items c.args.self.now c.in_ok-add_next.ensures) c.add_word.ensures

@@ -1,0 +1,8 @@
+pub mod Arcs
+pub mod RingCycles
+pub mod FittingGroups
+pub mod LinkEffects
+pub mod LinkOutcomes
+pub mod LinkEntries
+pub mod LinkLogs
+pub mod MergeStories

@@ -1,0 +1,160 @@
+-- What is known of a prefix of a lawful journal.
+use Rattle.std.proofs.Common.{◌≡◌, ℕ, ◌≤◌, ◌+◌, ◌<◌, ◌&&◌, leb, eqb, Bool, true, zero, suc, List, [], ◌∷◌, ◌++◌, map, Option, Some, None, inl, inr, refl, sym, ◌∙◌, ap, subst, arith}
+use Rattle.std.specs.Prelude.{find}
+use Rattle.std.proofs.lemmas.Bool.{cases_Bool, cond_both, cond-true, eqb-true, eq-eqb, and_from, and_parts, le-leb, leb-true, both_ways}
+use Rattle.std.proofs.lemmas.Option.{none-some}
+use Rattle.sc_base.specs.Definitions.{Among, most_nodes, same_draw}
+use Rattle.sc_node_table.specs.Values.{Draw, Base, OrderLine, Mail, Node, Client, Seat, Input, Row}
+use Rattle.sc_base.proofs.Lemmas.{draw_is}
+use Rattle.sc_actor.specs.Definitions.{input_of, acted, replay, value}
+use Rattle.sc_actor.proofs.Lemmas.{lawful-prefix}
+use Rattle.sc_words.proofs.PaxosProofs.Lemmas.{find_found}
+use Rattle.sc_paxos_law.proofs.Lemmas.{Among-either, from_map}
+use Rattle.sc_scenario.specs.scenario.Definitions.{IsValid, ValidScenariosAreBounded}
+use Rattle.sc_scenario.specs.declared.scenario.scenarios.Asks.{Asks}
+use Rattle.sc_scenario.specs.declared.scenario.scenarios.Scenario.{Scenario}
+use Rattle.sc_node_table.specs.Definitions.{is_node, replica_of, ReplicaState, name_of, numbers_from}
+use Rattle.sc_meaning.specs.sound.Definitions.{groups_at, log_at, decided_log, Player, player_table, node_seat, client_seat, client_seats, route_of, births, as_nodes, Lawful, system_of, schedule, Continues, IsSound}
+use Rattle.sc_law_entries.specs.logs.Definitions.{Rows, DecideInTurn}
+use Rattle.sc_law_entries.proofs.LogsProofs.Lemmas.{deciding_rows_stay}
+use Rattle.sc_law_entries.specs.names.Definitions.{OtherNamesAreFree, TakenOrdersAreAllowed, TakenWishesAreAllowed, WishesAreAtPositions}
+use Rattle.sc_law_groups.specs.whole.Definitions.{ValidScenariosBeginWell, ValidJournalsAreSound}
+use Rattle.sc_live_plain.specs.Definitions.{replicas_after, replicas_of}
+use Rattle.sc_live_journals.specs.rows.Definitions.{replicas_of as view_replicas, replica_in, view_at}
+use Rattle.sc_live_answers.specs.Definitions.{AreAtNodes, IsPrefixOf, IsOfGroup, IsFoundPrefix, PrefixesAreFound}
+use Rattle.sc_live_answers.proofs.ReplicasProofs.ReplicaNodes.{at_nodes}
+use Rattle.sc_live_answers.proofs.LinksProofs.LinkLogs.{sources, well, turn, found}
+
+-- ---- a client stays one
+
+abbrev pub IsClient : Player → Type 0
+IsClient (Node node) = ⊥
+IsClient (Client client) = Unit {0}
+
+acted_client : (player : Player) (o : Option (Input Mail OrderLine)) → IsClient player → IsClient (acted player_table player o).0
+acted_client (Node node) o is = absurd is
+acted_client (Client client) None is = tt
+acted_client (Client client) (Some input) is = tt
+
+pub replayed_client : (who : ℕ) (rows : List (Row Mail OrderLine)) (player : Player) (sent : List Mail) → IsClient player → IsClient (replay player_table who player sent rows)
+replayed_client who [] player sent is = is
+replayed_client who (row ∷ rows) player sent is =
+    replayed_client who rows _ (sent ++ row.sent) (cond_both (eqb row.who who) (acted player_table player (input_of sent row.event)).0 player IsClient (λ _. acted_client player (input_of sent row.event) is) (λ _. is))
+
+no_replica : (name : Draw) (player : Player) → IsClient player → replica_of name (view_replicas player) ≡ None
+no_replica name (Node node) is = absurd is
+no_replica name (Client client) is = refl
+
+-- ---- seats
+
+module _ (groups : List Base) (policy : Bool) where
+  pub seat_in : (count from who : ℕ) (others : List (Seat Player)) → from ≤ who → who < from + count → find (λ (seat : Seat Player). eqb seat.who who) (map (node_seat as_nodes groups policy) (numbers_from from count) ++ others) ≡ Some (node_seat as_nodes groups policy who)
+  seat_in zero from who others low high = absurd (omega (arith, low, high))
+  seat_in (suc count) from who others low high =
+      cond_both (eqb from who) (Some (node_seat as_nodes groups policy from)) _ (λ (o : Option (Seat Player)). o ≡ Some (node_seat as_nodes groups policy who))
+      (λ t. ap (λ n. Some (node_seat as_nodes groups policy n)) (eqb-true from who t))
+      (λ f. seat_in count (from + 1) who others (above from who low (λ e. both_ways (eqb from who) f (eq-eqb from who e))) (omega (arith, high)))
+    where
+      above : (x y : ℕ) → x ≤ y → (x ≡ y → ⊥) → x + 1 ≤ y
+      above x y le ne = omega (arith, le, ne)
+
+pub client_among : (groups : List Base) (clients : List Asks) (seat : Seat Player) → Among seat (client_seats groups clients) → IsClient seat.actor
+client_among [] clients seat a = absurd a
+client_among (base ∷ groups) clients seat a = (let f = from_map (client_seat (route_of base)) clients seat a in subst (λ (s : Seat Player). IsClient s.actor) f.2 tt)
+
+pub node_among : (groups : List Base) (policy : Bool) (count from : ℕ) (seat : Seat Player) → Among seat (map (node_seat as_nodes groups policy) (numbers_from from count)) → (from ≤ seat.who) × (seat.who < from + count)
+node_among groups policy zero from seat a = absurd a
+node_among groups policy (suc count) from seat (inl e) = (let is = ap (λ (s : Seat Player). s.who) e in (omega (arith, is), omega (arith, is)))
+node_among groups policy (suc count) from seat (inr a) = (let more = node_among groups policy count (from + 1) seat a in let low = more.0 in let high = more.1 in (omega (arith, low), omega (arith, high)))
+
+module _ (bounded : ValidScenariosAreBounded) (begin : ValidScenariosBeginWell) (allowed : TakenOrdersAreAllowed) (wishes : TakenWishesAreAllowed) (positions : WishesAreAtPositions) (free : OtherNamesAreFree) (sounds : ValidJournalsAreSound)
+    (words : ℕ → ℕ → ℕ × ℕ) (scenario : Scenario) (journal prefix : Rows) (valid : IsValid scenario) (lawful : Lawful as_nodes words scenario journal) (is : IsPrefixOf journal prefix) (homes : AreAtNodes scenario prefix) where
+  sound : IsSound as_nodes scenario prefix is.more
+  sound = sounds as_nodes refl words scenario valid journal lawful prefix is.more is.is
+
+  lawful_prefix : Lawful as_nodes words scenario prefix
+  lawful_prefix = lawful-prefix (system_of as_nodes words scenario) (schedule scenario) prefix is.more (subst (Lawful as_nodes words scenario) is.is lawful)
+
+  later : (base : Base) → Among base (groups_at as_nodes scenario.groups prefix) → Among base (groups_at as_nodes scenario.groups journal)
+  later base a =
+      let s = sources bounded begin allowed wishes positions free words scenario journal valid lawful in
+      let w = well bounded begin allowed wishes positions free words scenario journal valid lawful in
+      let t = turn bounded begin allowed wishes positions free words scenario journal valid lawful in
+      subst (λ rows. Among base (groups_at as_nodes scenario.groups rows)) (sym is.is)
+      ((deciding_rows_stay s as_nodes scenario.groups w.place prefix is.more (subst (DecideInTurn s as_nodes scenario.groups []) is.is t)).groups base a)
+
+  goes_on : (base : Base) → Among base (groups_at as_nodes scenario.groups prefix) → Continues (decided_log as_nodes base prefix) (decided_log as_nodes base journal)
+  goes_on base a =
+      subst (Continues (decided_log as_nodes base prefix)) (ap (λ rows. log_at as_nodes scenario.groups rows base.core.id) (sym is.is) ∙ ((found bounded begin allowed wishes positions free words scenario journal valid lawful).known base (later base a)).log)
+      (sound.one_log base a).grows
+
+  node_is : (node : ℕ) → 1 ≤ node → node ≤ scenario.nodes → is_node node ≡ true
+  node_is node low high = (let most = (bounded scenario valid).nodes.1 in and_from (leb 1 node) (leb node most_nodes) (le-leb 1 node low) (le-leb node most_nodes (omega (arith, high, most))))
+
+  abbrev player : ℕ → Player
+  player node = value player_table (node_seat as_nodes scenario.groups scenario.policy node) prefix
+
+  is_there : (name : Draw) (node : ℕ) → 1 ≤ node → node ≤ scenario.nodes → replicas_after scenario prefix name node ≡ replica_of name (replicas_of (player node))
+  is_there name node low high = cond-true (is_node node) (replica_of name (replicas_of (player node))) None (node_is node low high)
+
+  replicas : (name : Draw) (node : ℕ) (r : ReplicaState) → replicas_after scenario prefix name node ≡ Some r → IsOfGroup scenario prefix name r
+  replicas name node r e =
+      let home = homes name node (r, e) in
+      by (player node) refl home.0 home.1 (sym (is_there name node home.0 home.1) ∙ e)
+    where
+      by : (p : Player) → player node ≡ p → 1 ≤ node → node ≤ scenario.nodes → replica_of name (replicas_of p) ≡ Some r → IsOfGroup scenario prefix name r
+      by (Client client) q low high w = absurd (none-some r w)
+      by (Node state) q low high w =
+          let f = find_found (λ (x : ReplicaState). same_draw (name_of x) name) state.replicas r w in
+          let run = sound.have_run node low high state q r f.0 in
+          record { base = run.0; among = run.1; named = run.2 ∙ draw_is (name_of r) name f.1; run = run.3 }
+
+  same_replicas : (name : Draw) (p : Player) → replica_of name (replicas_of p) ≡ replica_of name (view_replicas p)
+  same_replicas name (Node state) = refl
+  same_replicas name (Client client) = refl
+
+  abbrev nodes : List (Seat Player)
+  nodes = map (node_seat as_nodes scenario.groups scenario.policy) (numbers_from 1 scenario.nodes)
+
+  -- who is no node of the scenario has none
+  seen_none : (name : Draw) (node : ℕ) → ((1 ≤ node) × (node ≤ scenario.nodes) → ⊥) → view_at (births as_nodes scenario) prefix name node ≡ None
+  seen_none name node out = by (find (λ (seat : Seat Player). eqb seat.who node) (births as_nodes scenario)) refl
+    where
+      by : (o : Option (Seat Player)) → find (λ (seat : Seat Player). eqb seat.who node) (births as_nodes scenario) ≡ o → replica_in name prefix o ≡ None
+      by None q = refl
+      by (Some seat) q =
+          let f = find_found (λ (x : Seat Player). eqb x.who node) (births as_nodes scenario) seat q in
+          elim (Among-either seat nodes (client_seats scenario.groups scenario.clients) f.0) [
+            | inl a ↦ (
+                let own = eqb-true seat.who node f.1 in
+                let in_ = node_among scenario.groups scenario.policy scenario.nodes 1 seat a in
+                let low = in_.0 in
+                let high = in_.1 in
+                absurd (out (omega (arith, own, low), omega (arith, own, high))))
+            | inr a ↦ no_replica name (value player_table seat prefix) (replayed_client seat.who prefix seat.actor [] (client_among scenario.groups scenario.clients seat a))
+          ]
+
+  abbrev is_home : ℕ → Bool
+  is_home n = leb 1 n && leb n scenario.nodes
+
+  views : (name : Draw) (node : ℕ) → replicas_after scenario prefix name node ≡ view_at (births as_nodes scenario) prefix name node
+  views name node = elim (cases_Bool (is_home node)) [
+    | inl t ↦ (
+        let both = and_parts (leb 1 node) (leb node scenario.nodes) t in
+        let low = leb-true 1 node both.0 in
+        let high = leb-true node scenario.nodes both.1 in
+        is_there name node low high ∙ (same_replicas name (player node) ∙ sym (ap (replica_in name prefix) (seat_in scenario.groups scenario.policy scenario.nodes 1 node (client_seats scenario.groups scenario.clients) low (omega (arith, high))))))
+    | inr f ↦ (
+        let out : (1 ≤ node) × (node ≤ scenario.nodes) → ⊥ = λ h. both_ways (is_home node) f (and_from (leb 1 node) (leb node scenario.nodes) (le-leb 1 node h.0) (le-leb node scenario.nodes h.1)) in
+        by (replicas_after scenario prefix name node) refl out ∙ sym (seen_none name node out))
+  ]
+    where
+      by : (o : Option ReplicaState) → replicas_after scenario prefix name node ≡ o → ((1 ≤ node) × (node ≤ scenario.nodes) → ⊥) → o ≡ None
+      by None q out = refl
+      by (Some r) q out = absurd (out (homes name node (r, q)))
+
+  pub found_prefix : IsFoundPrefix words scenario journal prefix
+  found_prefix = record { homes = homes; lawful = lawful_prefix; apart = (found bounded begin allowed wishes positions free words scenario journal valid lawful).apart; later = later; goes_on = goes_on; is_log = λ base a. (sound.one_log base a).is_log; replicas = replicas; views = views }
+
+pub prefixes_are_found : ValidScenariosAreBounded → ValidScenariosBeginWell → TakenOrdersAreAllowed → TakenWishesAreAllowed → WishesAreAtPositions → OtherNamesAreFree → ValidJournalsAreSound → PrefixesAreFound
+prefixes_are_found bounded begin allowed wishes positions free sounds words scenario journal prefix calm is = found_prefix bounded begin allowed wishes positions free sounds words scenario journal prefix calm.valid calm.lawful is (at_nodes bounded words scenario journal prefix calm is)

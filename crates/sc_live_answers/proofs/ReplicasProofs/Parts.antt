@@ -1,0 +1,219 @@
+-- What of a replica's table leaves its group and its log, and so is no entry.
+use Rattle.std.proofs.Common.{ℕ, ◌+◌, ◌-◌, ◌^◌, ◌&&◌, not, nat_le, eqb, Bool, true, false, cond, List, [], ◌∷◌, Option, Some, None}
+use Rattle.std.specs.Prelude.{is_some}
+use Rattle.std.specs.List.{filter, list_any}
+use Rattle.sc_node_table.specs.Values.{Ballot, Command, Noop, Call, Join, Leave, Split, Begin, Prepared, RecordVote, GiveUp, Finish, Watched, RecordWatch, Effect, Route, OrderResult, AnswerBody, PrepareAnswer, AcceptAnswer, Must, Gap, Report}
+use Rattle.sc_mail.specs.declared.bodies.AnswerBody.TheVariants as Answers
+use Rattle.sc_base.specs.Definitions.{is_member, least_of}
+use Rattle.sc_words.specs.declared.paxos.answers.PrepareAnswer.TheVariants as Prepared
+use Rattle.sc_words.specs.declared.paxos.answers.AcceptAnswer.TheVariants as Asked
+use Rattle.sc_words.specs.declared.paxos.answers.Must.TheVariants.{Value, Free as Open}
+use Rattle.sc_words.specs.paxos.Definitions.{AcceptorState, accepted as accepted_by, below, LeaderState, promise_counted, must, prepared}
+use Rattle.sc_node_table.specs.Definitions.{elected, ended, stopped, saw, answer_of, answered_or_put_back, order_result, effect_reported, announced, learnt_to, welcomed, slot_lost, left_gone, left, is_among, looked_for, looked, install_to, asked_to_promise, welcomed_all, Found, is_act, from_backlog, from_acts, from_queues, found_by, found_for, offered, pumped_from, pumped, put_back, ReplicaState, Place, next, members, settled, may_offer, taken_at, under_way, is_idle, last_slot, ask_row, spoken, hinted, promise_to, promised, prepare_row, accepted_to, took, accept_row, leads, promise_row, nack_row}
+use Rattle.sc_node_table.specs.declared.Before.{Before}
+use Rattle.sc_law_walks.proofs.Lemmas.{asked_place, either_way}
+
+-- P speaks of a replica's group, its log and its number alone
+module _ (P : ReplicaState → Type 0) (any : (r : ReplicaState) (acceptor : AcceptorState Command) (hint : Option ℕ) (top : Ballot) (running : Bool) (leader : LeaderState Command) (ready : List (ℕ × Command)) (acts backlog : List Command) (waits : ℕ)
+    → P r → P (record r { acceptor = acceptor; hint = hint; top = top; running = running; leader = leader; ready = ready; acts = acts; backlog = backlog; waits = waits })) where
+  abbrev pub F : Place → Type 0
+  F place = P place.0
+
+  back : (command : Command) (r : ReplicaState) → P r → P (put_back command r)
+  unfolding put_back
+  back Noop r p = p
+  back (Call client seq op) r p = any r r.acceptor r.hint r.top r.running r.leader r.ready r.acts _ r.waits p
+  back (Join node order) r p = any r r.acceptor r.hint r.top r.running r.leader r.ready r.acts (Join node order ∷ r.backlog) r.waits p
+  back (Leave node order) r p = any r r.acceptor r.hint r.top r.running r.leader r.ready r.acts (Leave node order ∷ r.backlog) r.waits p
+  back (Split at child order) r p = any r r.acceptor r.hint r.top r.running r.leader r.ready r.acts (Split at child order ∷ r.backlog) r.waits p
+  back (Begin tx body order) r p = any r r.acceptor r.hint r.top r.running r.leader r.ready r.acts (Begin tx body order ∷ r.backlog) r.waits p
+  back (Prepared tx offer) r p = any r r.acceptor r.hint r.top r.running r.leader r.ready (Prepared tx offer ∷ r.acts) r.backlog r.waits p
+  back (RecordVote tx vote by) r p = any r r.acceptor r.hint r.top r.running r.leader r.ready (RecordVote tx vote by ∷ r.acts) r.backlog r.waits p
+  back (GiveUp tx) r p = any r r.acceptor r.hint r.top r.running r.leader r.ready (GiveUp tx ∷ r.acts) r.backlog r.waits p
+  back (Finish tx outcome) r p = any r r.acceptor r.hint r.top r.running r.leader r.ready (Finish tx outcome ∷ r.acts) r.backlog r.waits p
+  back (Watched tx watch) r p = any r r.acceptor r.hint r.top r.running r.leader r.ready (Watched tx watch ∷ r.acts) r.backlog r.waits p
+  back (RecordWatch tx vote by) r p = any r r.acceptor r.hint r.top r.running r.leader r.ready (RecordWatch tx vote by ∷ r.acts) r.backlog r.waits p
+
+  -- ---- leaders
+
+  pub self_election : (place : Place) → F place → F (elected place)
+  unfolding elected
+  self_election (r, mails) p = either_way F (eqb r.top.round (2 ^ 32 - 1)) _ _ p (any r r.acceptor (Some r.me) _ true _ [] r.acts r.backlog 0 p)
+
+  pub ends : (hint : Option ℕ) (answer : AnswerBody) (place : Place) → F place → F (ended hint answer place)
+  unfolding ended
+  ends hint answer (r, mails) p = any r r.acceptor hint r.top false _ [] [] [] r.waits p
+
+  stops : (hint : Option ℕ) (place : Place) → F place → F (stopped hint place)
+  stops hint place p = ends hint (Answers.NotLeader hint) place p
+
+  pub sees : (ballot : Ballot) (place : Place) → F place → F (saw ballot place)
+  unfolding saw
+  sees ballot (r, mails) p =
+      let seen : ReplicaState = cond (below r.top ballot) (record r { top = ballot }) r in
+      let k : P seen = either_way P (below r.top ballot) (record r { top = ballot }) r (any r r.acceptor r.hint ballot r.running r.leader r.ready r.acts r.backlog r.waits p) p in
+      either_way F (r.running && below r.leader.ballot ballot) (stopped (Some ballot.node) (seen, mails)) (seen, mails) (stops (Some ballot.node) (seen, mails) k) k
+
+  pub state_sent : (node : ℕ) (place : Place) → F place → F (install_to node place)
+  unfolding install_to
+  state_sent node (r, mails) p = p
+
+  -- ---- the pump
+
+  abbrev FF : Found → Type 0
+  FF found = F found.1
+
+  calls_find : (place : Place) → F place → FF (from_backlog place)
+  unfolding from_backlog
+  calls_find (r, mails) p = any r r.acceptor r.hint r.top r.running r.leader r.ready r.acts _ r.waits p
+
+  acts_find : (acts : List Command) (place : Place) → F place → FF (from_acts acts place)
+  acts_find [] place p = calls_find place p
+  acts_find (act ∷ acts) (r, mails) p = either_way FF (is_idle r) (Some act, (record r { acts = acts }, mails)) (None, (r, mails)) (any r r.acceptor r.hint r.top r.running r.leader r.ready acts r.backlog r.waits p) p
+
+  queues_find : (place : Place) → F place → FF (from_queues place)
+  unfolding from_queues
+  queues_find (r, mails) p = either_way FF (list_any is_act (under_way r)) _ _ p (acts_find r.acts (r, mails) p)
+
+  by_must : (m : Must Command) (place : Place) → F place → FF (found_by m place)
+  by_must (Value command) place p = p
+  by_must Gap place p = p
+  by_must Open place p = queues_find place p
+
+  slot_finds : (slot : ℕ) (place : Place) → F place → FF (found_for slot place)
+  unfolding found_for
+  slot_finds slot (r, mails) p = by_must (must slot r.leader) (r, mails) p
+
+  slot_offered : (slot : ℕ) (set : List ℕ) (command : Command) (place : Place) → F place → F (offered slot set command place)
+  unfolding offered
+  slot_offered slot set command (r, mails) p = any r r.acceptor r.hint r.top r.running _ r.ready r.acts r.backlog r.waits p
+
+  pump_by : (slot : ℕ) (set : List ℕ) (sets : List (List ℕ)) (found : Found) → FF found → ((place : Place) → F place → F (pumped_from (slot + 1) sets place))
+      → F (elim (found.0) [ None ↦ found.1 | Some command ↦ pumped_from (slot + 1) sets (offered slot set command found.1) ])
+  pump_by slot set sets (None, place) p more = p
+  pump_by slot set sets (Some command, place) p more = more (offered slot set command place) (slot_offered slot set command place p)
+
+  from_pumps : (slot : ℕ) (sets : List (List ℕ)) (place : Place) → F place → F (pumped_from slot sets place)
+  unfolding pumped_from
+  from_pumps slot [] place p = p
+  from_pumps slot (set ∷ sets) place p =
+      either_way F (is_some (taken_at place.0 slot)) _ _ (from_pumps (slot + 1) sets place p)
+      (either_way F (may_offer place.0 set) _ _ (pump_by slot set sets (found_for slot place) (slot_finds slot place p) (λ q k. from_pumps (slot + 1) sets q k)) p)
+
+  pub pumps : (place : Place) → F place → F (pumped place)
+  unfolding pumped
+  pumps place p = either_way F (settled place.0 && nat_le (next place.0) last_slot) (pumped_from (next place.0) place.0.sets place) place (from_pumps (next place.0) place.0.sets place p) p
+
+  -- ---- an entry, but for the entry itself
+
+  call_told : (answer : Option AnswerBody) (command : Command) (place : Place) → F place → F (answered_or_put_back answer command place)
+  unfolding answered_or_put_back
+  call_told (Some answer) (Call client seq op) (r, mails) p = p
+  call_told None (Call client seq op) (r, mails) p = back (Call client seq op) r p
+  call_told (Some answer) _ place p = p
+  call_told None _ place p = p
+
+  effect_told : (result : Option OrderResult) (command : Command) (place : Place) → F place → F (effect_reported result command place)
+  unfolding effect_reported
+  effect_told None command place p = p
+  effect_told (Some result) command (r, mails) p = p
+
+  pub announces : (counted : Bool) (effect : Effect) (command : Command) (place : Place) → F place → F (announced counted effect command place)
+  unfolding announced
+  announces counted effect command place p =
+      effect_told (order_result command effect) command (cond counted (answered_or_put_back (answer_of effect) command place) place)
+      (either_way F counted (answered_or_put_back (answer_of effect) command place) place (call_told (answer_of effect) command place p) p)
+
+  pub speaks : (counted : Bool) (before : Before) (effect : Effect) (command : Command) (place : Place) → F place → F (spoken counted before effect command place)
+  unfolding spoken
+  speaks counted before effect command (r, mails) p = p
+
+  pub teaches : (counted : Bool) (nodes : List ℕ) (slot : ℕ) (command : Command) (place : Place) → F place → F (learnt_to counted nodes slot command place)
+  unfolding learnt_to
+  teaches counted nodes slot command (r, mails) p = either_way F counted _ (r, mails) p p
+
+  asks_promise : (node : ℕ) (place : Place) → F place → F (asked_to_promise node place)
+  asks_promise node (r, mails) p = either_way F r.leader.is_first (r, mails) _ p p
+
+  all_welcomed : (nodes : List ℕ) (place : Place) → F place → F (welcomed_all nodes place)
+  unfolding welcomed_all
+  all_welcomed [] place p = p
+  all_welcomed (node ∷ nodes) place p = all_welcomed nodes (asked_to_promise node (install_to node place)) (asks_promise node (install_to node place) (state_sent node place p))
+
+  pub welcomes : (counted : Bool) (before : List ℕ) (place : Place) → F place → F (welcomed counted before place)
+  unfolding welcomed
+  welcomes counted before (r, mails) p =
+      either_way F counted (welcomed_all (filter (λ node. not (is_member before node)) (members r)) (r, mails)) (r, mails) (all_welcomed (filter (λ node. not (is_member before node)) (members r)) (r, mails) p) p
+
+  pub loses : (counted : Bool) (command : Command) (o : Option Command) (r : ReplicaState) → P r → P (slot_lost counted command o r)
+  loses counted command None r p = p
+  loses counted command (Some other) r p = either_way P _ r (put_back other r) p (back other r p)
+
+  gone_leaves : (gone : Option Route) (place : Place) → F place → F (left_gone gone place)
+  gone_leaves (Some into) place p = ends None (Answers.Gone into) place p
+  gone_leaves None (r, mails) p = either_way F (is_member (members r) r.me) (r, mails) (stopped (Some (least_of (members r))) (r, mails)) p (stops (Some (least_of (members r))) (r, mails) p)
+
+  pub leaves : (place : Place) → F place → F (left place)
+  unfolding left
+  leaves (r, mails) p = either_way F r.running (left_gone r.group.core.gone (r, mails)) (r, mails) (gone_leaves r.group.core.gone (r, mails) p) p
+
+  with_hint : (r : ReplicaState) (hint : Option ℕ) → P r → P (record r { hint = hint })
+  with_hint r hint p = any r r.acceptor hint r.top r.running r.leader r.ready r.acts r.backlog r.waits p
+
+  looks_for : (gone : Option Route) (place : Place) → F place → F (looked_for gone place)
+  looks_for (Some into) place p = p
+  looks_for None (r, mails) p =
+      either_way F (is_among (members r) r.hint) (r, mails) _ p
+      (either_way F (eqb (least_of (members r)) r.me) (elected (record r { hint = Some r.me }, mails)) (record r { hint = Some (least_of (members r)) }, mails) (self_election (record r { hint = Some r.me }, mails) (with_hint r (Some r.me) p))
+      (with_hint r (Some (least_of (members r))) p))
+
+  pub looks : (place : Place) → F place → F (looked place)
+  unfolding looked
+  looks (r, mails) p = either_way F r.running (r, mails) (looked_for r.group.core.gone (r, mails)) p (looks_for r.group.core.gone (r, mails) p)
+
+  -- ---- rows that execute nothing
+
+  hints : (ballot : Ballot) (r : ReplicaState) → P r → P (hinted ballot r)
+  hints ballot r p = either_way P r.running r (record r { hint = Some ballot.node }) p (with_hint r (Some ballot.node) p)
+
+  with_acceptor : (r : ReplicaState) (acceptor : AcceptorState Command) → P r → P (record r { acceptor = acceptor })
+  with_acceptor r acceptor p = any r acceptor r.hint r.top r.running r.leader r.ready r.acts r.backlog r.waits p
+
+  promises_to : (from : ℕ) (ballot : Ballot) (answer : PrepareAnswer Command × AcceptorState Command) (place : Place) → F place → F (promise_to from ballot answer place)
+  promises_to from ballot (Prepared.Promise reports, acceptor) (r, mails) p = hints ballot (record r { acceptor = acceptor }) (with_acceptor r acceptor p)
+  promises_to from ballot (Prepared.Ignored was, acceptor) (r, mails) p = with_acceptor r acceptor p
+
+  promises : (from : ℕ) (ballot : Ballot) (from_slot : ℕ) (place : Place) → F place → F (promised from ballot from_slot place)
+  unfolding promised
+  promises from ballot from_slot (r, mails) p =
+      either_way F (nat_le from_slot r.acceptor.floor) _ _ (state_sent from (r, mails) p) (promises_to from ballot (prepared ballot from_slot r.acceptor) (r, mails) p)
+
+  pub prepare_rests : (from : ℕ) (ballot : Ballot) (from_slot : ℕ) (place : Place) → F place → F (prepare_row from ballot from_slot place)
+  unfolding prepare_row
+  prepare_rests from ballot from_slot place p = promises from ballot from_slot (saw ballot place) (sees ballot place p)
+
+  accepts_to : (from : ℕ) (ballot : Ballot) (slot : ℕ) (answer : AcceptAnswer × AcceptorState Command) (place : Place) → F place → F (accepted_to from ballot slot answer place)
+  accepts_to from ballot slot (Asked.Accepted, acceptor) (r, mails) p = hints ballot (record r { acceptor = acceptor }) (with_acceptor r acceptor p)
+  accepts_to from ballot slot (Asked.Ignored was, acceptor) (r, mails) p = with_acceptor r acceptor p
+
+  takes_report : (from : ℕ) (report : Report Command) (place : Place) → F place → F (took from report place)
+  unfolding took
+  takes_report from report (r, mails) p =
+      either_way F (nat_le report.slot r.acceptor.floor) _ _ (state_sent from (r, mails) p) (accepts_to from report.ballot report.slot (accepted_by report r.acceptor) (r, mails) p)
+
+  pub accept_rests : (from : ℕ) (ballot : Ballot) (slot : ℕ) (command : Command) (place : Place) → F place → F (accept_row from ballot slot command place)
+  unfolding accept_row
+  accept_rests from ballot slot command place p = takes_report from (record { slot = slot; ballot = ballot; value = command }) (saw ballot place) (sees ballot place p)
+
+  pub promise_rests : (from : ℕ) (ballot : Ballot) (reports : List (Report Command)) (place : Place) → F place → F (promise_row from ballot reports place)
+  unfolding promise_row
+  promise_rests from ballot reports (r, mails) p =
+      either_way F (leads ballot r) (pumped (record r { leader = (promise_counted from ballot reports r.leader).1 }, mails)) (r, mails)
+      (pumps (record r { leader = (promise_counted from ballot reports r.leader).1 }, mails) (any r r.acceptor r.hint r.top r.running (promise_counted from ballot reports r.leader).1 r.ready r.acts r.backlog r.waits p)) p
+
+  pub nack_rests : (ballot : Ballot) (place : Place) → F place → F (nack_row ballot place)
+  unfolding nack_row
+  nack_rests ballot place p = sees ballot place p
+
+  pub ask_rests : (from slot : ℕ) (place : Place) → F place → F (ask_row from slot place)
+  ask_rests from slot (r, mails) p = asked_place F from slot (r, mails) p (state_sent from (r, mails) p) p

@@ -1,0 +1,14 @@
+pub mod EntriesInFlight
+pub mod OutcomesInFlight
+pub mod VoteEffects
+pub mod CountableVotes
+pub mod OpenedTransactions
+pub mod Outcomes
+pub mod RecordedVotes
+pub mod RecordedLocks
+pub mod TrueEntries
+pub mod TransactionTurns
+pub mod UnsettledMail
+pub mod LeaderVotes
+pub mod OrderNumbers
+pub mod ReportedMail

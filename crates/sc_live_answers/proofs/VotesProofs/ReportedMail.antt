@@ -1,0 +1,283 @@
+-- A result that an executed entry reports stays among the mail of its row.
+use Rattle.std.proofs.Common.{◌≡◌, ◌⊎◌, ℕ, ◌+◌, ◌-◌, ◌^◌, ◌&&◌, nat_le, eqb, Bool, true, cond, List, [], ◌∷◌, ◌++◌, Option, Some, None, inl, inr, refl, sym, subst}
+use Rattle.std.specs.Prelude.{is_some}
+use Rattle.std.specs.List.{list_any}
+use Rattle.std.proofs.lemmas.Bool.{cond-true}
+use Rattle.sc_base.specs.Definitions.{is_member, least_of}
+use Rattle.sc_node_table.specs.Values.{Draw, Offer, Watch, Command, Call, Split, Begin, Prepared, RecordVote, GiveUp, Watched, RecordWatch, Core, Lock, Free, Coordinating, Promised, Watching, Effect, Link, Outcome, Abort, Past, Vote, Route, OrderResult, AnswerBody, Mail, Told, TxOutcome, Prepare, Accept, Learn, Must, Gap}
+use Rattle.sc_words.specs.commands.Definitions.{decided_in, cast_in, is_changed}
+use Rattle.sc_words.specs.declared.commands.votes.Past.TheVariants as Cast
+use Rattle.sc_words.specs.declared.commands.votes.Vote.TheVariants as Votes
+use Rattle.sc_mail.specs.declared.bodies.AnswerBody.TheVariants as Says
+use Rattle.sc_words.specs.declared.paxos.answers.Must.TheVariants.{Value, Free as Open}
+use Rattle.sc_words.specs.paxos.Definitions.{must}
+use Rattle.sc_paxos_law.proofs.Lemmas.{Among-left, Among-right}
+use Rattle.sc_group_table.specs.policy.Definitions.{is_reported}
+use Rattle.sc_group_table.specs.machine.Definitions.{Group, applied}
+use Rattle.sc_node_table.specs.Definitions.{elected, ended, stopped, open_nodes, entered, answer_of, answered_or_put_back, order_result, effect_reported, announced, learnt_to, welcomed, landed, left_gone, left, is_among, looked_for, looked, executed_one, executed, install_to, asked_to_promise, welcomed_all, answered_all, sent_others, order_number, result_sent, order_reported, Found, is_act, from_backlog, from_acts, from_queues, found_by, found_for, offered, pumped_from, pumped, ReplicaState, Place, name_of, next, members, settled, may_offer, taken_at, under_way, is_idle, last_slot, before_of, asked_first, begun_result, spoken_number, result_reported, begun_reported, asked_on, vote_sent, watch_sent, aborted_to, aborted_watcher, given_up_by, vote_answered, released_to, watch_answered_by, went_on, spoken_mails, spoken}
+use Rattle.sc_node_table.specs.declared.Before.{Before}
+use Rattle.sc_law_walks.proofs.Lemmas.{either_way, executed_place, welcomed_place, next_found, Talk, grows}
+use Rattle.sc_law_walks.proofs.Talks.{all_sent, others_sent, client_reported, desk_reported, one_answered, all_answered, all_dismissed, vote_reported, watch_reported, spoken_said}
+use Rattle.sc_live_answers.specs.Definitions.{IsTold}
+
+-- more mail reports it too
+pub told_more : (n : ℕ) (result : OrderResult) (mails more : List Mail) → IsTold mails n result → IsTold (mails ++ more) n result
+told_more n result mails more k = record { mail = k.mail; among = Among-left k.mail mails more k.among; body = k.body }
+
+pub told_behind : (n : ℕ) (result : OrderResult) (mails more : List Mail) → IsTold more n result → IsTold (mails ++ more) n result
+told_behind n result mails more k = record { mail = k.mail; among = Among-right k.mail mails more k.among; body = k.body }
+
+-- a report to the desk
+pub desk_reports : (me n : ℕ) (result : OrderResult) (mails : List Mail) → IsTold (result_sent me n result mails) n result
+desk_reports me n result mails =
+    told_behind n result mails (record { from = me; to = 0; body = Told n result } ∷ []) (record { mail = record { from = me; to = 0; body = Told n result }; among = inl refl; body = refl })
+
+module _ (n : ℕ) (result : OrderResult) where
+  abbrev Q : List Mail → Type 0
+  Q mails = IsTold mails n result
+
+  more_said : (mails : List Mail) (mail : Mail) → Q mails → Q (mails ++ mail ∷ [])
+  more_said mails mail k = told_more n result mails (mail ∷ []) k
+
+  talk : (me : ℕ) → Talk me Q
+  talk me = grows me Q more_said
+
+  abbrev H : Place → Type 0
+  H place = Q place.1
+
+  order_reports : (me : ℕ) (mails : List Mail) → is_reported n ≡ true → Q (order_reported me n result mails)
+  unfolding order_reported
+  order_reports me mails told = subst Q (sym (cond-true (is_reported n) (result_sent me n result mails) mails told)) (desk_reports me n result mails)
+
+  -- ---- the pump
+
+  calls_find : (r : ReplicaState) (mails : List Mail) → Q mails → Q (from_backlog (r, mails)).1.1
+  unfolding from_backlog
+  calls_find r mails m = next_found r.me (is_idle r) r.group.core (λ backlog ms. Q ms) (λ found. Q found.2) (λ backlog ms q. q) (λ command backlog ms q. q) (λ command answer backlog ms wait e q. one_answered r.me Q (talk r.me) r.group.core.id answer command ms q) r.backlog mails m
+
+  acts_find : (acts : List Command) (r : ReplicaState) (mails : List Mail) → Q mails → Q (from_acts acts (r, mails)).1.1
+  acts_find [] r mails m = calls_find r mails m
+  acts_find (act ∷ acts) r mails m = either_way (λ (found : Found). Q found.1.1) (is_idle r) (Some act, (record r { acts = acts }, mails)) (None, (r, mails)) m m
+
+  queues_find : (r : ReplicaState) (mails : List Mail) → Q mails → Q (from_queues (r, mails)).1.1
+  unfolding from_queues
+  queues_find r mails m = either_way (λ (found : Found). Q found.1.1) (list_any is_act (under_way r)) (None, (r, mails)) (from_acts r.acts (r, mails)) m (acts_find r.acts r mails m)
+
+  by_find : (what : Must Command) (r : ReplicaState) (mails : List Mail) → Q mails → Q (found_by what (r, mails)).1.1
+  by_find (Value command) r mails m = m
+  by_find Gap r mails m = m
+  by_find Open r mails m = queues_find r mails m
+
+  slot_finds : (slot : ℕ) (r : ReplicaState) (mails : List Mail) → Q mails → Q (found_for slot (r, mails)).1.1
+  unfolding found_for
+  slot_finds slot r mails m = by_find (must slot r.leader) r mails m
+
+  offers : (slot : ℕ) (set : List ℕ) (command : Command) (r : ReplicaState) (mails : List Mail) → Q mails → Q (offered slot set command (r, mails)).1
+  unfolding offered
+  offers slot set command r mails m = all_sent r.me Q (Accept (name_of r) r.leader.ballot slot command) (λ to ms q. more_said ms _ q) set mails m
+
+  pump_by : (slot : ℕ) (set : List ℕ) (sets : List (List ℕ)) (found : Found) → Q found.1.1 → ((place : Place) → H place → H (pumped_from (slot + 1) sets place))
+      → H (elim (found.0) [ None ↦ found.1 | Some command ↦ pumped_from (slot + 1) sets (offered slot set command found.1) ])
+  pump_by slot set sets (None, place) m more = m
+  pump_by slot set sets (Some command, (r, mails)) m more = more (offered slot set command (r, mails)) (offers slot set command r mails m)
+
+  from_pumps : (slot : ℕ) (sets : List (List ℕ)) (place : Place) → H place → H (pumped_from slot sets place)
+  unfolding pumped_from
+  from_pumps slot [] place m = m
+  from_pumps slot (set ∷ sets) (r, mails) m =
+      either_way H (is_some (taken_at r slot)) _ _ (from_pumps (slot + 1) sets (r, mails) m)
+      (either_way H (may_offer r set) _ _ (pump_by slot set sets (found_for slot (r, mails)) (slot_finds slot r mails m) (λ p q. from_pumps (slot + 1) sets p q)) m)
+
+  pumps : (place : Place) → H place → H (pumped place)
+  unfolding pumped
+  pumps place m = either_way H (settled place.0 && nat_le (next place.0) last_slot) (pumped_from (next place.0) place.0.sets place) place (from_pumps (next place.0) place.0.sets place m) m
+
+  -- ---- leaders
+
+  elects : (r : ReplicaState) (mails : List Mail) → Q mails → H (elected (r, mails))
+  unfolding elected
+  elects r mails m = either_way H (eqb r.top.round (2 ^ 32 - 1)) _ _ m (all_sent r.me Q (Prepare (name_of r) (record { round = r.top.round + 1; node = r.me }) (next r)) (λ to ms q. more_said ms _ q) (open_nodes r.sets) mails m)
+
+  ends : (hint : Option ℕ) (answer : AnswerBody) (r : ReplicaState) (mails : List Mail) → Q mails → H (ended hint answer (r, mails))
+  unfolding ended
+  ends hint answer r mails m = all_dismissed r.me Q (talk r.me) (name_of r) hint answer r.backlog (answered_all r.me (name_of r) answer (under_way r) mails) (all_answered r.me Q (talk r.me) (name_of r) answer (under_way r) mails m)
+
+  gone_leaves : (gone : Option Route) (r : ReplicaState) (mails : List Mail) → Q mails → H (left_gone gone (r, mails))
+  gone_leaves (Some into) r mails m = ends None (Says.Gone into) r mails m
+  gone_leaves None r mails m = either_way H (is_member (members r) r.me) (r, mails) (stopped (Some (least_of (members r))) (r, mails)) m (ends (Some (least_of (members r))) (Says.NotLeader (Some (least_of (members r)))) r mails m)
+
+  leaves : (place : Place) → H place → H (left place)
+  unfolding left
+  leaves (r, mails) m = either_way H r.running (left_gone r.group.core.gone (r, mails)) (r, mails) (gone_leaves r.group.core.gone r mails m) m
+
+  looks_by : (gone : Option Route) (r : ReplicaState) (mails : List Mail) → Q mails → H (looked_for gone (r, mails))
+  looks_by (Some into) r mails m = m
+  looks_by None r mails m =
+      either_way H (is_among (members r) r.hint) (r, mails) _ m
+      (either_way H (eqb (least_of (members r)) r.me) (elected (record r { hint = Some r.me }, mails)) (record r { hint = Some (least_of (members r)) }, mails) (elects (record r { hint = Some r.me }) mails m) m)
+
+  looks : (place : Place) → H place → H (looked place)
+  unfolding looked
+  looks (r, mails) m = either_way H r.running (r, mails) (looked_for r.group.core.gone (r, mails)) m (looks_by r.group.core.gone r mails m)
+
+  -- ---- entries
+
+  calls_told : (answer : Option AnswerBody) (command : Command) (place : Place) → H place → H (answered_or_put_back answer command place)
+  unfolding answered_or_put_back
+  calls_told (Some answer) (Call client seq op) (r, mails) m = client_reported r.me Q (talk r.me) client (name_of r) seq answer mails m
+  calls_told None (Call client seq op) (r, mails) m = m
+  calls_told (Some answer) _ place m = m
+  calls_told None _ place m = m
+
+  effects_told : (o : Option OrderResult) (command : Command) (place : Place) → H place → H (effect_reported o command place)
+  unfolding effect_reported
+  effects_told None command place m = m
+  effects_told (Some other) command (r, mails) m = desk_reported r.me Q (talk r.me) (order_number command) other mails m
+
+  announces : (counted : Bool) (effect : Effect) (command : Command) (place : Place) → H place → H (announced counted effect command place)
+  unfolding announced
+  announces counted effect command place m =
+      effects_told (order_result command effect) command (cond counted (answered_or_put_back (answer_of effect) command place) place) (either_way H counted (answered_or_put_back (answer_of effect) command place) place (calls_told (answer_of effect) command place m) m)
+
+  speaks : (counted : Bool) (before : Before) (effect : Effect) (command : Command) (place : Place) → H place → H (spoken counted before effect command place)
+  unfolding spoken
+  speaks counted before effect command (r, mails) m = spoken_said r.me Q (talk r.me) counted r.group before effect command mails m
+
+  teaches : (counted : Bool) (nodes : List ℕ) (slot : ℕ) (command : Command) (place : Place) → H place → H (learnt_to counted nodes slot command place)
+  unfolding learnt_to
+  teaches counted nodes slot command (r, mails) m = either_way H counted (r, sent_others r.me nodes (Learn (name_of r) slot command) mails) (r, mails) (others_sent r.me Q (Learn (name_of r) slot command) (λ to ms q. more_said ms _ q) nodes mails m) m
+
+  welcomes_one : (node : ℕ) (place : Place) → H place → H (asked_to_promise node (install_to node place))
+  unfolding install_to
+  welcomes_one node (r, mails) m =
+      let state = more_said mails _ m in
+      either_way H r.leader.is_first _ _ state (more_said _ _ state)
+
+  welcomes_all : (nodes : List ℕ) (place : Place) → H place → H (welcomed_all nodes place)
+  unfolding welcomed_all
+  welcomes_all [] place m = m
+  welcomes_all (node ∷ nodes) place m = welcomes_all nodes (asked_to_promise node (install_to node place)) (welcomes_one node place m)
+
+  lands : (counted : Bool) (slot : ℕ) (command : Command) (place : Place) → H place → H (landed counted slot command place)
+  unfolding landed
+  lands counted slot command (r, mails) m = m
+
+  -- what follows once the entry is spoken of, and once it is announced
+  after_spoken : (command : Command) (r : ReplicaState) (place : Place) → H place → H (looked (left (landed true (next r) command (welcomed true (members r) (learnt_to true (members r) (next r) command place)))))
+  after_spoken command r place m =
+      let place3 : Place = learnt_to true (members r) (next r) command place in
+      let place4 : Place = welcomed true (members r) place3 in
+      let place5 : Place = landed true (next r) command place4 in
+      let m3 = teaches true (members r) (next r) command place m in
+      let m4 = welcomed_place H welcomes_all true (members r) place3 m3 in
+      looks (left place5) (leaves place5 (lands true (next r) command place4 m4))
+
+  after_announced : (command : Command) (r : ReplicaState) (place : Place) → H place
+      → H (looked (left (landed true (next r) command (welcomed true (members r) (learnt_to true (members r) (next r) command (spoken true (before_of r.group.core) (applied r.group command).1 command place))))))
+  after_announced command r place m = after_spoken command r (spoken true (before_of r.group.core) (applied r.group command).1 command place) (speaks true (before_of r.group.core) (applied r.group command).1 command place m)
+
+  one_goes : (command : Command) (place : Place) → H place → H (executed_one true command place)
+  unfolding executed_one
+  one_goes command (r, mails) m = after_announced command r (announced true (applied r.group command).1 command (entered command r, mails)) (announces true (applied r.group command).1 command (entered command r, mails) m)
+
+  -- ---- an entry that ends the order
+
+  -- the entry ends the order with this number by this result: a join or a leave by what it does; a split, or an entry of a transaction, by what it decides
+  abbrev pub Ends : Command → Group → Type 0
+  Ends command group =
+      ((order_number command ≡ n) × (order_result command (applied group command).1 ≡ Some result))
+      ⊎ ((spoken_number (before_of group.core).order command ≡ n) × (begun_result (before_of group.core).alone (applied group command).1 command ≡ Some result))
+
+  -- a report of this number and result
+  own_reports : (me number : ℕ) (other : OrderResult) (mails : List Mail) → is_reported n ≡ true → number ≡ n → other ≡ result → Q (order_reported me number other mails)
+  own_reports me number other mails told same is = subst (λ (k : ℕ). Q (order_reported me k other mails)) (sym same) (subst (λ (x : OrderResult). Q (order_reported me n x mails)) (sym is) (order_reports me mails told))
+
+  some_own : (other : OrderResult) → Some other ≡ Some result → other ≡ result
+  some_own other e = cc
+
+  effect_reports : (command : Command) (o : Option OrderResult) (place : Place) → is_reported n ≡ true → order_number command ≡ n → o ≡ Some result → H (effect_reported o command place)
+  unfolding effect_reported
+  effect_reports command None place told number e = absurd cc
+  effect_reports command (Some other) (r, mails) told number e = own_reports r.me (order_number command) other mails told number (some_own other e)
+
+  announced_reports : (effect : Effect) (command : Command) (place : Place) → is_reported n ≡ true → order_number command ≡ n → order_result command effect ≡ Some result → H (announced true effect command place)
+  unfolding announced
+  announced_reports effect command place told number e = effect_reports command (order_result command effect) (answered_or_put_back (answer_of effect) command place) told number e
+
+  begun_reports : (me number : ℕ) (o : Option OrderResult) (mails : List Mail) → is_reported n ≡ true → number ≡ n → o ≡ Some result → Q (result_reported me o number mails)
+  begun_reports me number None mails told same e = absurd cc
+  begun_reports me number (Some other) mails told same e = own_reports me number other mails told same (some_own other e)
+
+  -- how a transaction goes on comes behind the report
+  module _ (me : ℕ) where
+    asks_first : (lock : Lock) (core : Core) (mails : List Mail) → Q mails → Q (asked_first lock me core mails)
+    asks_first (Coordinating tx body order heard) core mails m = more_said mails _ m
+    asks_first Free core mails m = m
+    asks_first (Promised tx offer) core mails m = m
+    asks_first (Watching tx watch) core mails m = m
+
+    asks_on : (effect : Effect) (core : Core) (mails : List Mail) → Q mails → Q (asked_on effect me core mails)
+    asks_on effect core mails m = either_way Q (is_changed effect) (asked_first core.lock me core mails) mails (asks_first core.lock core mails m) m
+
+    votes_sent : (o : Option Past) (group : Group) (tx : Draw) (offer : Offer) (mails : List Mail) → Q mails → Q (vote_sent o me group tx offer mails)
+    votes_sent None group tx offer mails m = m
+    votes_sent (Some vote) group tx offer mails m = vote_reported me Q (talk me) group offer.by tx offer vote mails m
+
+    watches_sent : (o : Option Past) (tx : Draw) (watch : Watch) (mails : List Mail) → Q mails → Q (watch_sent o me tx watch mails)
+    watches_sent None tx watch mails m = m
+    watches_sent (Some vote) tx watch mails m = watch_reported me Q (talk me) watch.by tx watch vote mails m
+
+    aborts_sent : (tx : Draw) (link : Link) (mails : List Mail) → Q mails → Q (aborted_to me tx link mails)
+    aborts_sent tx link mails m = all_sent me Q (TxOutcome tx link.group Abort) (λ to ms q. more_said ms _ q) link.members mails m
+
+    watcher_aborts : (tx : Draw) (o : Option (ℕ × Link)) (mails : List Mail) → Q mails → Q (aborted_watcher me tx o mails)
+    watcher_aborts tx None mails m = m
+    watcher_aborts tx (Some heard) mails m = aborts_sent tx heard.1 mails m
+
+    gives_up : (o : Option Outcome) (before : Before) (tx : Draw) (mails : List Mail) → Q mails → Q (given_up_by o me before tx mails)
+    gives_up None before tx mails m = m
+    gives_up (Some outcome) before tx mails m = watcher_aborts tx before.heard (aborted_to me tx before.succ mails) (aborts_sent tx before.succ mails m)
+
+    vote_replies : (o : Option Outcome) (vote : Vote) (before : Before) (tx : Draw) (by : ℕ) (mails : List Mail) → Q mails → Q (vote_answered o vote me before tx by mails)
+    vote_replies None vote before tx by mails m = m
+    vote_replies (Some outcome) (Votes.Yes frozen) before tx by mails m = more_said mails _ m
+    vote_replies (Some outcome) (Votes.No why) before tx by mails m = m
+
+    releases : (o : Option (ℕ × Link)) (succ : Link) (tx : Draw) (by : ℕ) (outcome : Outcome) (mails : List Mail) → Q mails → Q (released_to o me succ tx by outcome mails)
+    releases None succ tx by outcome mails m = more_said mails _ m
+    releases (Some heard) succ tx by outcome mails m = more_said _ _ (more_said mails _ m)
+
+    watch_replies : (o : Option Outcome) (vote : Past) (before : Before) (tx : Draw) (by : ℕ) (mails : List Mail) → Q mails → Q (watch_answered_by o vote me before tx by mails)
+    watch_replies None vote before tx by mails m = m
+    watch_replies (Some outcome) Cast.Yes before tx by mails m = releases before.heard before.succ tx by outcome mails m
+    watch_replies (Some outcome) (Cast.No why) before tx by mails m = either_way Q before.merges (aborted_to me tx before.succ mails) mails (aborts_sent tx before.succ mails m) m
+    watch_replies (Some outcome) Cast.Ended before tx by mails m = m
+
+    went_more : (group : Group) (before : Before) (effect : Effect) (command : Command) (mails : List Mail) → Q mails → Q (went_on me group before effect command mails)
+    unfolding went_on
+    went_more group before effect (Split at child order) mails m = asks_on effect group.core mails m
+    went_more group before effect (Begin tx body order) mails m = either_way Q (is_changed effect) _ mails (more_said mails _ m) m
+    went_more group before effect (Prepared tx offer) mails m = votes_sent (cast_in effect) group tx offer mails m
+    went_more group before effect (RecordVote tx vote by) mails m = vote_replies (decided_in effect) vote before tx by (asked_on effect me group.core mails) (asks_on effect group.core mails m)
+    went_more group before effect (GiveUp tx) mails m = gives_up (decided_in effect) before tx mails m
+    went_more group before effect (Watched tx watch) mails m = watches_sent (cast_in effect) tx watch mails m
+    went_more group before effect (RecordWatch tx vote by) mails m = watch_replies (decided_in effect) vote before tx by mails m
+    went_more group before effect _ mails m = m
+
+  spoken_reports : (before : Before) (effect : Effect) (command : Command) (place : Place) → is_reported n ≡ true → spoken_number before.order command ≡ n → begun_result before.alone effect command ≡ Some result → H (spoken true before effect command place)
+  unfolding spoken spoken_mails begun_reported
+  spoken_reports before effect command (r, mails) told number e =
+      went_more r.me r.group before effect command (result_reported r.me (begun_result before.alone effect command) (spoken_number before.order command) mails)
+      (begun_reports r.me (spoken_number before.order command) (begun_result before.alone effect command) mails told number e)
+
+  one_ends : (command : Command) (r : ReplicaState) (mails : List Mail) → is_reported n ≡ true → Ends command r.group → H (executed_one true command (r, mails))
+  unfolding executed_one
+  one_ends command r mails told (inl k) =
+      after_announced command r (announced true (applied r.group command).1 command (entered command r, mails)) (announced_reports (applied r.group command).1 command (entered command r, mails) told k.0 k.1)
+  one_ends command r mails told (inr k) =
+      after_spoken command r (spoken true (before_of r.group.core) (applied r.group command).1 command (announced true (applied r.group command).1 command (entered command r, mails)))
+      (spoken_reports (before_of r.group.core) (applied r.group command).1 command (announced true (applied r.group command).1 command (entered command r, mails)) told k.0 k.1)
+
+  -- the leader that counted the entry reports the result
+  pub entry_reports : (command : Command) (r : ReplicaState) (mails : List Mail) → is_reported n ≡ true → Ends command r.group → IsTold (executed true command (r, mails)).0.1 n result
+  entry_reports command r mails told k = executed_place H (λ o. Unit {0}) (λ place m. tt) (λ other place o m. one_goes other place m) pumps true command (r, mails) (one_ends command r mails told k)

@@ -1,0 +1,14 @@
+pub mod Affairs
+pub mod LeaderDeeds
+pub mod Parties
+pub mod AffairParts
+pub mod PartiesSinceQuiet
+pub mod Stages
+pub mod LeaderDeliveries
+pub mod AffairRows
+pub mod OrderTasks
+pub mod WorkAtStart
+pub mod WorkInPrefixes
+pub mod WorkInRows
+pub mod WorkMail
+pub mod WaitingWorkLaws

@@ -1,0 +1,72 @@
+-- No line of a plain scenario at its budget is cut off with mail pending.
+use Rattle.std.proofs.Common.{ℕ, ◌+◌, ◌≤◌, List, [], ◌∷◌, map, arith}
+use Rattle.sc_base.specs.Definitions.{Each}
+use Rattle.sc_node_table.specs.Values.{OrderLine, Value, NotLeader, NotMine, Gone, Stale, Mail, MailBody, Answer}
+use Rattle.sc_actor.specs.Definitions.{mails, System}
+use Rattle.sc_words.proofs.PaxosProofs.Lemmas.{Each-from}
+use Rattle.sc_node_table.specs.Definitions.{last_slot}
+use Rattle.sc_scenario.specs.scenario.Definitions.{IsBounded, ValidScenariosAreBounded}
+use Rattle.sc_scenario.specs.declared.scenario.scenarios.Scenario.{Scenario}
+use Rattle.sc_scenario.specs.declared.scenario.scenarios.SchedLine.{SchedLine}
+use Rattle.sc_scenario.specs.declared.scenario.scenarios.SchedLine.TheVariants.{Go, Deliver, Drop, Again, Tick, Crash, Told, Settle, Free, Storm}
+use Rattle.sc_meaning.specs.sound.Definitions.{Player, line_of, schedule, system_of, as_nodes}
+use Rattle.sc_live_orderly.specs.Definitions.{IsPlainLine, HasRoom, owed_at_birth}
+use Rattle.sc_live_orderly.proofs.Lemmas.{never_cut_by}
+use Rattle.sc_live_plain.specs.Definitions.{AllowsDeliveries, budget_of, body_owes, mail_owes, PlainLinesEndQuiet}
+use Rattle.sc_live_plain.proofs.PlainProofs.InductionBase.{birth_within, birth_few, journal_at_birth}
+use Rattle.sc_live_plain.proofs.PlainProofs.PlainInduction.{owing_of}
+use Rattle.sc_live_plain.proofs.PlainProofs.PlainBeginnings.{stage}
+use Rattle.sc_live_plain.proofs.PlainProofs.PlainJournals.{plain_journal}
+use Rattle.sc_live_plain.proofs.PlainProofs.GroupCircle.{round}
+
+-- lines at a budget are plain
+pub lines_plain : (budget : ℕ) (lines : List SchedLine) → Each (AllowsDeliveries budget) lines → Each IsPlainLine (map line_of lines)
+lines_plain budget [] at = tt
+lines_plain budget (Go client ∷ lines) at = (tt, lines_plain budget lines at.1)
+lines_plain budget (Settle most ∷ lines) at = (tt, lines_plain budget lines at.1)
+lines_plain budget (Free most workers ∷ lines) at = (tt, lines_plain budget lines at.1)
+lines_plain budget (Deliver who k ∷ lines) at = (at.0.0, lines_plain budget lines at.1)
+lines_plain budget (Drop who k ∷ lines) at = absurd at.0
+lines_plain budget (Again mail ∷ lines) at = absurd at.0
+lines_plain budget (Tick who ∷ lines) at = absurd at.0
+lines_plain budget (Crash node ∷ lines) at = absurd at.0
+lines_plain budget (Told node order ∷ lines) at = absurd at.0
+lines_plain budget (Storm number most ∷ lines) at = absurd at.0
+
+-- lines of deliveries have room for all that is owed
+pub lines_roomy : (budget total : ℕ) (lines : List SchedLine) → total ≤ budget → Each (AllowsDeliveries budget) lines → Each (HasRoom total) (map line_of lines)
+lines_roomy budget total [] low at = tt
+lines_roomy budget total (Go client ∷ lines) low at = (tt, lines_roomy budget total lines low at.1)
+lines_roomy budget total (Settle most ∷ lines) low at = (let room = at.0 in omega (arith, low, room), lines_roomy budget total lines low at.1)
+lines_roomy budget total (Free most workers ∷ lines) low at = (let room = at.0 in omega (arith, low, room), lines_roomy budget total lines low at.1)
+lines_roomy budget total (Deliver who k ∷ lines) low at = (tt, lines_roomy budget total lines low at.1)
+lines_roomy budget total (Drop who k ∷ lines) low at = absurd at.0
+lines_roomy budget total (Again mail ∷ lines) low at = absurd at.0
+lines_roomy budget total (Tick who ∷ lines) low at = absurd at.0
+lines_roomy budget total (Crash node ∷ lines) low at = absurd at.0
+lines_roomy budget total (Told node order ∷ lines) low at = absurd at.0
+lines_roomy budget total (Storm number most ∷ lines) low at = absurd at.0
+
+-- what is owed at birth keeps far from the last slot
+pub far_from_last : (words : ℕ → ℕ → ℕ × ℕ) (scenario : Scenario) (bounded : IsBounded scenario) → owed_at_birth (system_of as_nodes words scenario) (owing_of scenario) + 16 ≤ last_slot
+far_from_last words scenario bounded = (let few = birth_few scenario bounded words in omega (arith, few))
+
+-- each mail owes something
+pub some_owed : (body : MailBody) → 1 ≤ body_owes body
+some_owed (Answer group seq (Value reply)) = omega arith
+some_owed (Answer group seq (NotMine arc succ)) = omega arith
+some_owed (Answer group seq (NotLeader hint)) = omega arith
+some_owed (Answer group seq (Gone into)) = omega arith
+some_owed (Answer group seq (Stale last)) = omega arith
+some_owed _ = omega arith
+
+pub ends_quiet : ValidScenariosAreBounded → PlainLinesEndQuiet
+ends_quiet all_bounded words scenario journal valid at lawful =
+    let bounded = all_bounded scenario valid in
+    let s = stage scenario bounded in
+    let sys : System Player Mail OrderLine = system_of as_nodes words scenario in
+    let plain = lines_plain (budget_of scenario) scenario.lines at in
+    never_cut_by sys (owing_of scenario) (schedule scenario) plain
+    (λ rows l. (plain_journal words scenario s (round scenario bounded) (far_from_last words scenario bounded) (schedule scenario) plain (journal_at_birth scenario bounded words) rows l).owes)
+    (λ rows l. Each-from (λ mail. 1 ≤ mail_owes mail) (mails rows) (λ mail a. some_owed mail.body))
+    (lines_roomy (budget_of scenario) (owed_at_birth sys (owing_of scenario)) scenario.lines (birth_within scenario bounded words) at) journal lawful

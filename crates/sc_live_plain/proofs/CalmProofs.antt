@@ -1,0 +1,11 @@
+pub mod QuietFrames
+pub mod KnownGroups
+pub mod CalmRows
+pub mod CalmNodes
+pub mod CalmClients
+pub mod MoreCalmRequests
+pub mod RequestPhaseNodes
+pub mod RequestPhaseClients
+pub mod RequestsAfterQuiet
+pub mod CalmWaitingRequests
+pub mod RequestLines

@@ -1,0 +1,459 @@
+-- What a client does while clients ask alone, between two orders: it stays calm, and asks nodes that have a replica.
+use Rattle.std.proofs.Common.{◌≡◌, ℕ, ◌+◌, ◌-◌, ◌<◌, ◌≤◌, leb, eqb, Bool, true, false, cond, List, [], ◌∷◌, ◌++◌, length, map, take, drop, fold, Option, Some, None, ◌⊎◌, inl, inr, refl, sym, ◌∙◌, ap, subst, arith, take-append-drop}
+use Rattle.std.specs.Prelude.{nat_le, slice_get, get_or, is_some}
+use Rattle.std.specs.Option.{option_map}
+use Rattle.std.specs.Map.{set_value, remove_entry}
+use Rattle.std.proofs.lemmas.Bool.{cond_both, cond-true, cond-false, cases_Bool, eqb-true, leb-true, leb-false, le-leb, and_parts, and_from, eq-eqb, both_ways}
+use Rattle.std.proofs.lemmas.List.{length_push, length-map, length-take-le}
+use Rattle.std.proofs.lemmas.Option.{slice_get-get_or, slice_get_within}
+use Rattle.sc_base.specs.Definitions.{Among, Each, Arc, end_of, client_actor, key_of, same_draw, pos_of}
+use Rattle.sc_node_table.specs.Values.{Draw, Op, Get, Reply, Got, Link, Route, AnswerBody, Value, NotLeader, NotMine, Gone, Stale, Mail, MailBody, Answer}
+use Rattle.sc_base.proofs.Lemmas.{draw_is, same_name}
+use Rattle.sc_words.specs.ideal.Definitions.{holds_key}
+use Rattle.sc_actor.specs.declared.rows.Input.TheVariants.{Go}
+use Rattle.sc_client_table.specs.lookup.Definitions.{KnownGroups, way_to, nearer, better, chosen, target_in, changed, preferring, starting, group_learnt, learnt_from_not_mine, learnt_from_gone, far, new_way, target_of}
+use Rattle.sc_client_table.specs.declared.lookup.ways.Way.{Way}
+use Rattle.sc_paxos_law.proofs.Lemmas.{from_map, Among-left}
+use Rattle.sc_client_table.specs.table.Definitions.{Client as ClientState, request_at, waiting_request, ClientStep, asked_of, sent_to, sent_where, chosen_for, request_sent, started, waits_for, was_asked, redirected, answer_taken, got, table}
+use Rattle.sc_scenario.specs.declared.scenario.scenarios.Asks.{Asks}
+use Rattle.sc_live_plain.specs.Definitions.{IsLinkedSetting, Knows, CanBeAsked, IsCalmClient, BeginsBy, StaysCalm, ClientsStayCalm, start_known, Setting, IsHome, HasGoneTo, IsSetting, IsAsideBody, IsCalmMail, Frame, begun_ones, IsWaiting, IsResting, IsBegun, Requests, IsPlainBody}
+use Rattle.sc_live_plain.proofs.CalmProofs.KnownGroups.{name_in, id_of, gap, one_of_one, preferring_names, preferring_starts, learn_in_turn}
+use Rattle.sc_live_plain.proofs.PlainProofs.PlainClients.{asking}
+use Rattle.sc_live_plain.proofs.PlainProofs.PlainKnownGroups.{chosen_is, one_chosen}
+use Rattle.sc_live_plain.proofs.RowsProofs.Lists.{some_is, map_among}
+use Rattle.sc_live_plain.proofs.RowsProofs.RepeatedMail.{mail_of}
+use Rattle.sc_live_plain.proofs.PlainProofs.BegunRequestCounts.{request_same as sent_begun}
+
+-- ---- what is known of a group
+
+-- of a group whose name is known, what is known of it
+way_found : (P : Draw × Way → Type 0) (known : KnownGroups) (group : Draw) → Among group (map name_in known) → Each P known → (way : Way) × (way_to group known ≡ Some way) × P (group, way)
+way_found P [] group a e = absurd a
+way_found P (k ∷ ks) group a e =
+    elim (cases_Bool (same_draw group k.0)) [
+      | inl t ↦ (k.1, cond-true (same_draw group k.0) (Some k.1) (way_to group ks) t, subst (λ d. P (d, k.1)) (sym (draw_is group k.0 t)) e.0)
+      | inr f ↦ (
+          let rest = way_found P ks group (elim a [ inl same ↦ absurd (both_ways (same_draw group k.0) f (same_name group k.0 (sym same))) | inr b ↦ b ]) e.1 in
+          (rest.0, cond-false (same_draw group k.0) (Some k.1) (way_to group ks) f ∙ rest.1, rest.2))
+    ]
+
+lookup_has : (P : Draw × Way → Type 0) (known : KnownGroups) (group : Draw) (way : Way) → way_to group known ≡ Some way → Each P known → P (group, way)
+lookup_has P [] group way f e = cc
+lookup_has P (k ∷ ks) group way f e =
+    elim (cases_Bool (same_draw group k.0)) [
+      | inl t ↦ (let same : k.1 ≡ way = some_is (sym (cond-true (same_draw group k.0) (Some k.1) (way_to group ks) t) ∙ f) in
+          subst (λ w. P (group, w)) same (subst (λ d. P (d, k.1)) (sym (draw_is group k.0 t)) e.0))
+      | inr n ↦ lookup_has P ks group way (sym (cond-false (same_draw group k.0) (Some k.1) (way_to group ks) n) ∙ f) e.1
+    ]
+
+set_each : (P : Draw × Way → Type 0) (group : Draw) (known : KnownGroups) (way : Way) → P (group, way) → Each P known → Each P (set_value (same_draw group) known way)
+set_each P group [] way p e = tt
+set_each P group (k ∷ ks) way p e =
+    cond_both (same_draw group k.0) ((k.0, way) ∷ ks) (k ∷ set_value (same_draw group) ks way) (Each P) (λ t. (subst (λ d. P (d, way)) (draw_is group k.0 t) p, e.1)) (λ f. (e.0, set_each P group ks way p e.1))
+
+push_each : (P : Draw × Way → Type 0) (known : KnownGroups) (entry : Draw × Way) → Each P known → P entry → Each P (known ++ entry ∷ [])
+push_each P [] entry e p = (p, tt)
+push_each P (k ∷ ks) entry e p = (e.0, push_each P ks entry e.1 p)
+
+-- ---- which group is chosen depends on names and starts
+
+near_same : (p : ℕ) (x y a b : Draw × Way) → start_known x ≡ start_known y → start_known a ≡ start_known b → start_known (nearer p x a) ≡ start_known (nearer p y b)
+near_same p x y a b e f =
+    let same : leb (far p a.1) (far p x.1) ≡ leb (far p b.1) (far p y.1) = ap (λ (s : Draw × ℕ). leb (gap p s.1) (far p x.1)) f ∙ ap (λ (s : Draw × ℕ). leb (far p b.1) (gap p s.1)) e in
+    elim (cases_Bool (leb (far p a.1) (far p x.1))) [
+      | inl t ↦ ap start_known (cond-true (leb (far p a.1) (far p x.1)) a x t) ∙ (f ∙ sym (ap start_known (cond-true (leb (far p b.1) (far p y.1)) b y (sym same ∙ t))))
+      | inr n ↦ ap start_known (cond-false (leb (far p a.1) (far p x.1)) a x n) ∙ (e ∙ sym (ap start_known (cond-false (leb (far p b.1) (far p y.1)) b y (sym same ∙ n))))
+    ]
+
+abbrev chosen_name : Option (Draw × Way) → Option Draw
+chosen_name o = option_map (λ (entry : Draw × Way). entry.0) o
+
+best_same : (p : ℕ) (xs ys : KnownGroups) (x y : Draw × Way) → start_known x ≡ start_known y → map start_known xs ≡ map start_known ys → chosen_name (fold (better p) (Some x) xs) ≡ chosen_name (fold (better p) (Some y) ys)
+best_same p [] [] x y e f = ap (λ (s : Draw × ℕ). Some s.0) e
+best_same p (a ∷ xs) (b ∷ ys) x y e f =
+    let head : start_known a ≡ start_known b = cc in
+    let tail : map start_known xs ≡ map start_known ys = cc in
+    best_same p xs ys (nearer p x a) (nearer p y b) (near_same p x y a b e head) tail
+best_same p [] (b ∷ ys) x y e f = cc
+best_same p (a ∷ xs) [] x y e f = cc
+
+chosen_same : (p : ℕ) (known other : KnownGroups) → map start_known known ≡ map start_known other → chosen p known ≡ chosen p other
+chosen_same p [] [] e = refl
+chosen_same p (x ∷ xs) (y ∷ ys) e =
+    let head : start_known x ≡ start_known y = cc in
+    let tail : map start_known xs ≡ map start_known ys = cc in
+    best_same p xs ys x y head tail
+chosen_same p [] (y ∷ ys) e = cc
+chosen_same p (x ∷ xs) [] e = cc
+
+-- the chosen group is known
+pub chosen_among : (p : ℕ) (known : KnownGroups) (group : Draw) → chosen p known ≡ Some group → Among group (map name_in known)
+chosen_among p known group e = (let c = chosen_is p known group e in subst (λ d. Among d (map name_in known)) c.name (map_among name_in known c.entry c.stands))
+
+-- ---- how many requests are begun
+
+started_begun : (seq : ℕ) (client : ClientState) → seq ≤ length client.requests → begun_ones (started seq client).0 ≡ length client.replies + 1
+started_begun seq client le =
+    ap (λ (x : ClientStep). begun_ones x.0) (cond-true (nat_le seq (length client.requests)) (request_sent (record client { waiting = Some seq })) (record client { waiting = None }, []) (le-leb seq (length client.requests) le))
+    ∙ sent_begun (record client { waiting = Some seq })
+
+-- ---- what becomes of the request that waits
+
+-- an answer that ends a request, or sends its client on
+abbrev pub EndsWait : AnswerBody → Type 0
+EndsWait (Value reply) = Unit {0}
+EndsWait (NotMine arc succ) = Unit {0}
+EndsWait (NotLeader hint) = Unit {0}
+EndsWait (Gone into) = Unit {0}
+EndsWait (Stale last) = ⊥
+
+-- where a request waits after a step, the step sent it
+abbrev pub Seeks : ClientStep → Type 0
+Seeks step = (w : IsWaiting step.0) → (op : Op) × Among (asking step.0.me w.target w.group w.seq op) step.1
+
+-- a client ignores a mail that is no such answer to its request, from the node that was asked
+pub record Ignores (client : ClientState) (mail : Mail) (step : ClientStep) : Type 0 where
+  pub after_is : step ≡ (client, [])
+  pub no_end : (w : IsWaiting client) (answer : AnswerBody) → EndsWait answer → mail ≡ mail_of w.target (client_actor client.me) (Answer w.group w.seq answer) → ⊥
+
+module _ (set : Setting) where
+  abbrev P : Draw × Way → Type 0
+  P = CanBeAsked set
+
+  -- ---- known groups and their targets
+
+  one_known : (known : KnownGroups) → Knows set known → 1 ≤ length known
+  one_known known (inl k) = (let n = ap length k.2 in omega (arith, n))
+  one_known known (inr k) =
+      let names = ap length k.first.names in
+      let mine = length-map known name_in in
+      let theirs = length-map (take k.reached k.ring) id_of in
+      let count = length-take-le k.reached k.ring k.first.low in
+      let some = k.first.some in
+      omega (arith, names, mine, theirs, count, some)
+
+  starting_each : (group : Draw) (lo : ℕ) (known : KnownGroups) → Each (CanBeAsked set) known → Each (CanBeAsked set) (starting group lo known)
+  starting_each group lo known e = by (way_to group known) refl
+    where
+      by : (o : Option Way) → way_to group known ≡ o → Each (CanBeAsked set) (changed (λ way. record way { lo = lo }) group known o)
+      by None f = e
+      by (Some way) f = set_each (CanBeAsked set) group known (record way { lo = lo }) (lookup_has (CanBeAsked set) known group way f e) e
+
+  learnt_each : (group : Draw) (lo : ℕ) (members : List ℕ) (known : KnownGroups) → P (group, new_way lo members) → Each (CanBeAsked set) known → Each (CanBeAsked set) (group_learnt group lo members known)
+  learnt_each group lo members known p e =
+      cond_both (is_some (way_to group known)) (starting group lo known) (known ++ (group, new_way lo members) ∷ []) (Each (CanBeAsked set)) (λ _. starting_each group lo known e) (λ _. push_each (CanBeAsked set) known (group, new_way lo members) e p)
+
+  preferring_each : (group : Draw) (node : ℕ) (known : KnownGroups) → IsHome set group node → Each (CanBeAsked set) known → Each (CanBeAsked set) (preferring group node known)
+  preferring_each group node known h e = by (way_to group known)
+    where
+      by : (o : Option Way) → Each (CanBeAsked set) (changed (λ way. record way { preferred = Some node }) group known o)
+      by None = e
+      by (Some way) = set_each (CanBeAsked set) group known (record way { preferred = Some node }) h e
+
+  preferring_knows : (group : Draw) (node : ℕ) (known : KnownGroups) → Knows set known → Knows set (preferring group node known)
+  preferring_knows group node known (inl k) =
+      let one = one_of_one name_in (preferring group node known) k.0 (preferring_names group node known ∙ ap (λ l. map name_in l) k.2) in
+      inl (one.0.0, one.0.1, one.1)
+  preferring_knows group node known (inr k) = inr (record { ring = k.ring; is_ring = k.is_ring; reached = k.reached; first = learn_in_turn.not_leader k.ring k.reached node group known k.first })
+
+  -- ---- a request is sent
+
+  module _ (asks : Asks) where
+    -- a client in which a request waits
+    record IsReady (seq : ℕ) (op : Op) (client : ClientState) : Type 0 where
+      me_is : client.me ≡ asks.client
+      requests_are : client.requests ≡ asks.ops
+      knows : Knows set client.known
+      targets : Each (CanBeAsked set) client.known
+      waits : client.waiting ≡ Some seq
+      number : seq ≡ length client.replies + 1
+      op_is : slice_get client.requests (seq - 1) ≡ Some op
+
+    request_is : (seq : ℕ) (op : Op) (client : ClientState) → IsReady seq op client → waiting_request client ≡ Some (seq, op)
+    request_is seq op client k = ap (request_at client.requests) k.waits ∙ ap (λ (o : Option Op). option_map (λ x. (seq, x)) o) k.op_is
+
+    module _ (begun : Requests) (gone : Bool) where
+      abbrev Stays : ClientStep → Type 0
+      Stays step = StaysCalm begun set asks gone step × Seeks step
+
+      -- it sends its request to the group that is chosen
+      asked_row : gone ≡ true → (seq : ℕ) (op : Op) (client : ClientState) → IsReady seq op client → (group : Draw) → chosen (pos_of (key_of op)) client.known ≡ Some group → begun client.me seq op → Stays (sent_to group client)
+      asked_row g seq op client k group c b =
+          let w = way_found (CanBeAsked set) client.known group (chosen_among (pos_of (key_of op)) client.known group c) k.targets in
+          let target : ℕ = target_of w.0 in
+          let target_is : target_in group client.known ≡ Some target = ap (λ (o : Option Way). option_map target_of o) w.1 in
+          let after_is : sent_to group client ≡ (record client { asked = Some (group, target) }, asking client.me target group seq op ∷ []) =
+          ap (λ (o : Option ℕ). asked_of client group o (waiting_request client)) target_is ∙ ap (asked_of client group (Some target)) (request_is seq op client k) in
+          let seeks : Seeks (record client { asked = Some (group, target) }, asking client.me target group seq op ∷ []) = λ w_. (
+          let seq_ : seq ≡ w_.seq = some_is (sym k.waits ∙ w_.waits) in
+          let pair : (group, target) ≡ (w_.group, w_.target) = some_is w_.asked in
+          let group_ : group ≡ w_.group = ap (λ (x : Draw × ℕ). x.0) pair in
+          let target_ : target ≡ w_.target = ap (λ (x : Draw × ℕ). x.1) pair in
+          (op, inl (ap (λ x. asking client.me x group seq op) target_ ∙ (ap (λ x. asking client.me w_.target x seq op) group_ ∙ ap (λ x. asking client.me w_.target w_.group x op) seq_)))) in
+          subst Stays (sym after_is) (
+            (
+              record {
+                me_is = k.me_is;
+                requests_are = k.requests_are;
+                knows = λ few. k.knows;
+                targets = λ few. k.targets;
+                state = inr (
+                  g,
+                  record { seq = seq; op = op; waits = k.waits; number = k.number; op_is = k.op_is; group = group; target = target; asked = refl; chosen_is = c; target_is = target_is },
+                );
+              },
+              (inr (refl, w.2, b), tt),
+            ),
+            seeks,
+          )
+
+      ready_row : gone ≡ true → (seq : ℕ) (op : Op) (client : ClientState) → IsReady seq op client → begun client.me seq op → Stays (request_sent client)
+      ready_row g seq op client k b =
+          let one = one_chosen (pos_of (key_of op)) client.known (one_known client.known k.knows) in
+          let is : request_sent client ≡ sent_to one.0 client = ap (λ (o : Option (ℕ × Op)). sent_where client (chosen_for client o)) (request_is seq op client k) ∙ ap (sent_where client) one.1 in
+          subst Stays (sym is) (asked_row g seq op client k one.0 one.1 b)
+
+    -- the next request, or none where all are answered
+    started_row : (begun : Requests) (client : ClientState) (seq : ℕ) → client.me ≡ asks.client → client.requests ≡ asks.ops → (length client.replies < length client.requests → Knows set client.known) → (length client.replies < length client.requests → Each (CanBeAsked set) client.known) → seq ≡ length client.replies + 1 → length client.replies ≤ length client.requests
+        → BeginsBy begun client (started seq client) → StaysCalm begun set asks true (started seq client) × Seeks (started seq client)
+    started_row begun client seq me_is requests_are knows targets number few now =
+        cond_both (nat_le seq (length client.requests)) (request_sent (record client { waiting = Some seq })) (record client { waiting = None }, []) (λ (x : ClientStep). StaysCalm begun set asks true x × Seeks x)
+        (λ t. (let le = leb-true seq (length client.requests) t in
+        let op = get_or client.requests (seq - 1) (Get []) in
+        let is = slice_get-get_or client.requests (seq - 1) (Get []) (omega (arith, le, number)) in
+        ready_row begun true refl seq op (record client { waiting = Some seq }) (record { me_is = me_is; requests_are = requests_are; knows = knows (omega (arith, le, number)); targets = targets (omega (arith, le, number)); waits = refl; number = number; op_is = is }) (now seq op (omega (arith, number)) is (let begins = started_begun seq client le in omega (arith, begins, number)))))
+        (λ f. (let past = leb-false seq (length client.requests) f in (
+          (
+            record { me_is = me_is; requests_are = requests_are; knows = knows; targets = targets; state = inl (record { waits = refl; replies = inr (refl, omega (arith, past, number, few)) }) },
+            tt,
+          ),
+          (λ w. (let bad : None ≡ Some w.seq = w.waits in cc)),
+        )))
+
+    -- a client that has not started has asked nothing
+    pub unasked : (client : ClientState) → IsResting false client ⊎ ((false ≡ true) × IsWaiting client) → (client.waiting ≡ None) × (client.replies ≡ [])
+    unasked client (inl rests) = elim (rests.replies) [ inl is ↦ (rests.waits, is.1) | inr is ↦ (let bad : false ≡ true = is.0 in cc) ]
+    unasked client (inr is) = (let bad : false ≡ true = is.0 in cc)
+
+    pub go_calm : (begun : Requests) (client : ClientState) → IsCalmClient set asks false client → BeginsBy begun client (table client Go) → StaysCalm begun set asks true (table client Go) × Seeks (table client Go)
+    go_calm begun client k now =
+        let none = unasked client k.state in
+        let short = ap length none.1 in
+        started_row begun client 1 k.me_is k.requests_are k.knows k.targets (omega (arith, short)) (omega (arith, short)) now
+
+    -- ---- each mail
+
+    module _ (begun later : Requests) (gone : Bool) (client : ClientState) (mail : Mail) (is : IsSetting set) (linked : IsLinkedSetting set) (k : IsCalmClient set asks gone client) (m : IsCalmMail begun set mail) (to : mail.to ≡ client_actor client.me)
+        (asked_right : (seq : ℕ) (op : Op) → begun client.me seq op → slice_get client.requests (seq - 1) ≡ Some op) (weaker : (c n : ℕ) (op : Op) → begun c n op → later c n op) (now : BeginsBy later client (table client (Got mail))) where
+      abbrev Keeps : ClientStep → Type 0
+      Keeps step = StaysCalm later set asks gone step × (Seeks step ⊎ Ignores client mail step)
+
+      abbrev Sends : ClientStep → Type 0
+      Sends step = StaysCalm later set asks gone step × Seeks step
+
+      sends : (step : ClientStep) → Sends step → Keeps step
+      sends step x = (x.0, inl x.1)
+
+      -- a mail that is ignored
+      ignored : ((w : IsWaiting client) (answer : AnswerBody) → EndsWait answer → mail.from ≡ w.target → mail.body ≡ Answer w.group w.seq answer → ⊥) → Keeps (client, [])
+      ignored no_end = (
+        (record { me_is = k.me_is; requests_are = k.requests_are; knows = k.knows; targets = k.targets; state = k.state }, tt),
+        inr (record { after_is = refl; no_end = λ w answer f e. no_end w answer f (ap (λ (m : Mail). m.from) e) (ap (λ (m : Mail). m.body) e) }),
+      )
+
+      -- what a body says
+      record SaysPlain (body : MailBody) : Type 0 where
+        frame : Frame
+        is_frame : Among frame set.frames
+        says : IsPlainBody begun frame mail.from mail.to body
+
+      abbrev Says : MailBody → Type 0
+      Says body = SaysPlain body ⊎ IsAsideBody begun set mail.from mail.to body
+
+      says_of : (body : MailBody) → mail.body ≡ body → Says body
+      says_of body e = elim m [
+        | inl q ↦ inl (record { frame = q.frame; is_frame = q.is_frame; says = subst (IsPlainBody begun q.frame mail.from mail.to) e q.says })
+        | inr a ↦ inr (subst (IsAsideBody begun set mail.from mail.to) e a)
+      ]
+
+      -- ---- an answer to the request that waits
+
+      module _ (is_gone : gone ≡ true) (w : IsWaiting client) where
+        -- the request of an answer to the client is the one that waits
+        module _ (who : ℕ) (op : Op) (receiver : mail.to ≡ client_actor who) (b : begun who w.seq op) where
+          mine : begun client.me w.seq op
+          mine = (let same : who ≡ client.me = omega (arith, to, receiver) in subst (λ c. begun c w.seq op) same b)
+
+          op_same : op ≡ w.op
+          op_same = some_is (sym (asked_right w.seq op mine) ∙ w.op_is)
+
+          begun_later : later client.me w.seq w.op
+          begun_later = weaker client.me w.seq w.op (subst (λ x. begun client.me w.seq x) op_same mine)
+
+        -- a reply is missing
+        few : length client.replies < length client.requests
+        few = (let low = slice_get_within client.requests (w.seq - 1) w.op w.op_is in let number = w.number in omega (arith, low, number))
+
+        ready : (known : KnownGroups) → Knows set known → Each (CanBeAsked set) known → IsReady w.seq w.op (record client { known = known })
+        ready known knows targets = record { me_is = k.me_is; requests_are = k.requests_are; knows = knows; targets = targets; waits = w.waits; number = w.number; op_is = w.op_is }
+
+        -- it is a reply, and the next request is begun
+        replied : (group : Draw) (reply : Reply) → mail.body ≡ Answer group w.seq (Value reply) → Keeps (started (w.seq + 1) (record client { replies = client.replies ++ reply ∷ [] }))
+        replied group reply e =
+            let after : ClientState = record client { replies = client.replies ++ reply ∷ [] } in
+            let push = length_push client.replies reply in
+            let number = w.number in
+            let low = slice_get_within client.requests (w.seq - 1) w.op w.op_is in
+            let waits_same : waits_for client.waiting w.seq ≡ true = ap (λ (o : Option ℕ). waits_for o w.seq) w.waits ∙ eq-eqb w.seq w.seq refl in
+            let same : table client (Got mail) ≡ started (w.seq + 1) after = ap (λ (b : MailBody). got mail.from b client) e ∙ cond-true (waits_for client.waiting w.seq) (started (w.seq + 1) after) (client, []) waits_same in
+            let begins : BeginsBy later after (started (w.seq + 1) after) = λ n op one at le. now n op one at (subst (λ (x : ClientStep). n ≤ begun_ones x.0) (sym same) le) in
+            sends (started (w.seq + 1) after) (subst (λ g. StaysCalm later set asks g (started (w.seq + 1) after) × Seeks (started (w.seq + 1) after)) (sym is_gone) (started_row later after (w.seq + 1) k.me_is k.requests_are (λ more. k.knows few) (λ more. k.targets few) (omega (arith, push, number)) (omega (arith, push, low, number)) begins))
+
+        -- it names another node, which is asked
+        hinted : (group : Draw) (node : ℕ) → w.group ≡ group → Says (Answer group w.seq (NotLeader (Some node))) → Keeps (sent_to group (record client { known = preferring group node client.known }))
+        hinted group node name (inl s) = absurd (s.says.1.says)
+        hinted group node name (inr s) =
+            let known = preferring group node client.known in
+            let chosen_is_ : chosen (pos_of (key_of w.op)) known ≡ Some group = chosen_same (pos_of (key_of w.op)) known client.known (preferring_starts group node client.known) ∙ (w.chosen_is ∙ ap Some name) in
+            sends (sent_to group (record client { known = known })) (asked_row later gone is_gone w.seq w.op (record client { known = known }) (ready known (preferring_knows group node client.known (k.knows few)) (preferring_each group node client.known s.says.has (k.targets few))) group chosen_is_ (begun_later s.client s.op s.to_is s.is_begun))
+
+        -- it says that the key is another group's: the next one is learnt, and asked
+        next_known : (frame : Frame) → Among frame set.frames → w.group ≡ frame.core.id → holds_key frame.core.arc (key_of w.op) ≡ false → Knows set client.known → Knows set (learnt_from_not_mine frame.core.id frame.core.arc frame.core.succ client.known)
+        next_known frame a name lacks (inl one) =
+            let chosen_here : chosen (pos_of (key_of w.op)) client.known ≡ Some frame.core.id = w.chosen_is ∙ ap Some name in
+            let among = subst (λ l. Among frame.core.id (map name_in l)) one.2 (chosen_among (pos_of (key_of w.op)) client.known frame.core.id chosen_here) in
+            let same : one.0 ≡ frame.core.id = elim among [ inl e ↦ e | inr none ↦ absurd none ] in
+            let known_is : client.known ≡ (frame.core.id, one.1) ∷ [] = one.2 ∙ ap (λ d. (d, one.1) ∷ []) same in
+            let ring = linked.rings frame a in
+            let first = learn_in_turn.gone ring.0 frame one.1 in
+            let next_ = learn_in_turn.not_mine (frame ∷ ring.0) 1 (pos_of (key_of w.op)) frame ((frame.core.id, one.1) ∷ []) ring.1.round first (inl refl) (ap (chosen (pos_of (key_of w.op))) (sym known_is) ∙ chosen_here) lacks in
+            subst (λ l. Knows set (learnt_from_not_mine frame.core.id frame.core.arc frame.core.succ l)) (sym known_is) (inr (record { ring = frame ∷ ring.0; is_ring = ring.1; reached = 2; first = next_.1 }))
+        next_known frame a name lacks (inr r) =
+            let chosen_here : chosen (pos_of (key_of w.op)) client.known ≡ Some frame.core.id = w.chosen_is ∙ ap Some name in
+            let among = subst (Among frame.core.id) r.first.names (chosen_among (pos_of (key_of w.op)) client.known frame.core.id chosen_here) in
+            let f = from_map id_of (take r.reached r.ring) frame.core.id among in
+            let in_ring : Among f.0 r.ring = subst (Among f.0) (take-append-drop r.reached r.ring) (Among-left f.0 (take r.reached r.ring) (drop r.reached r.ring) f.1) in
+            let same : f.0 ≡ frame = is.apart f.0 frame (r.is_ring.within f.0 in_ring) a f.2 in
+            let next_ = learn_in_turn.not_mine r.ring r.reached (pos_of (key_of w.op)) frame client.known r.is_ring.round r.first (subst (λ x. Among x r.ring) same in_ring) chosen_here lacks in
+            inr (record { ring = r.ring; is_ring = r.is_ring; reached = r.reached + 1; first = next_.1 })
+
+        sent_on : (group : Draw) (arc : Arc) (succ : Link) → w.group ≡ group → Says (Answer group w.seq (NotMine arc succ)) → Keeps (request_sent (record client { known = learnt_from_not_mine group arc succ client.known }))
+        sent_on group arc succ name (inr s) = absurd (s.says)
+        sent_on group arc succ name (inl s) =
+            let frame : Frame = s.frame in
+            let reply = s.says.1 in
+            let lacks : holds_key frame.core.arc (key_of w.op) ≡ false = ap (λ x. holds_key frame.core.arc (key_of x)) (sym (op_same reply.client reply.op reply.to_is reply.is_begun)) ∙ reply.says.0 in
+            let known_is : learnt_from_not_mine group arc succ client.known ≡ learnt_from_not_mine frame.core.id frame.core.arc frame.core.succ client.known =
+            ap (λ d. learnt_from_not_mine d arc succ client.known) s.says.0
+            ∙ (ap (λ (x : Arc). learnt_from_not_mine frame.core.id x succ client.known) reply.says.1 ∙ ap (λ (x : Link). learnt_from_not_mine frame.core.id frame.core.arc x client.known) reply.says.2) in
+            let known : KnownGroups = learnt_from_not_mine frame.core.id frame.core.arc frame.core.succ client.known in
+            let targets = learnt_each frame.core.succ.group (end_of frame.core.arc) frame.core.succ.members (starting frame.core.id frame.core.arc.lo client.known) (linked.links frame s.is_frame) (starting_each frame.core.id frame.core.arc.lo client.known (k.targets few)) in
+            subst (λ l. Keeps (request_sent (record client { known = l }))) (sym known_is)
+            (sends (request_sent (record client { known = known })) (ready_row later gone is_gone w.seq w.op (record client { known = known }) (ready known (next_known frame s.is_frame (name ∙ s.says.0) lacks (k.knows few)) targets) (begun_later reply.client reply.op reply.to_is reply.is_begun)))
+
+        -- it says where the group went, which is known alone
+        alone : (group : Draw) (into : Route) → w.group ≡ group → HasGoneTo set group into → Knows set client.known → (way : Way) × (client.known ≡ (group, way) ∷ [])
+        alone group into name went (inl one) =
+            let among = subst (λ l. Among group (map name_in l)) one.2 (chosen_among (pos_of (key_of w.op)) client.known group (w.chosen_is ∙ ap Some name)) in
+            let same : one.0 ≡ group = elim among [ inl e ↦ e | inr none ↦ absurd none ] in
+            (one.1, one.2 ∙ ap (λ d. (d, one.1) ∷ []) same)
+        alone group into name went (inr r) =
+            let among = subst (Among group) r.first.names (chosen_among (pos_of (key_of w.op)) client.known group (w.chosen_is ∙ ap Some name)) in
+            let f = from_map id_of (take r.reached r.ring) group among in
+            let in_ring : Among f.0 r.ring = subst (Among f.0) (take-append-drop r.reached r.ring) (Among-left f.0 (take r.reached r.ring) (drop r.reached r.ring) f.1) in
+            absurd (linked.stand f.0 into (r.is_ring.within f.0 in_ring) (subst (λ d. HasGoneTo set d into) (sym f.2) went))
+
+        moved : (group : Draw) (into : Route) → w.group ≡ group → Says (Answer group w.seq (Gone into)) → Keeps (request_sent (record client { known = learnt_from_gone group into client.known }))
+        moved group into name (inl s) = absurd (s.says.1.says)
+        moved group into name (inr s) =
+            let one = alone group into name s.says (k.knows few) in
+            let known : KnownGroups = (into.group, new_way into.lo into.members) ∷ [] in
+            let removed : remove_entry (same_draw group) ((group, one.0) ∷ []) ≡ [] = cond-true (same_draw group group) [] ((group, one.0) ∷ []) (same_name group group refl) in
+            let known_is : learnt_from_gone group into client.known ≡ known = ap (learnt_from_gone group into) one.1 ∙ ap (group_learnt into.group into.lo into.members) removed in
+            subst (λ l. Keeps (request_sent (record client { known = l }))) (sym known_is)
+            (sends (request_sent (record client { known = known })) (ready_row later gone is_gone w.seq w.op (record client { known = known }) (ready known (inl (into.group, new_way into.lo into.members, refl)) (linked.routes group into s.says, tt)) (begun_later s.client s.op s.to_is s.is_begun)))
+
+        -- whatever it says, where it comes from the node that was asked
+        redirected_calm : (group : Draw) (answer : AnswerBody) → mail.body ≡ Answer group w.seq answer → ((reply : Reply) → answer ≡ Value reply → ⊥) → w.group ≡ group → Says (Answer group w.seq answer) → Keeps (redirected group answer client)
+        redirected_calm group (NotLeader (Some node)) e no_ name s = hinted group node name s
+        redirected_calm group (NotLeader None) e no_ name (inl s) = absurd (s.says.1.says)
+        redirected_calm group (NotLeader None) e no_ name (inr s) = absurd (s.says)
+        redirected_calm group (NotMine arc succ) e no_ name s = sent_on group arc succ name s
+        redirected_calm group (Gone into) e no_ name s = moved group into name s
+        redirected_calm group (Value reply) e no_ name s = absurd (no_ reply refl)
+        redirected_calm group (Stale last) e no_ name s = ignored (λ w_ answer f from body. no_stale answer f (same_answer (sym e ∙ body)))
+          where
+            same_answer : {g h : Draw} {m n : ℕ} {x y : AnswerBody} → Answer g m x ≡ Answer h n y → x ≡ y
+            same_answer e = cc
+
+            no_stale : (answer : AnswerBody) → EndsWait answer → Stale last ≡ answer → ⊥
+            no_stale answer f e = subst EndsWait (sym e) f
+
+        by_asked : (group : Draw) (answer : AnswerBody) → mail.body ≡ Answer group w.seq answer → ((reply : Reply) → answer ≡ Value reply → ⊥) → Keeps (cond (was_asked client.asked mail.from group) (redirected group answer client) (client, []))
+        by_asked group answer e no_ =
+            cond_both (was_asked client.asked mail.from group) (redirected group answer client) (client, []) Keeps
+            (λ t. (let parts = and_parts (eqb w.target mail.from) (same_draw w.group group) (ap (λ (o : Option (Draw × ℕ)). was_asked o mail.from group) (sym w.asked) ∙ t) in
+            redirected_calm group answer e no_ (draw_is w.group group parts.1) (says_of (Answer group w.seq answer) e)))
+            (λ f. ignored (λ w_ answer_ ends from body. (
+            let name : group ≡ w_.group = same_group (sym e ∙ body) in
+            let asked : was_asked client.asked mail.from group ≡ true =
+            ap (λ (o : Option (Draw × ℕ)). was_asked o mail.from group) w_.asked ∙ and_from (eqb w_.target mail.from) (same_draw w_.group group) (eq-eqb w_.target mail.from (sym from)) (same_name w_.group group (sym name)) in
+            both_ways (was_asked client.asked mail.from group) f asked)))
+          where
+            same_group : {g h : Draw} {m n : ℕ} {x y : AnswerBody} → Answer g m x ≡ Answer h n y → g ≡ h
+            same_group e = cc
+
+        waited : (group : Draw) (answer : AnswerBody) → mail.body ≡ Answer group w.seq answer → Keeps (answer_taken mail.from group w.seq answer client)
+        waited group (Value reply) e = replied group reply e
+        waited group (NotLeader hint) e = by_asked group (NotLeader hint) e (λ reply x. cc)
+        waited group (NotMine arc succ) e = by_asked group (NotMine arc succ) e (λ reply x. cc)
+        waited group (Gone into) e = by_asked group (Gone into) e (λ reply x. cc)
+        waited group (Stale last) e = by_asked group (Stale last) e (λ reply x. cc)
+
+      -- an answer to another request
+      not_waited : (group : Draw) (seq : ℕ) (answer : AnswerBody) → mail.body ≡ Answer group seq answer → waits_for client.waiting seq ≡ false → Keeps (client, [])
+      not_waited group seq answer e f =
+          ignored (λ w answer_ ends from body. (
+          let number : seq ≡ w.seq = same_number (sym e ∙ body) in
+          let waits : waits_for client.waiting seq ≡ true = ap (λ (o : Option ℕ). waits_for o seq) w.waits ∙ eq-eqb w.seq seq (sym number) in
+          both_ways (waits_for client.waiting seq) f waits))
+        where
+          same_number : {g h : Draw} {m n : ℕ} {x y : AnswerBody} → Answer g m x ≡ Answer h n y → m ≡ n
+          same_number e = cc
+
+      answered_by : (group : Draw) (seq : ℕ) (answer : AnswerBody) → mail.body ≡ Answer group seq answer → IsResting gone client ⊎ ((gone ≡ true) × IsWaiting client) → Keeps (got mail.from (Answer group seq answer) client)
+      answered_by group seq answer e (inl rests) =
+          cond_both (waits_for client.waiting seq) (answer_taken mail.from group seq answer client) (client, []) Keeps
+          (λ t. absurd (both_ways (waits_for client.waiting seq) (ap (λ (o : Option ℕ). waits_for o seq) rests.waits) t)) (λ f. not_waited group seq answer e f)
+      answered_by group seq answer e (inr (g, w)) =
+          cond_both (waits_for client.waiting seq) (answer_taken mail.from group seq answer client) (client, []) Keeps
+          (λ t. (let same : w.seq ≡ seq = eqb-true w.seq seq (ap (λ (o : Option ℕ). waits_for o seq) (sym w.waits) ∙ t) in
+          subst (λ n. Keeps (answer_taken mail.from group n answer client)) same (waited g w group answer (e ∙ ap (λ n. Answer group n answer) (sym same))))) (λ f. not_waited group seq answer e f)
+
+      no_answer : (body : MailBody) → mail.body ≡ body → ((group : Draw) (seq : ℕ) (answer : AnswerBody) → body ≡ Answer group seq answer → ⊥) → Keeps (client, [])
+      no_answer body e no_ = ignored (λ w answer f from is_. no_ w.group w.seq answer (sym e ∙ is_))
+
+      takes_by : (body : MailBody) → mail.body ≡ body → Keeps (got mail.from body client)
+      takes_by (Answer group seq answer) e = answered_by group seq answer e k.state
+      takes_by body e = no_answer body e (λ g n a x. cc)
+
+      pub takes_calm : StaysCalm later set asks gone (table client (Got mail)) × (Seeks (table client (Got mail)) ⊎ Ignores client mail (table client (Got mail)))
+      takes_calm = takes_by mail.body refl
+
+-- where a request waits, the node that was asked has a replica
+pub waiting_home : (set : Setting) (asks : Asks) (gone : Bool) (client : ClientState) → IsCalmClient set asks gone client → (w : IsWaiting client) → IsHome set w.group w.target
+waiting_home set asks gone client k w = by (way_to w.group client.known) refl w.target_is
+  where
+    few : length client.replies < length client.requests
+    few = (let low = slice_get_within client.requests (w.seq - 1) w.op w.op_is in let number = w.number in omega (arith, low, number))
+
+    by : (o : Option Way) → way_to w.group client.known ≡ o → option_map target_of o ≡ Some w.target → IsHome set w.group w.target
+    by None e t = cc
+    by (Some way) e t = subst (IsHome set w.group) (some_is t) (lookup_has (CanBeAsked set) client.known w.group way e (k.targets few))
+
+-- Between two orders, while clients ask alone, a client that goes or takes mail stays calm: it asks nodes that have a replica of the group, and its request goes where its answers send it.
+pub clients_calm : ClientsStayCalm
+clients_calm = record {
+  go = λ scenario rows set asks client k now. (go_calm set asks (IsBegun scenario rows) client k now).0;
+  takes = λ scenario rows later set asks gone client mail is linked k m to asked_right weaker now. (takes_calm set asks (IsBegun scenario rows) (IsBegun scenario later) gone client mail is linked k m to asked_right weaker now).0;
+}

@@ -1,0 +1,10 @@
+pub mod IdleLeaders
+pub mod ExecutedCalls
+pub mod PlainEntries
+pub mod LeadingReplicas
+pub mod Pumps
+pub mod ReadyCalls
+pub mod LeaderExecutions
+pub mod LeaderRequests
+pub mod Flights
+pub mod CountedVotes

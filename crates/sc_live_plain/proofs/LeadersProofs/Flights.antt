@@ -1,0 +1,193 @@
+-- What a vote makes of the flights, and of those that voted.
+use Rattle.std.proofs.Common.{◌≡◌, ℕ, zero, suc, ◌+◌, ◌*◌, ◌<◌, ◌≤◌, ◌||◌, eqb, Bool, true, false, cond, List, [], ◌∷◌, ◌++◌, length, map, count_by, Option, Some, None, inl, inr, refl, sym, ◌∙◌, ap, subst, arith}
+use Rattle.std.specs.Prelude.{slice_get}
+use Rattle.std.proofs.lemmas.Bool.{cond_both, cond-true, cond-false, cases_Bool, eqb-true, eq-eqb, ne_eqb, lt-ltb, both_ways, or_cases, or_parts, or_left}
+use Rattle.sc_base.specs.Definitions.{Among, Each, votes_of, is_majority, is_member, with_member, IsRoster}
+use Rattle.sc_node_table.specs.Values.{Command, Flight}
+use Rattle.sc_base.proofs.Lemmas.{length_with as with_one}
+use Rattle.sc_words.specs.paxos.Definitions.{flight_at, without_flight, kept_voters, add_voter, voters_after, with_voters}
+use Rattle.sc_node_table.specs.Definitions.{numbers_from}
+use Rattle.sc_paxos_law.proofs.Lemmas.{member-among}
+use Rattle.sc_live_plain.proofs.RowsProofs.SlotCounts.{one_yes, one_no, count-cons}
+use Rattle.sc_live_plain.proofs.LeadersProofs.LeadingReplicas.{flights_at}
+use Rattle.sc_live_plain.proofs.RowsProofs.Lists.{some_is}
+use Rattle.sc_live_steps.proofs.FollowingProofs.CountedVotes.{with_own}
+use Rattle.sc_live_steps.proofs.FollowingProofs.Lemmas.{with_kept}
+
+-- ---- the flights
+
+abbrev Flights : Type 0
+Flights = List (Flight Command)
+
+-- the flight at a slot without one at another
+pub others_out : (slot other : ℕ) (fs : Flights) → (other ≡ slot → ⊥) → flight_at other (without_flight slot fs) ≡ flight_at other fs
+others_out slot other [] ne = refl
+others_out slot other (f ∷ fs) ne =
+    cond_both (eqb f.slot slot) fs (f ∷ without_flight slot fs) (λ l. flight_at other l ≡ cond (eqb f.slot other) (Some f) (flight_at other fs))
+    (λ t. sym (cond-false (eqb f.slot other) (Some f) (flight_at other fs) (ne_eqb f.slot other (λ e. ne (sym e ∙ eqb-true f.slot slot t)))))
+    (λ _. ap (λ (o : Option (Flight Command)). cond (eqb f.slot other) (Some f) o) (others_out slot other fs ne))
+
+module _ (slot : ℕ) (voters : Option (List ℕ)) where
+  voted_by : (P : Flights → Type 0) (f : Flight Command) (fs : Flights) → (eqb f.slot slot ≡ true → P ((record f { voters = voters }) ∷ fs)) → (eqb f.slot slot ≡ false → P (f ∷ with_voters slot voters fs)) → P (with_voters slot voters (f ∷ fs))
+  voted_by P f fs here later = cond_both (eqb f.slot slot) ((record f { voters = voters }) ∷ fs) (f ∷ with_voters slot voters fs) P here later
+
+  pub voted_length : (fs : Flights) → length (with_voters slot voters fs) ≡ length fs
+  voted_length [] = refl
+  voted_length (f ∷ fs) = voted_by (λ l. length l ≡ length (f ∷ fs)) f fs (λ _. refl) (λ _. (let rest = voted_length fs in omega (arith, rest)))
+
+  pub voted_count : (s : ℕ) (fs : Flights) → flights_at s (with_voters slot voters fs) ≡ flights_at s fs
+  voted_count s [] = refl
+  voted_count s (f ∷ fs) =
+      let c = count-cons (λ (x : Flight Command). eqb x.slot s) f fs in
+      voted_by (λ l. flights_at s l ≡ flights_at s (f ∷ fs)) f fs
+      (λ _. (let d = count-cons (λ (x : Flight Command). eqb x.slot s) (record f { voters = voters }) fs in omega (arith, c, d)))
+      (λ _. (let d = count-cons (λ (x : Flight Command). eqb x.slot s) f (with_voters slot voters fs) in let rest = voted_count s fs in omega (arith, c, d, rest)))
+
+  pub voted_each : (P : Flight Command → Type 0) (fs : Flights) → Each P fs → ((f : Flight Command) → flight_at slot fs ≡ Some f → P f → P (record f { voters = voters })) → Each P (with_voters slot voters fs)
+  voted_each P [] e change = tt
+  voted_each P (f ∷ fs) e change =
+      voted_by (Each P) f fs (λ t. (change f (cond-true (eqb f.slot slot) (Some f) (flight_at slot fs) t) e.0, e.1))
+      (λ n. (e.0, voted_each P fs e.1 (λ g found. change g (cond-false (eqb f.slot slot) (Some f) (flight_at slot fs) n ∙ found))))
+
+  pub voted_value : (fs : Flights) (f : Flight Command) → Among f fs → (g : Flight Command) × Among g (with_voters slot voters fs) × (g.value ≡ f.value)
+  voted_value [] f a = absurd a
+  voted_value (x ∷ fs) f (inl same) =
+      voted_by (λ l. (g : Flight Command) × Among g l × (g.value ≡ f.value)) x fs (λ _. (record x { voters = voters }, inl refl, ap (λ (y : Flight Command). y.value) same)) (λ _. (x, inl refl, ap (λ (y : Flight Command). y.value) same))
+  voted_value (x ∷ fs) f (inr a) =
+      voted_by (λ l. (g : Flight Command) × Among g l × (g.value ≡ f.value)) x fs (λ _. (f, inr a, refl)) (λ _. (let rest = voted_value fs f a in (rest.0, inr rest.1, rest.2)))
+
+  pub voted_others : (other : ℕ) (fs : Flights) → (other ≡ slot → ⊥) → flight_at other (with_voters slot voters fs) ≡ flight_at other fs
+  voted_others other [] ne = refl
+  voted_others other (f ∷ fs) ne =
+      voted_by (λ l. flight_at other l ≡ flight_at other (f ∷ fs)) f fs
+      (λ t. (let past : eqb f.slot other ≡ false = ne_eqb f.slot other (λ e. ne (sym e ∙ eqb-true f.slot slot t)) in
+      cond-false (eqb f.slot other) (Some (record f { voters = voters })) (flight_at other fs) past ∙ sym (cond-false (eqb f.slot other) (Some f) (flight_at other fs) past)))
+      (λ _. ap (λ (o : Option (Flight Command)). cond (eqb f.slot other) (Some f) o) (voted_others other fs ne))
+
+  pub voted_here : (fs : Flights) (f : Flight Command) → flight_at slot fs ≡ Some f → flight_at slot (with_voters slot voters fs) ≡ Some (record f { voters = voters })
+  voted_here [] f e = cc
+  voted_here (x ∷ fs) f e =
+      voted_by (λ l. flight_at slot l ≡ Some (record f { voters = voters })) x fs
+      (λ t. (let same : x ≡ f = some_is (sym (cond-true (eqb x.slot slot) (Some x) (flight_at slot fs) t) ∙ e) in
+      cond-true (eqb x.slot slot) (Some (record x { voters = voters })) (flight_at slot fs) t ∙ ap (λ (y : Flight Command). Some (record y { voters = voters })) same))
+      (λ n. cond-false (eqb x.slot slot) (Some x) (flight_at slot (with_voters slot voters fs)) n ∙ voted_here fs f (sym (cond-false (eqb x.slot slot) (Some x) (flight_at slot fs) n) ∙ e))
+
+-- where one flight has a slot, that one is found there
+pub only_flight : (slot : ℕ) (fs : Flights) (f g : Flight Command) → flights_at slot fs ≡ 1 → flight_at slot fs ≡ Some f → Among g fs → g.slot ≡ slot → f ≡ g
+only_flight slot [] f g one e a at = absurd a
+only_flight slot (x ∷ fs) f g one e a at =
+    let c = count-cons (λ (y : Flight Command). eqb y.slot slot) x fs in
+    cond_both (eqb x.slot slot) (Some x) (flight_at slot fs) (λ o. o ≡ Some f → f ≡ g)
+    (λ t k. (let here = one_yes (eqb x.slot slot) t in
+    elim a [ inl is ↦ sym (some_is k) ∙ is | inr b ↦ (let more = flight_stands slot fs g b at in absurd (omega (arith, c, here, one, more))) ]))
+    (λ n k. (let none = one_no (eqb x.slot slot) n in
+    elim a [ inl is ↦ absurd (both_ways (eqb x.slot slot) n (eq-eqb x.slot slot (ap (λ (y : Flight Command). y.slot) is ∙ at))) | inr b ↦ only_flight slot fs f g (omega (arith, c, none, one)) k b at ])) e
+  where
+    flight_stands : (slot : ℕ) (fs : Flights) (g : Flight Command) → Among g fs → g.slot ≡ slot → 1 ≤ flights_at slot fs
+    flight_stands slot [] g a at = absurd a
+    flight_stands slot (x ∷ fs) g (inl is) at =
+        let c = count-cons (λ (y : Flight Command). eqb y.slot slot) x fs in
+        let here = one_yes (eqb x.slot slot) (eq-eqb x.slot slot (ap (λ (y : Flight Command). y.slot) is ∙ at)) in omega (arith, c, here)
+    flight_stands slot (x ∷ fs) g (inr a) at = (let c = count-cons (λ (y : Flight Command). eqb y.slot slot) x fs in let more = flight_stands slot fs g a at in omega (arith, c, more))
+
+-- nothing is found where nothing stands
+pub no_flight_at : (slot : ℕ) (fs : Flights) (f : Flight Command) → flights_at slot fs ≡ 0 → flight_at slot fs ≡ Some f → ⊥
+no_flight_at slot [] f none e = cc
+no_flight_at slot (x ∷ fs) f none e =
+    let c = count-cons (λ (y : Flight Command). eqb y.slot slot) x fs in
+    cond_both (eqb x.slot slot) (Some x) (flight_at slot fs) (λ o. o ≡ Some f → ⊥) (λ t k. (let here = one_yes (eqb x.slot slot) t in omega (arith, c, here, none))) (λ n k. no_flight_at slot fs f (omega (arith, c, none)) k) e
+
+-- ---- those that voted
+
+among_left : (xs ys : List ℕ) (x : ℕ) → Among x xs → Among x (xs ++ ys)
+among_left [] ys x a = absurd a
+among_left (y ∷ xs) ys x (inl same) = inl same
+among_left (y ∷ xs) ys x (inr a) = inr (among_left xs ys x a)
+
+among_right : (xs ys : List ℕ) (x : ℕ) → Among x ys → Among x (xs ++ ys)
+among_right [] ys x a = a
+among_right (y ∷ xs) ys x a = inr (among_right xs ys x a)
+
+-- what passes more tests, and one more element, counts more
+more_pass : (p q : ℕ → Bool) (x : ℕ) (xs : List ℕ) → ((y : ℕ) → p y ≡ true → q y ≡ true) → count_by p xs ≤ count_by q xs
+more_pass p q x [] f = omega arith
+more_pass p q x (y ∷ xs) f =
+    let c = count-cons p y xs in
+    let d = count-cons q y xs in
+    let rest = more_pass p q x xs f in
+    elim (cases_Bool (p y)) [
+      | inl t ↦ (let one = one_yes (p y) t in let other = one_yes (q y) (f y t) in omega (arith, c, d, rest, one, other))
+      | inr n ↦ (let none = one_no (p y) n in omega (arith, c, d, rest, none))
+    ]
+
+one_more_passes : (p q : ℕ → Bool) (x : ℕ) (xs : List ℕ) → ((y : ℕ) → p y ≡ true → q y ≡ true) → p x ≡ false → q x ≡ true → Among x xs → count_by p xs + 1 ≤ count_by q xs
+one_more_passes p q x [] f no_ yes_ a = absurd a
+one_more_passes p q x (y ∷ xs) f no_ yes_ (inl same) =
+    let c = count-cons p y xs in
+    let d = count-cons q y xs in
+    let rest = more_pass p q x xs f in
+    let none = one_no (p y) (ap p same ∙ no_) in
+    let one = one_yes (q y) (ap q same ∙ yes_) in
+    omega (arith, c, d, rest, none, one)
+one_more_passes p q x (y ∷ xs) f no_ yes_ (inr a) =
+    let c = count-cons p y xs in
+    let d = count-cons q y xs in
+    let rest = one_more_passes p q x xs f no_ yes_ a in
+    elim (cases_Bool (p y)) [
+      | inl t ↦ (let one = one_yes (p y) t in let other = one_yes (q y) (f y t) in omega (arith, c, d, rest, one, other))
+      | inr n ↦ (let none = one_no (p y) n in omega (arith, c, d, rest, none))
+    ]
+
+-- each voter is a member, once
+abbrev pub AreMembers : List ℕ → Option (List ℕ) → Type 0
+AreMembers members voters = length (kept_voters voters) ≤ votes_of members (kept_voters voters)
+
+-- a vote that was counted
+pub record HasVoted (members : List ℕ) (node : ℕ) (before after : Option (List ℕ)) : Type 0 where
+  pub members_still : AreMembers members after
+  pub kept : (who : ℕ) → is_member (kept_voters before) who ≡ true → is_member (kept_voters after) who ≡ true
+  pub own : is_member (kept_voters after) node ≡ true
+
+pub vote_kept : (members : List ℕ) (node : ℕ) (voters : Option (List ℕ)) → IsRoster members → is_member members node ≡ true → AreMembers members voters → is_majority members (kept_voters voters) ≡ false → HasVoted members node voters (voters_after members node voters)
+vote_kept members node voters is m are undecided =
+    subst (HasVoted members node voters) (sym (cond-true (is_member members node) (add_voter node voters) voters m)) (added voters are undecided)
+  where
+    none : (members : List ℕ) → votes_of members [] ≡ 0
+    none [] = refl
+    none (x ∷ xs) = none xs
+
+    with_new : (l : List ℕ) → AreMembers members (Some l) → is_member l node ≡ false → HasVoted members node (Some l) (Some (with_member l node))
+    with_new l are out =
+        let longer = with_one l node out in
+        let more = one_more_passes (is_member l) (is_member (with_member l node)) node members (λ who k. with_kept l node who k) out (with_own l node) (member-among members node m) in
+        record { members_still = omega (arith, longer, more, are); kept = λ who k. with_kept l node who k; own = with_own l node }
+
+    added : (voters : Option (List ℕ)) → AreMembers members voters → is_majority members (kept_voters voters) ≡ false → HasVoted members node voters (add_voter node voters)
+    added None are undecided =
+        let zero_ = none members in
+        let more = one_more_passes (is_member []) (is_member (node ∷ [])) node members (λ who k. cc) refl (or_left (eqb node node) false (eq-eqb node node refl)) (member-among members node m) in
+        record { members_still = omega (arith, more); kept = λ who k. cc; own = or_left (eqb node node) false (eq-eqb node node refl) }
+    added (Some l) are undecided =
+        cond_both (is_member l node || eqb (length l) 9) (Some l) (Some (with_member l node)) (HasVoted members node (Some l))
+        (λ t. elim (or_cases (is_member l node) (eqb (length l) 9) t) [
+          | inl here ↦ record { members_still = are; kept = λ who k. k; own = here }
+          | inr full ↦ (
+              let nine = eqb-true (length l) 9 full in
+              let most = is.most in
+              absurd (both_ways (is_majority members l) undecided (lt-ltb (length members) (2 * votes_of members l) (omega (arith, nine, are, most)))))
+        ])
+        (λ f. with_new l are (or_parts (is_member l node) (eqb (length l) 9) f).0)
+
+-- ---- the members of the open slots
+
+pub numbered_get : {X : Type 0} (at : ℕ → X) (count from k : ℕ) → k < count → slice_get (map at (numbers_from from count)) k ≡ Some (at (from + k))
+numbered_get at zero from k low = absurd (omega (arith, low))
+numbered_get at (suc count) from zero low = ap (λ n. Some (at n)) (let e : from ≡ from + 0 = omega arith in e)
+numbered_get at (suc count) from (suc k) low =
+    let e : from + 1 + k ≡ from + suc k = omega arith in
+    numbered_get at count (from + 1) k (omega (arith, low)) ∙ ap (λ n. Some (at n)) e
+
+pub numbered_past : {X : Type 0} (at : ℕ → X) (count from k : ℕ) → count ≤ k → slice_get (map at (numbers_from from count)) k ≡ None
+numbered_past at zero from k low = refl
+numbered_past at (suc count) from zero low = absurd (omega (arith, low))
+numbered_past at (suc count) from (suc k) low = numbered_past at count (from + 1) k (omega (arith, low))

@@ -1,0 +1,16 @@
+pub mod SpacedOrders
+pub mod PlainJournals
+pub mod PlainClientRows
+pub mod PlainRows
+pub mod PlainSteps
+pub mod BegunRequestCounts
+pub mod PlainInduction
+pub mod MorePlainRequests
+pub mod PlainBeginnings
+pub mod AnsweredRequests
+pub mod WaitingRequestPlaces
+pub mod WaitingRequestJournals
+pub mod PlainKnownGroups
+pub mod PlainClients
+pub mod GroupCircle
+pub mod InductionBase

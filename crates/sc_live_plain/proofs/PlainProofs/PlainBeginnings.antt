@@ -1,0 +1,108 @@
+-- How a plain journal begins: the frames of the groups of a valid scenario, and its seats.
+use Rattle.std.proofs.Common.{◌≡◌, ℕ, zero, suc, ◌+◌, ◌-◌, ◌<◌, ◌≤◌, leb, true, List, [], ◌∷◌, ◌++◌, length, map, inl, inr, refl, sym, ◌∙◌, ap, subst, arith}
+use Rattle.std.proofs.lemmas.Bool.{and_from, le-leb}
+use Rattle.sc_base.specs.Definitions.{Among, most_nodes, is_member}
+use Rattle.sc_node_table.specs.Values.{Draw, Base}
+use Rattle.sc_actor.specs.Definitions.{are_apart}
+use Rattle.sc_words.proofs.PaxosProofs.Lemmas.{Each-among, Each-from_All, one_of_name}
+use Rattle.sc_node_table.specs.Definitions.{numbers_from}
+use Rattle.sc_scenario.specs.scenario.Definitions.{base_at, bases_up_to, group_at, IsBounded, IsBoundedGroup, IsUpTo}
+use Rattle.sc_scenario.specs.declared.scenario.drafts.GroupLine.{GroupLine}
+use Rattle.sc_scenario.specs.declared.scenario.scenarios.Asks.{Asks}
+use Rattle.sc_scenario.specs.declared.scenario.scenarios.Scenario.{Scenario}
+use Rattle.sc_meaning.specs.sound.Definitions.{node_seat, client_seat, client_seats, route_of, births, as_nodes}
+use Rattle.sc_law_groups.proofs.WholeProofs.Lemmas.{all_apart, bases_from, first_and_others}
+use Rattle.sc_paxos_law.proofs.Lemmas.{Among-either, from_map, member-among}
+use Rattle.sc_live_plain.specs.Definitions.{Frame, frame_of, IsFrame, AreNamedApart}
+use Rattle.sc_live_steps.proofs.FollowingProofs.Lemmas.{least_in}
+
+-- the frames of the groups of a scenario
+abbrev pub frames_of : Scenario → List Frame
+frames_of scenario = map frame_of scenario.groups
+
+-- How a valid scenario begins.
+pub record IsStage (scenario : Scenario) : Type 0 where
+  pub first : Base
+  pub others : List Base
+  pub groups_are : scenario.groups ≡ first ∷ others
+  pub are : (frame : Frame) → Among frame (frames_of scenario) → IsFrame frame
+  pub apart : AreNamedApart (frames_of scenario)
+  pub fit : (frame : Frame) → Among frame (frames_of scenario) → (slot node : ℕ) → is_member (frame.at slot) node ≡ true → (1 ≤ node) × (node ≤ scenario.nodes)
+  pub seats : births as_nodes scenario ≡ map (node_seat as_nodes scenario.groups scenario.policy) (numbers_from 1 scenario.nodes) ++ map (client_seat (route_of first)) scenario.clients
+  pub nodes : scenario.nodes ≤ most_nodes
+  pub numbered : (asks : Asks) → Among asks scenario.clients → 1 ≤ asks.client
+  pub once : (one other : Asks) → Among one scenario.clients → Among other scenario.clients → one.client ≡ other.client → one ≡ other
+  pub seats_apart : are_apart (births as_nodes scenario) ≡ true
+
+of_up_to : (lines : List GroupLine) (n : ℕ) (base : Base) → Among base (bases_up_to lines n) → (k : ℕ) × (k < n) × (base_at lines k ≡ base)
+of_up_to lines zero base a = absurd a
+of_up_to lines (suc n) base a = elim (Among-either base (bases_up_to lines n) (base_at lines n ∷ []) a) [
+  | inl b ↦ (let r = of_up_to lines n base b in let low = r.1 in (r.0, omega (arith, low), r.2))
+  | inr (inl e) ↦ (n, omega arith, e)
+  | inr (inr e) ↦ absurd e
+]
+
+module _ (scenario : Scenario) (bounded : IsBounded scenario) where
+  abbrev lines : List GroupLine
+  lines = bounded.starts
+
+  pub of_groups : (base : Base) → Among base scenario.groups → (k : ℕ) × (k < length bounded.starts) × (base_at bounded.starts k ≡ base)
+  of_groups base a = of_up_to bounded.starts (length bounded.starts) base (subst (Among base) bounded.groups a)
+
+  line_bounded : (k : ℕ) → k < length bounded.starts → IsBoundedGroup scenario.nodes (group_at bounded.starts k)
+  line_bounded k low = bounded.each k (record { lo = 0; members = [] }) low
+
+  within : (k : ℕ) → k < length bounded.starts → (node : ℕ) → is_member (group_at bounded.starts k).members node ≡ true → (1 ≤ node) × (node ≤ scenario.nodes)
+  within k low node m =
+      let members = (group_at bounded.starts k).members in
+      Each-among (IsUpTo scenario.nodes) members node (Each-from_All (IsUpTo scenario.nodes) members (line_bounded k low).members_in) (member-among members node m)
+
+  frame_at : (k : ℕ) → k < length bounded.starts → IsFrame (frame_of (base_at bounded.starts k))
+  frame_at k low =
+      let roster = (line_bounded k low).roster in
+      record {
+        free = refl;
+        stands = refl;
+        own = refl;
+        leads = least_in (group_at bounded.starts k).members roster.some;
+        rosters = λ slot. roster;
+        nodes = λ slot node m. (let w = within k low node m in let one = w.0 in let most = w.1 in let all = bounded.nodes.1 in and_from (leb 1 node) (leb node most_nodes) (le-leb 1 node one) (le-leb node most_nodes (omega (arith, most, all))));
+        later = λ slot low_. refl;
+      }
+
+  pub frame_is : (frame : Frame) → Among frame (frames_of scenario) → (k : ℕ) × (k < length bounded.starts) × (frame_of (base_at bounded.starts k) ≡ frame)
+  frame_is frame a =
+      let b = from_map frame_of scenario.groups frame a in
+      let g = of_groups b.0 b.1 in
+      (g.0, g.1, ap frame_of g.2 ∙ b.2)
+
+  named_once : AreNamedApart (frames_of scenario)
+  named_once one other a b same =
+      let x = frame_is one a in
+      let y = frame_is other b in
+      let names : x.0 + 1 ≡ y.0 + 1 = ap (λ (f : Frame). f.core.id.count) x.2 ∙ (ap (λ (d : Draw). d.count) same ∙ sym (ap (λ (f : Frame). f.core.id.count) y.2)) in
+      let k : x.0 ≡ y.0 = omega (arith, names) in
+      sym x.2 ∙ (ap (λ n. frame_of (base_at bounded.starts n)) k ∙ y.2)
+
+  first_base : Base
+  first_base = base_at bounded.starts 0
+
+  all_groups : scenario.groups ≡ first_base ∷ bases_from bounded.starts 1 (length bounded.starts - 1)
+  unfolding first_base
+  all_groups = bounded.groups ∙ first_and_others bounded.starts bounded.some
+
+  -- every bounded scenario begins so
+  pub stage : IsStage scenario
+  stage = record {
+    first = first_base;
+    others = bases_from bounded.starts 1 (length bounded.starts - 1);
+    groups_are = all_groups;
+    are = λ frame a. (let x = frame_is frame a in subst IsFrame x.2 (frame_at x.0 x.1));
+    apart = named_once;
+    fit = λ frame a slot node m. (let x = frame_is frame a in within x.0 x.1 node (ap (λ (f : Frame). is_member (f.at slot) node) x.2 ∙ m));
+    seats = ap (λ gs. map (node_seat as_nodes scenario.groups scenario.policy) (numbers_from 1 scenario.nodes) ++ client_seats gs scenario.clients) all_groups;
+    nodes = bounded.nodes.1;
+    numbered = λ asks a. (Each-among (λ (x : Asks). 1 ≤ x.client) scenario.clients asks (Each-from_All (λ (x : Asks). 1 ≤ x.client) scenario.clients (λ k d lt. (bounded.clients k d lt).0.0)) a);
+    once = one_of_name (λ (asks : Asks). asks.client) scenario.clients (λ i j d lt within_ e. (let below = bounded.ascending i j d lt within_ in absurd (omega (arith, below, e))));
+    seats_apart = all_apart scenario bounded;
+  }

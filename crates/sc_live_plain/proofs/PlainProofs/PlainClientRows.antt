@@ -1,0 +1,225 @@
+-- Each row of a client leaves a plain journal.
+use Rattle.std.proofs.Common.{◌≡◌, ℕ, ◌+◌, ◌-◌, ◌≤◌, eqb, ◌&&◌, ◌||◌, Bool, true, false, cond, List, [], ◌∷◌, ◌++◌, length, map, drop, find, Some, inl, inr, refl, sym, ◌∙◌, ap, subst, arith}
+use Rattle.std.specs.Prelude.{slice_get}
+use Rattle.std.specs.Option.{option_map}
+use Rattle.std.proofs.lemmas.Bool.{cases_eq, both_ways, eq-eqb, or_right}
+use Rattle.std.proofs.lemmas.List.Folds.{list_any-append}
+use Rattle.sc_base.specs.Definitions.{Among, Each, client_actor, is_member}
+use Rattle.sc_node_table.specs.Values.{Draw, Op, OrderLine, Mail, MailBody, Request, Accept, Accepted, Learn, Seat, Row, Event, Deliver, Go, Got, Client}
+use Rattle.sc_actor.specs.declared.rows.Input.TheVariants.{Go as GoInput}
+use Rattle.sc_actor.specs.Definitions.{mails, is_delivery, value, acted, input_of, System, row_of, has_started, is_go, waiting, kth}
+use Rattle.sc_actor.proofs.Lemmas.{value-snoc}
+use Rattle.sc_node_table.specs.Definitions.{is_node, slots_ahead}
+use Rattle.sc_client_table.specs.table.Definitions.{ClientStep, table}
+use Rattle.sc_scenario.specs.declared.scenario.scenarios.Asks.{Asks}
+use Rattle.sc_scenario.specs.declared.scenario.scenarios.Scenario.{Scenario}
+use Rattle.sc_meaning.specs.sound.Definitions.{Player, player_table, client_seat, route_of, births, system_of, as_nodes}
+use Rattle.sc_live_orderly.specs.Definitions.{IsTidy, IsOrderly, IsInOrder, rest, mail_for, taken, owed_by}
+use Rattle.sc_live_orderly.proofs.Lemmas.{IsPaid, pays, TakesFirst, takes_first, is_born-from, rest-row}
+use Rattle.sc_live_plain.specs.Definitions.{Frame, IsFrame, Mark, Other, mark, mark_of, marks_for, marks_at, IsOther, IsTaken, player_owes, mail_owes, begun_ones, waiting_ones, begun_of, IsBegun, IsPlainClient, Requests, IsPlainBody, IsPlainMail}
+use Rattle.sc_live_plain.proofs.PlainProofs.PlainInduction.{owing_of, IsClientAt, IsPlainJournal}
+use Rattle.sc_live_plain.proofs.PlainProofs.MorePlainRequests.{IsMore}
+use Rattle.sc_live_plain.proofs.RowsProofs.LeaderMailOfGroups.{group_idle}
+use Rattle.sc_live_plain.proofs.PlainProofs.BegunRequestCounts.{got_grows}
+use Rattle.sc_live_plain.proofs.RowsProofs.LeaderMarks.{each_mark}
+use Rattle.sc_live_plain.proofs.PlainProofs.PlainBeginnings.{frames_of, IsStage}
+use Rattle.sc_live_plain.proofs.PlainProofs.PlainSteps.{client_number, each_numbered, value_others, started_still, node_stays, client_stays, sent_more, begun_more, same_client, node_away}
+use Rattle.sc_live_plain.proofs.RowsProofs.RowViews.{Journal, replica_others, replica_none}
+use Rattle.sc_live_plain.proofs.PlainProofs.PlainClients.{asking, DidAsk, DidEnd, ClientRow, TakesMail, Goes, client_row, go_row, unasked}
+use Rattle.sc_live_plain.proofs.PlainProofs.PlainKnownGroups.{IsRound}
+
+-- a mail for one who is no node is nothing to a group
+pub client_mark : (begun : Requests) (frame : Frame) (name : Draw) (is : IsFrame frame) (from to : ℕ) (body : MailBody) → is_node to ≡ false → IsPlainBody begun frame from to body → mark_of name from body ≡ Other
+client_mark begun frame name is from to (Accept group ballot slot command) no_node b = absurd (both_ways (is_node to) no_node (is.nodes slot to b.2.to_in))
+client_mark begun frame name is from to (Accepted group ballot slot) no_node b =
+    absurd (both_ways (is_node to) no_node (is.nodes (frame.from + slots_ahead) to (ap (λ ms. is_member ms to) (is.later (frame.from + slots_ahead) (omega arith)) ∙ (ap (is_member frame.core.members) b.2 ∙ is.leads))))
+client_mark begun frame name is from to (Learn group slot command) no_node b =
+    absurd (both_ways (is_node to) no_node (is.nodes (frame.from + slots_ahead) to (ap (λ ms. is_member ms to) (is.later (frame.from + slots_ahead) (omega arith)) ∙ b.1.to_in)))
+client_mark begun frame name is from to (Request group client seq op) no_node b = refl
+client_mark begun frame name is from to _ no_node b = refl
+
+-- what a client sends is nothing to a group
+asked_others : (name : Draw) (who : ℕ) (after : ClientStep) → DidAsk after → Each IsOther (marks_for name who after.1)
+asked_others name who after d =
+    subst (λ l. Each IsOther (marks_for name who l)) (sym d.sends) (each_mark IsOther (λ mail. mark name mail ≡ Other) name who (λ mail e. e) (asking after.0.me d.target d.group d.seq d.op ∷ []) (refl, tt))
+
+ended_others : (name : Draw) (who : ℕ) (after : ClientStep) → DidEnd after → Each IsOther (marks_for name who after.1)
+ended_others name who after d = subst (λ l. Each IsOther (marks_for name who l)) (sym d.sends) tt
+
+module _ (words : ℕ → ℕ → ℕ × ℕ) (scenario : Scenario) (stage : IsStage scenario) (round : IsRound (frames_of scenario))
+    (rows : Journal) (t : IsTidy rows) (j : IsPlainJournal words scenario stage rows) (asks : Asks) (a : Among asks scenario.clients)
+    (born : find (λ (other : Seat Player). eqb other.who (client_actor asks.client)) (births as_nodes scenario) ≡ Some (client_seat (route_of stage.first) asks)) where
+  abbrev sys : System Player Mail OrderLine
+  sys = system_of as_nodes words scenario
+
+  abbrev J : Journal → Type 0
+  J rows' = IsPlainJournal words scenario stage rows'
+
+  abbrev cseat : Asks → Seat Player
+  cseat other = client_seat (route_of stage.first) other
+
+  abbrev me : ℕ
+  me = client_actor asks.client
+
+  pub c : IsClientAt words scenario stage rows asks
+  c = j.clients asks a
+
+  no_node : is_node (client_actor asks.client) ≡ false
+  no_node = client_number words scenario stage asks a
+
+  -- the client's row and what it makes of it
+  module _ (event : Event OrderLine) (fine : IsInOrder (system_of as_nodes words scenario) rows (client_actor asks.client) event) (after : ClientStep)
+      (acted_is : acted player_table (value player_table (client_seat (route_of stage.first) asks) rows) (input_of (mails rows) event) ≡ (Client after.0, after.1))
+      (grows : begun_ones c.client ≤ begun_ones after.0) where
+    row : Row Mail OrderLine
+    row = row_of player_table (client_seat (route_of stage.first) asks) rows event
+
+    pub became : value player_table (client_seat (route_of stage.first) asks) (rows ++ row_of player_table (client_seat (route_of stage.first) asks) rows event ∷ []) ≡ Client after.0
+    became =
+        value-snoc player_table (cseat asks) rows (row_of player_table (cseat asks) rows event)
+        ∙ (ap (λ b. cond b (acted player_table (value player_table (cseat asks) rows) (input_of (mails rows) event)).0 (value player_table (cseat asks) rows)) (eq-eqb (client_actor asks.client) (client_actor asks.client) refl)
+        ∙ ap (λ (p : Player × List Mail). p.0) acted_is)
+
+    pub more : IsMore (IsBegun scenario rows) (IsBegun scenario (rows ++ row_of player_table (client_seat (route_of stage.first) asks) rows event ∷ []))
+    more = begun_more words scenario stage rows (row_of player_table (cseat asks) rows event) (λ other b. elim (cases_eq (client_actor other.client) (client_actor asks.client)) [
+      | inl is ↦ (let same : other ≡ asks = same_client scenario stage asks other a b is in
+          subst (λ (x : Asks). begun_of (value player_table (cseat x) rows) ≤ begun_of (value player_table (cseat x) (rows ++ row_of player_table (cseat asks) rows event ∷ []))) (sym same)
+          (let before = ap begun_of c.is in let now_ = ap begun_of became in omega (arith, before, now_, grows)))
+      | inr ne ↦ (let same = ap begun_of (value_others words scenario stage rows (row_of player_table (cseat asks) rows event) (cseat other) ne) in omega (arith, same))
+    ])
+
+    -- what is begun after it
+    pub now : (n : ℕ) (op : Op) → 1 ≤ n → slice_get c.client.requests (n - 1) ≡ Some op → n ≤ begun_ones after.0 → IsBegun scenario (rows ++ row_of player_table (client_seat (route_of stage.first) asks) rows event ∷ []) c.client.me n op
+    now n op one at low = record {
+      first = stage.first;
+      others = stage.others;
+      groups_are = stage.groups_are;
+      asks = asks;
+      is_asks = a;
+      client_is = sym c.plain.me_is;
+      from_one = one;
+      op_is = ap (λ (ops : List Op). slice_get ops (n - 1)) (sym c.plain.requests_are) ∙ at;
+      low = (let is = ap begun_of became in omega (arith, is, low));
+    }
+
+    -- the journal after it
+    client_after : (gone : Bool) → has_started (rows ++ row_of player_table (client_seat (route_of stage.first) asks) rows event ∷ []) (client_actor asks.client) ≡ gone
+        → ClientRow (frames_of scenario) round asks (IsBegun scenario (rows ++ row_of player_table (client_seat (route_of stage.first) asks) rows event ∷ [])) gone after
+        → ((name : Draw) → IsTaken Other (marks_at words scenario rows name (client_actor asks.client)) (drop (cond (is_delivery event) 1 0) (marks_at words scenario rows name (client_actor asks.client))))
+        → ((name : Draw) (who : ℕ) → Each IsOther (marks_for name who after.1)) → IsPaid (system_of as_nodes words scenario) stage.seats_apart (owing_of scenario) rows (client_seat (route_of stage.first) asks) event
+        → J (rows ++ row_of player_table (client_seat (route_of stage.first) asks) rows event ∷ [])
+    client_after gone is_gone out takes sends paid =
+        let r = row_of player_table (cseat asks) rows event in
+        let orderly : IsOrderly sys rows r = record { seat = cseat asks; born = born; event = event; row_is = refl; in_order = fine } in
+        let rest_after : (who : ℕ) → rest sys (rows ++ r ∷ []) who ≡ drop (taken who r) (rest sys rows who) ++ mail_for sys who r.sent = λ who. rest-row sys rows r who t orderly in
+        let sent_is : r.sent ≡ after.1 = ap (λ (p : Player × List Mail). p.1) acted_is in
+        record {
+          nodes = λ node low high. node_stays words scenario stage rows j r more node (node_away words scenario stage asks no_node node low high) (j.nodes node low high);
+          clients = λ other b. elim (cases_eq (client_actor other.client) (client_actor asks.client)) [
+            | inl is ↦ subst (IsClientAt words scenario stage (rows ++ r ∷ [])) (sym (same_client scenario stage asks other a b is))
+                (record { client = after.0; is = became; plain = subst (λ g. IsPlainClient (frames_of scenario) asks g after.0) (sym is_gone) out.plain })
+            | inr ne ↦ client_stays words scenario stage rows j r other ne (j.clients other b)
+          ];
+          sent = sent_more words scenario stage rows j r more (subst (Each (IsPlainMail (IsBegun scenario (rows ++ r ∷ [])) (frames_of scenario))) (sym sent_is) out.said);
+          groups = λ frame b.
+              group_idle words scenario rows r rest_after frame (j.groups frame b)
+              (λ node. elim (cases_eq node (client_actor asks.client)) [
+                | inl is ↦ (let none : is_node node ≡ false = ap is_node is ∙ no_node in replica_none words scenario (rows ++ r ∷ []) frame.core.id node none ∙ sym (replica_none words scenario rows frame.core.id node none))
+                | inr ne ↦ replica_others words scenario rows r frame.core.id node ne
+              ])
+              (takes frame.core.id) (λ who. subst (λ l. Each IsOther (marks_for frame.core.id who l)) (sym sent_is) (sends frame.core.id who));
+          owes = (let p = pays sys stage.seats_apart (owing_of scenario) rows (cseat asks) event born fine paid in let o = j.owes in omega (arith, p, o));
+        }
+
+  -- ---- a client takes a mail
+
+  module _ (number : ℕ) (fine : kth (waiting (system_of as_nodes words scenario) rows (Some (client_actor asks.client))) 1 ≡ Some number) where
+    pub first : TakesFirst (system_of as_nodes words scenario) rows (client_actor asks.client) number
+    first = takes_first (system_of as_nodes words scenario) rows (client_actor asks.client) number t (is_born-from (system_of as_nodes words scenario) (client_actor asks.client) (cseat asks) born) fine
+
+    pub is_plain : IsPlainMail (IsBegun scenario rows) (frames_of scenario) first.mail
+    is_plain = each_numbered (IsPlainMail (IsBegun scenario rows) (frames_of scenario)) (mails rows) number first.mail j.sent first.sent
+
+    pub got_is : acted player_table (value player_table (client_seat (route_of stage.first) asks) rows) (input_of {O = OrderLine} (mails rows) (Deliver number)) ≡ (Client (table c.client (Got first.mail)).0, (table c.client (Got first.mail)).1)
+    got_is =
+        ap (λ o. acted player_table (value player_table (cseat asks) rows) (option_map Got o)) first.sent
+        ∙ ap (λ p. acted player_table p (Some (Got first.mail))) c.is
+
+    pub got_more : begun_ones c.client ≤ begun_ones (table c.client (Got first.mail)).0
+    got_more = got_grows first.mail.from first.mail.body c.client
+
+    -- what is begun of a client is its request
+    pub asked_right : (seq : ℕ) (op : Op) → IsBegun scenario rows c.client.me seq op → slice_get c.client.requests (seq - 1) ≡ Some op
+    asked_right seq op b =
+        let same : b.asks ≡ asks = stage.once b.asks asks b.is_asks a (b.client_is ∙ c.plain.me_is) in
+        ap (λ (ops : List Op). slice_get ops (seq - 1)) (c.plain.requests_are ∙ sym (ap (λ (x : Asks). x.ops) same)) ∙ b.op_is
+
+    pub takes : TakesMail (frames_of scenario) round asks (IsBegun scenario rows) (IsBegun scenario (rows ++ row_of player_table (client_seat (route_of stage.first) asks) rows (Deliver number) ∷ [])) (has_started rows (client_actor asks.client)) c.client first.mail c.plain is_plain
+        (first.receiver ∙ ap client_actor (sym c.plain.me_is)) asked_right (more (Deliver number) fine (table c.client (Got first.mail)) got_is got_more) (now (Deliver number) fine (table c.client (Got first.mail)) got_is got_more) (table c.client (Got first.mail))
+    takes = client_row (frames_of scenario) round asks (IsBegun scenario rows) (IsBegun scenario (rows ++ row_of player_table (client_seat (route_of stage.first) asks) rows (Deliver number) ∷ [])) (has_started rows (client_actor asks.client)) c.client first.mail c.plain is_plain
+        (first.receiver ∙ ap client_actor (sym c.plain.me_is)) asked_right (more (Deliver number) fine (table c.client (Got first.mail)) got_is got_more) (now (Deliver number) fine (table c.client (Got first.mail)) got_is got_more)
+
+    marks_taken : (name : Draw) → IsTaken Other (marks_at words scenario rows name (client_actor asks.client)) (drop 1 (marks_at words scenario rows name (client_actor asks.client)))
+    marks_taken name =
+        let all : marks_at words scenario rows name (client_actor asks.client) ≡ mark name first.mail ∷ map (mark name) first.behind = ap (map (mark name)) first.first in
+        let none : mark name first.mail ≡ Other = mark_none name in
+        inl (all ∙ (ap (λ m. m ∷ map (mark name) first.behind) none ∙ ap (λ l. Other ∷ l) (sym (ap (drop 1) all))))
+      where
+        mark_none : (name : Draw) → mark name first.mail ≡ Other
+        mark_none name = client_mark (IsBegun scenario rows) is_plain.frame name (stage.are is_plain.frame is_plain.is_frame) first.mail.from first.mail.to first.mail.body (ap is_node first.receiver ∙ no_node) is_plain.says
+
+    others_sent : (name : Draw) (who : ℕ) → Each IsOther (marks_for name who (table c.client (Got first.mail)).1)
+    others_sent name who = elim (takes.response) [
+      | inl ignored ↦ subst (λ (p : ClientStep). Each IsOther (marks_for name who p.1)) (sym ignored.after_is) tt
+      | inr (inl asked) ↦ asked_others name who (table c.client (Got first.mail)) asked
+      | inr (inr ended) ↦ ended_others name who (table c.client (Got first.mail)) ended
+    ]
+
+    client_turn : J (rows ++ row_of player_table (client_seat (route_of stage.first) asks) rows (Deliver number) ∷ [])
+    client_turn =
+        client_after (Deliver number) fine (table c.client (Got first.mail)) got_is got_more (has_started rows (client_actor asks.client))
+        (started_still words scenario stage rows (row_of player_table (cseat asks) rows (Deliver number)) (client_actor asks.client) refl) takes.row marks_taken others_sent
+        (λ mail sent. (
+        let same : first.mail ≡ mail = (let e : Some first.mail ≡ Some mail = sym first.sent ∙ sent in cc) in
+        subst (λ m. 1 + owed_by (owing_of scenario) (player_table (value player_table (cseat asks) rows) (Got m)) ≤ player_owes (length (frames_of scenario)) (value player_table (cseat asks) rows) + mail_owes m) same
+        (subst (λ p. 1 + owed_by (owing_of scenario) (player_table p (Got first.mail)) ≤ player_owes (length (frames_of scenario)) p + mail_owes first.mail) (sym c.is) takes.owed)))
+
+  -- ---- a client starts
+
+  module _ (fine : has_started rows (client_actor asks.client) ≡ false) where
+    pub go_is : acted player_table (value player_table (client_seat (route_of stage.first) asks) rows) (input_of {O = OrderLine} (mails rows) Go) ≡ (Client (table c.client GoInput).0, (table c.client GoInput).1)
+    go_is = ap (λ p. acted player_table p (Some GoInput)) c.is
+
+    pub fresh : IsPlainClient (frames_of scenario) asks false c.client
+    fresh = subst (λ g. IsPlainClient (frames_of scenario) asks g c.client) fine c.plain
+
+    pub go_more : begun_ones c.client ≤ begun_ones (table c.client GoInput).0
+    go_more =
+        let none = unasked (frames_of scenario) round asks c.client fresh.state in
+        let waits = ap waiting_ones none.0 in
+        let replies = ap length none.1 in
+        omega (arith, waits, replies)
+
+    pub goes : Goes (frames_of scenario) round asks (IsBegun scenario (rows ++ row_of player_table (client_seat (route_of stage.first) asks) rows Go ∷ [])) c.client (table c.client GoInput)
+    goes = go_row (frames_of scenario) round asks (IsBegun scenario (rows ++ row_of player_table (client_seat (route_of stage.first) asks) rows Go ∷ [])) c.client fresh (now Go fine (table c.client GoInput) go_is go_more)
+
+    gone_now : has_started (rows ++ row_of player_table (client_seat (route_of stage.first) asks) rows Go ∷ []) (client_actor asks.client) ≡ true
+    gone_now =
+        list_any-append (λ (r : Row Mail OrderLine). eqb r.who (client_actor asks.client) && is_go r.event) rows (row_of player_table (cseat asks) rows Go ∷ [])
+        ∙ (ap (λ b. has_started rows (client_actor asks.client) || ((b && true) || false)) (eq-eqb (client_actor asks.client) (client_actor asks.client) refl) ∙ or_right (has_started rows (client_actor asks.client)) true refl)
+
+    client_go : J (rows ++ row_of player_table (client_seat (route_of stage.first) asks) rows Go ∷ [])
+    client_go =
+        client_after Go fine (table c.client GoInput) go_is go_more true gone_now goes.row (λ name. inr (refl, sym (at_zero (marks_at words scenario rows name (client_actor asks.client)))))
+        (λ name who. elim (goes.response) [ inl asked ↦ asked_others name who (table c.client GoInput) asked | inr ended ↦ ended_others name who (table c.client GoInput) ended ])
+        (subst (λ p. owed_by (owing_of scenario) (player_table p GoInput) ≤ player_owes (length (frames_of scenario)) p) (sym c.is) goes.owed)
+      where
+        at_zero : (xs : List Mark) → drop 0 xs ≡ xs
+        at_zero [] = refl
+        at_zero (x ∷ xs) = refl
+
+  -- whatever row of it comes in order
+  pub client_event : (event : Event OrderLine) → IsInOrder (system_of as_nodes words scenario) rows (client_actor asks.client) event → J (rows ++ row_of player_table (client_seat (route_of stage.first) asks) rows event ∷ [])
+  client_event (Deliver number) fine = client_turn number fine
+  client_event Go fine = client_go fine
+  client_event _ fine = absurd fine

@@ -1,0 +1,177 @@
+-- One row of a plain journal: what it leaves as it is, and what it makes of the player that acts.
+use Rattle.std.proofs.Common.{◌≡◌, ℕ, zero, suc, ◌+◌, ◌-◌, ◌<◌, ◌≤◌, eqb, leb, ◌&&◌, ◌||◌, true, false, cond, List, [], ◌∷◌, ◌++◌, length, map, Some, inl, inr, sym, ◌∙◌, ap, subst, arith, sum_by}
+use Rattle.std.specs.Prelude.{slice_get}
+use Rattle.std.proofs.Math.Bool.{or-false}
+use Rattle.std.proofs.lemmas.Bool.{cases_eq, cases_lt, ne_eqb, and_from, both_ways, le-leb, lt-leb, and_right, cond-true}
+use Rattle.std.proofs.lemmas.List.Folds.{list_any-append}
+use Rattle.std.proofs.lemmas.List.Sums.{sum_by-cons}
+use Rattle.sc_base.specs.Definitions.{Among, Each, client_actor, most_nodes, same_draw, is_member}
+use Rattle.sc_node_table.specs.Values.{Base, OrderLine, Mail, Seat, Row, Node}
+use Rattle.sc_actor.specs.Definitions.{mails, numbered, value, acted, input_of, System, has_started, is_go}
+use Rattle.sc_actor.proofs.Lemmas.{value-snoc, mails-snoc}
+use Rattle.sc_words.proofs.PaxosProofs.Lemmas.{Each-append, Each-weaker, find_found}
+use Rattle.sc_node_table.specs.Definitions.{replica_of, is_node, ReplicaState, name_of, next, last_slot, numbers_from, slots_ahead}
+use Rattle.sc_scenario.specs.declared.scenario.scenarios.Asks.{Asks}
+use Rattle.sc_scenario.specs.declared.scenario.scenarios.Scenario.{Scenario}
+use Rattle.sc_meaning.specs.sound.Definitions.{Player, player_table, node_seat, client_seat, route_of, births, system_of, as_nodes}
+use Rattle.sc_live_orderly.specs.Definitions.{owed, owed_at_birth}
+use Rattle.sc_paxos_law.proofs.Lemmas.{Among-left}
+use Rattle.sc_live_plain.specs.Definitions.{replica_at, next_in, Frame, replica_owes, player_owes, begun_of, IsBegun, IsPlainClient, IsPlainMail}
+use Rattle.sc_live_plain.proofs.PlainProofs.PlainInduction.{owing_of, IsNodeAt, IsClientAt, IsPlainJournal}
+use Rattle.sc_live_plain.proofs.PlainProofs.MorePlainRequests.{IsMore, mail_more, node_more}
+use Rattle.sc_live_plain.proofs.PlainProofs.PlainBeginnings.{frames_of, IsStage}
+use Rattle.sc_live_plain.proofs.RowsProofs.RowViews.{Journal, replica_is}
+use Rattle.sc_live_plain.proofs.RowsProofs.ReplicaRows.{leading_at}
+use Rattle.sc_live_plain.proofs.RowsProofs.Lists.{map_among}
+pub use Rattle.sc_law_groups.proofs.GroupProofs.RowSteps.{among_numbers as in_numbers}
+
+-- ---- lists
+
+pub to_numbers : (from count n : ℕ) → from ≤ n → n < from + count → Among n (numbers_from from count)
+to_numbers from zero n low high = absurd (omega (arith, low, high))
+to_numbers from (suc count) n low high = elim (cases_eq from n) [
+  | inl is ↦ inl is
+  | inr ne ↦ inr (to_numbers (from + 1) count n (elim (cases_lt from n) [ inl lt ↦ omega (arith, lt) | inr ge ↦ absurd (ne (omega (arith, low, ge))) ]) (omega (arith, high)))
+]
+
+-- one of a list owes no more than all
+pub one_of_sum : {X : Type 0} (f : X → ℕ) (xs : List X) (x : X) → Among x xs → f x ≤ sum_by f xs
+one_of_sum f [] x a = absurd a
+one_of_sum f (y ∷ xs) x (inl same) = (let s = sum_by-cons f y xs in let e = ap f same in omega (arith, s, e))
+one_of_sum f (y ∷ xs) x (inr a) = (let s = sum_by-cons f y xs in let more = one_of_sum f xs x a in omega (arith, s, more))
+
+pub each_numbered : (P : Mail → Type 0) (sent : List Mail) (number : ℕ) (mail : Mail) → Each P sent → numbered sent number ≡ Some mail → P mail
+each_numbered P sent zero mail all e = cc
+each_numbered P sent (suc place) mail all e = at sent place all e
+  where
+    at : (sent : List Mail) (place : ℕ) → Each P sent → slice_get sent place ≡ Some mail → P mail
+    at [] place all e = cc
+    at (m ∷ sent) zero all e = (let same : m ≡ mail = cc in subst P same all.0)
+    at (m ∷ sent) (suc place) all e = at sent place all.1 e
+
+-- a client is known by its number
+pub same_client : (scenario : Scenario) (stage : IsStage scenario) (asks other : Asks) → Among asks scenario.clients → Among other scenario.clients → client_actor other.client ≡ client_actor asks.client → other ≡ asks
+same_client scenario stage asks other a b e = stage.once other asks b a (omega (arith, e))
+
+module _ (words : ℕ → ℕ → ℕ × ℕ) (scenario : Scenario) (stage : IsStage scenario) where
+  abbrev nseat : ℕ → Seat Player
+  nseat me = node_seat as_nodes scenario.groups scenario.policy me
+
+  abbrev cseat : Asks → Seat Player
+  cseat asks = client_seat (route_of stage.first) asks
+
+  abbrev sys : System Player Mail OrderLine
+  sys = system_of as_nodes words scenario
+
+  -- a node that there is has its seat
+  pub node_born : (me : ℕ) → 1 ≤ me → me ≤ scenario.nodes → Among (nseat me) (births as_nodes scenario)
+  node_born me one most =
+      subst (Among (nseat me)) (sym stage.seats)
+      (Among-left (nseat me) (map nseat (numbers_from 1 scenario.nodes)) (map cseat scenario.clients) (map_among nseat (numbers_from 1 scenario.nodes) me (to_numbers 1 scenario.nodes me one (omega (arith, most)))))
+
+  pub node_number : (me : ℕ) → 1 ≤ me → me ≤ scenario.nodes → is_node me ≡ true
+  node_number me one most = (let all = stage.nodes in and_from (leb 1 me) (leb me most_nodes) (le-leb 1 me one) (le-leb me most_nodes (omega (arith, most, all))))
+
+  -- a client's number is that of no node
+  pub client_number : (asks : Asks) → Among asks scenario.clients → is_node (client_actor asks.client) ≡ false
+  client_number asks a = (let one = stage.numbered asks a in and_right (leb 1 (client_actor asks.client)) (leb (client_actor asks.client) most_nodes) (lt-leb (client_actor asks.client) most_nodes (omega (arith, one))))
+
+  -- ---- what a row leaves as it is
+
+  module _ (rows : Journal) (row : Row Mail OrderLine) where
+    pub value_others : (seat : Seat Player) → (seat.who ≡ row.who → ⊥) → value player_table seat (rows ++ row ∷ []) ≡ value player_table seat rows
+    value_others seat ne =
+        value-snoc player_table seat rows row
+        ∙ ap (λ b. cond b (acted player_table (value player_table seat rows) (input_of (mails rows) row.event)).0 (value player_table seat rows)) (ne_eqb row.who seat.who (λ e. ne (sym e)))
+
+    pub gone_others : (who : ℕ) → (who ≡ row.who → ⊥) → has_started (rows ++ row ∷ []) who ≡ has_started rows who
+    gone_others who ne =
+        list_any-append (λ (r : Row Mail OrderLine). eqb r.who who && is_go r.event) rows (row ∷ [])
+        ∙ (ap (λ b. has_started rows who || ((b && is_go row.event) || false)) (ne_eqb row.who who (λ e. ne (sym e))) ∙ or-false (has_started rows who))
+
+    -- a row that is no Go leaves who has gone
+    pub started_still : (who : ℕ) → is_go row.event ≡ false → has_started (rows ++ row ∷ []) who ≡ has_started rows who
+    started_still who none =
+        list_any-append (λ (r : Row Mail OrderLine). eqb r.who who && is_go r.event) rows (row ∷ [])
+        ∙ (ap (λ b. has_started rows who || (b || false)) (and_right (eqb row.who who) (is_go row.event) none) ∙ or-false (has_started rows who))
+
+    -- where no client has fewer begun, whatever was begun is begun
+    pub begun_more : ((asks : Asks) → Among asks scenario.clients → begun_of (value player_table (cseat asks) rows) ≤ begun_of (value player_table (cseat asks) (rows ++ row ∷ []))) → IsMore (IsBegun scenario rows) (IsBegun scenario (rows ++ row ∷ []))
+    begun_more grows client seq op b =
+        let first : b.first ≡ stage.first = (let e : b.first ∷ b.others ≡ stage.first ∷ stage.others = sym b.groups_are ∙ stage.groups_are in cc) in
+        let low = b.low in
+        let up = grows b.asks b.is_asks in
+        let was = ap (λ (f : Base). begun_of (value player_table (client_seat (route_of f) b.asks) rows)) first in
+        let now = ap (λ (f : Base). begun_of (value player_table (client_seat (route_of f) b.asks) (rows ++ row ∷ []))) first in
+        record { first = b.first; others = b.others; groups_are = b.groups_are; asks = b.asks; is_asks = b.is_asks; client_is = b.client_is; from_one = b.from_one; op_is = b.op_is; low = omega (arith, low, up, was, now) }
+
+    -- where no client acts, the same requests are begun
+    pub begun_still : ((asks : Asks) → Among asks scenario.clients → client_actor asks.client ≡ row.who → ⊥) → IsMore (IsBegun scenario rows) (IsBegun scenario (rows ++ row ∷ []))
+    begun_still away = begun_more (λ asks a. (let same = ap begun_of (value_others (cseat asks) (away asks a)) in omega (arith, same)))
+
+  module _ (rows : Journal) (j : IsPlainJournal words scenario stage rows) where
+    lead_fits : (frame : Frame) → Among frame (frames_of scenario) → (1 ≤ frame.lead) × (frame.lead ≤ scenario.nodes)
+    lead_fits frame a =
+        let is = stage.are frame a in
+        stage.fit frame a (frame.from + slots_ahead) frame.lead (ap (λ ms. is_member ms frame.lead) (is.later (frame.from + slots_ahead) (omega arith)) ∙ is.leads)
+
+    -- a leader has executed no more than is owed
+    pub lead_owes : (frame : Frame) (a : Among frame (frames_of scenario)) → next (j.groups frame a).r ≤ owed sys (owing_of scenario) rows + 1
+    lead_owes frame a =
+        let g = j.groups frame a in
+        let fits = lead_fits frame a in
+        let n = j.nodes frame.lead fits.0 fits.1 in
+        let here : replica_of frame.core.id n.node.replicas ≡ Some g.r = sym (replica_is words scenario rows frame.core.id frame.lead (Node n.node) (node_number frame.lead fits.0 fits.1) n.is) ∙ g.there in
+        let leads = leading_at (IsBegun scenario rows) frame (stage.are frame a) n.node.me g.r n.me_is (n.plain.replicas frame g.r a here) in
+        let runs = leads.1.leader.running in
+        let found = find_found (λ (r : ReplicaState). same_draw (name_of r) frame.core.id) n.node.replicas g.r here in
+        let one = one_of_sum replica_owes n.node.replicas g.r found.0 in
+        let all = one_of_sum (λ (seat : Seat Player). player_owes (length (frames_of scenario)) (value player_table seat rows)) (births as_nodes scenario) (nseat frame.lead) (node_born frame.lead fits.0 fits.1) in
+        let is = ap (player_owes (length (frames_of scenario))) n.is in
+        let mine = cond-true g.r.running (next g.r - 1) 0 runs in
+        omega (arith, one, all, is, mine)
+
+    -- no replica is near the last slot
+    pub has_room_at : owed_at_birth sys (owing_of scenario) + 16 ≤ last_slot → (frame : Frame) → Among frame (frames_of scenario) → (me : ℕ) → next_in (replica_at scenario rows frame.core.id me) + slots_ahead ≤ last_slot
+    has_room_at few frame a me =
+        let g = j.groups frame a in
+        let low = g.between.low me in
+        let lead = lead_owes frame a in
+        let most = g.slots.most in
+        let owes = j.owes in
+        let there = ap next_in g.there in
+        omega (arith, few, low, lead, most, owes, there)
+
+    -- ---- of a plain journal
+
+    module _ (row : Row Mail OrderLine) where
+      pub node_stays : IsMore (IsBegun scenario rows) (IsBegun scenario (rows ++ row ∷ [])) → (me : ℕ) → (me ≡ row.who → ⊥) → IsNodeAt words scenario stage rows me → IsNodeAt words scenario stage (rows ++ row ∷ []) me
+      node_stays more me ne n = record {
+        node = n.node;
+        is = value_others rows row (nseat me) ne ∙ n.is;
+        me_is = n.me_is;
+        plain = node_more (IsBegun scenario rows) (IsBegun scenario (rows ++ row ∷ [])) more (frames_of scenario) n.node n.plain;
+      }
+
+      pub client_stays : (asks : Asks) → (client_actor asks.client ≡ row.who → ⊥) → IsClientAt words scenario stage rows asks → IsClientAt words scenario stage (rows ++ row ∷ []) asks
+      client_stays asks ne c = record {
+        client = c.client;
+        is = value_others rows row (cseat asks) ne ∙ c.is;
+        plain = subst (λ b. IsPlainClient (frames_of scenario) asks b c.client) (sym (gone_others rows row (client_actor asks.client) ne)) c.plain;
+      }
+
+      -- the mail of a row comes behind that of all
+      pub sent_more : IsMore (IsBegun scenario rows) (IsBegun scenario (rows ++ row ∷ [])) → Each (IsPlainMail (IsBegun scenario (rows ++ row ∷ [])) (frames_of scenario)) row.sent → Each (IsPlainMail (IsBegun scenario (rows ++ row ∷ [])) (frames_of scenario)) (mails (rows ++ row ∷ []))
+      sent_more more new =
+          subst (Each (IsPlainMail (IsBegun scenario (rows ++ row ∷ [])) (frames_of scenario))) (sym (mails-snoc rows row))
+          (Each-append (IsPlainMail (IsBegun scenario (rows ++ row ∷ [])) (frames_of scenario)) (mails rows) row.sent
+          (Each-weaker (IsPlainMail (IsBegun scenario rows) (frames_of scenario)) (IsPlainMail (IsBegun scenario (rows ++ row ∷ [])) (frames_of scenario))
+          (mail_more (IsBegun scenario rows) (IsBegun scenario (rows ++ row ∷ [])) more (frames_of scenario)) (mails rows) j.sent) new)
+
+-- a node is no client
+pub node_away : (words : ℕ → ℕ → ℕ × ℕ) (scenario : Scenario) (stage : IsStage scenario) (asks : Asks) → is_node (client_actor asks.client) ≡ false → (node : ℕ) → 1 ≤ node → node ≤ scenario.nodes → node ≡ client_actor asks.client → ⊥
+node_away words scenario stage asks no_node node one most e = both_ways (is_node (client_actor asks.client)) no_node (ap is_node (sym e) ∙ node_number words scenario stage node one most)
+
+-- nor is a client a node
+pub client_away : (words : ℕ → ℕ → ℕ × ℕ) (scenario : Scenario) (stage : IsStage scenario) (me : ℕ) → is_node me ≡ true → (asks : Asks) → Among asks scenario.clients → client_actor asks.client ≡ me → ⊥
+client_away words scenario stage me node asks a e = both_ways (is_node me) (ap is_node (sym e) ∙ client_number words scenario stage asks a) node
