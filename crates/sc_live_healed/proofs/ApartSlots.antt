@@ -8,10 +8,10 @@ use Rattle.sc_words.specs.paxos.Definitions.{LeaderState, flight_at, without_fli
 use Rattle.sc_words.proofs.PaxosProofs.Lemmas.{find_found}
 use Rattle.sc_node_table.specs.Definitions.{ReplicaState, next, taken_at, at_slot, with_slot, without_slot, either}
 use Rattle.sc_live_plain.specs.Definitions.{takers}
-use Rattle.sc_live_plain.proofs.SlotCounts.{count-cons, count-push, one_if, one_yes, one_no, one_if_most, entries_at, at_found, at_only, at_nothing, out_here, out_other, out_none, out_among, with_count, with_it, with_among, find_some}
-use Rattle.sc_live_plain.proofs.LeadingReplicas.{flights_at}
-use Rattle.sc_live_plain.proofs.Flights.{only_flight, voted_count, voted_value}
-use Rattle.sc_live_plain.proofs.RepeatedMail.{among_push, last_among}
+use Rattle.sc_live_plain.proofs.RowsProofs.SlotCounts.{count-cons, count-push, one_if, one_yes, one_no, one_if_most, entries_at, at_found, at_only, at_nothing, out_here, out_other, out_none, out_among, with_count, with_it, with_among, find_some}
+use Rattle.sc_live_plain.proofs.LeadersProofs.LeadingReplicas.{flights_at}
+use Rattle.sc_live_plain.proofs.LeadersProofs.Flights.{only_flight, voted_count, voted_value}
+use Rattle.sc_live_plain.proofs.RowsProofs.RepeatedMail.{among_push, last_among}
 use Rattle.sc_live_healed.proofs.TakenRequests.{AreApart, IsHeld, Queued, Flying, Ready, IsOurs, flight_counts, entry_counts}
 
 abbrev Flights : Type 0

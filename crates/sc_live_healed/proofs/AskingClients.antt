@@ -14,7 +14,7 @@ use Rattle.sc_client_table.specs.lookup.Definitions.{KnownGroups, way_to, chosen
 use Rattle.sc_client_table.proofs.LookupProofs.KnownLemmas.{set_value-known, length-changed, some_learnt}
 use Rattle.sc_client_table.specs.table.Definitions.{Client, request_at, waiting_request, ClientStep, asked_of, sent_to, sent_where, chosen_for, request_sent, started, waits_for, was_asked, redirected, answer_taken, got, request_of, turned_on}
 use Rattle.sc_live_plain.specs.Definitions.{IsResting}
-use Rattle.sc_live_plain.proofs.PlainKnownGroups.{one_chosen, chosen_is, IsChosen}
+use Rattle.sc_live_plain.proofs.PlainProofs.PlainKnownGroups.{one_chosen, chosen_is, IsChosen}
 use Rattle.sc_live_healed.specs.AskingClients.{IsAskingOn, IsAskingClient}
 
 -- ---- groups that are known

@@ -9,9 +9,9 @@ use Rattle.sc_node_table.specs.Definitions.{ReplicaState, Place, next, jumped, w
 use Rattle.sc_law_walks.proofs.Queues.{turned_sets}
 use Rattle.sc_law_walks.proofs.Lemmas.{either_way, back_any, entered_next, cleared, entered_place}
 use Rattle.sc_words.proofs.PaxosProofs.Lemmas.{Each-among}
-use Rattle.sc_live_plain.proofs.SlotCounts.{at_found, entries_at}
-use Rattle.sc_live_plain.proofs.LeadingReplicas.{flights_at}
-use Rattle.sc_live_plain.proofs.RepeatedMail.{mail_of, among_push, last_among, all_kept, others_kept}
+use Rattle.sc_live_plain.proofs.RowsProofs.SlotCounts.{at_found, entries_at}
+use Rattle.sc_live_plain.proofs.LeadersProofs.LeadingReplicas.{flights_at}
+use Rattle.sc_live_plain.proofs.RowsProofs.RepeatedMail.{mail_of, among_push, last_among, all_kept, others_kept}
 use Rattle.sc_live_healed.specs.Definitions.{IsFixedCommand, IsFixedRequest, IsFixedReplica}
 use Rattle.sc_live_healed.proofs.FixedWalks.{FixedWalk, IsFixedPlace}
 use Rattle.sc_live_healed.proofs.FixedParts.{ready_fixed, never_turned, applied_core}

@@ -11,9 +11,9 @@ use Rattle.sc_node_table.specs.Definitions.{ReplicaState, Place, next, at_slot, 
 use Rattle.sc_node_table.proofs.Lemmas.{tells_commands}
 use Rattle.sc_law_walks.proofs.Talks.{all_answered, all_dismissed}
 use Rattle.sc_law_walks.proofs.Lemmas.{grows, either_way, back_any, entered_next, cleared, entered_place}
-use Rattle.sc_live_plain.proofs.SlotCounts.{at_only, at_found, at_nothing, entries_at}
-use Rattle.sc_live_plain.proofs.LeadingReplicas.{flights_at}
-use Rattle.sc_live_plain.proofs.RepeatedMail.{mail_of, among_push, last_among, all_kept, others_kept}
+use Rattle.sc_live_plain.proofs.RowsProofs.SlotCounts.{at_only, at_found, at_nothing, entries_at}
+use Rattle.sc_live_plain.proofs.LeadersProofs.LeadingReplicas.{flights_at}
+use Rattle.sc_live_plain.proofs.RowsProofs.RepeatedMail.{mail_of, among_push, last_among, all_kept, others_kept}
 use Rattle.sc_live_healed.specs.Definitions.{IsFixedCommand, IsFixedReplica}
 use Rattle.sc_live_healed.proofs.FixedWalks.{FixedWalk, IsFixedPlace}
 use Rattle.sc_live_healed.proofs.FixedParts.{ready_fixed, never_turned}

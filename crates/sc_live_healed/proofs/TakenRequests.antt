@@ -10,10 +10,10 @@ use Rattle.sc_node_table.specs.Definitions.{ReplicaState, next, taken_at, taken_
 use Rattle.sc_law_walks.proofs.Lemmas.{grows}
 use Rattle.sc_law_walks.proofs.Talks.{all_answered, all_dismissed}
 use Rattle.sc_live_plain.specs.Definitions.{takers}
-use Rattle.sc_live_plain.proofs.SlotCounts.{count-cons, count-push, one_if, one_yes, one_no, entries_at, at_none, at_found, at_only, out_here, out_other, out_none, out_among, with_count, with_it, with_among, find_none}
-use Rattle.sc_live_plain.proofs.LeadingReplicas.{flights_at}
-use Rattle.sc_live_plain.proofs.Flights.{only_flight, voted_count, voted_value}
-use Rattle.sc_live_plain.proofs.RepeatedMail.{mail_of, among_push, last_among}
+use Rattle.sc_live_plain.proofs.RowsProofs.SlotCounts.{count-cons, count-push, one_if, one_yes, one_no, entries_at, at_none, at_found, at_only, out_here, out_other, out_none, out_among, with_count, with_it, with_among, find_none}
+use Rattle.sc_live_plain.proofs.LeadersProofs.LeadingReplicas.{flights_at}
+use Rattle.sc_live_plain.proofs.LeadersProofs.Flights.{only_flight, voted_count, voted_value}
+use Rattle.sc_live_plain.proofs.RowsProofs.RepeatedMail.{mail_of, among_push, last_among}
 
 -- ---- whose request a command is
 
