@@ -23,3 +23,4 @@ pub mod EnteredPlaces
 pub mod HeldRequests
 pub mod HeldRequestRows
 pub mod AskingJournals
+pub mod NumberedRequests
