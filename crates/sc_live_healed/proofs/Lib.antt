@@ -1,0 +1,3 @@
+pub mod ServingReplicas
+pub mod OfferedQueues
+pub mod ExecutedSlots

@@ -1,2 +1,3 @@
 pub mod FixedMembers
+pub mod TakenSlots
 pub mod Definitions
