@@ -1,3 +1,4 @@
 pub mod ServingReplicas
 pub mod OfferedQueues
 pub mod ExecutedSlots
+pub mod ReadySlots
