@@ -160,7 +160,7 @@ module _ (base : Base) (me : ℕ) (ballot : Ballot) (Held : Flight Command → T
   core_after _ group (inr same) e = cc
 
   -- what goes back waits first
-  without_fixed : (backlog : List Command) (client : ℕ) → Each (IsFixedRequest base) backlog → Each (IsFixedRequest base) (without_request backlog client)
+  pub without_fixed : (backlog : List Command) (client : ℕ) → Each (IsFixedRequest base) backlog → Each (IsFixedRequest base) (without_request backlog client)
   without_fixed [] client k = tt
   without_fixed (command ∷ backlog) client k = either_way (Each (IsFixedRequest base)) (is_request_of client command) backlog (command ∷ without_request backlog client) k.1 (k.0, without_fixed backlog client k.1)
 

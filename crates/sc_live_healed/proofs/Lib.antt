@@ -2,3 +2,4 @@ pub mod ServingReplicas
 pub mod OfferedQueues
 pub mod ExecutedSlots
 pub mod ReadySlots
+pub mod ServedRows
