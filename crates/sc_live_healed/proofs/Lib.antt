@@ -3,3 +3,4 @@ pub mod OfferedQueues
 pub mod ExecutedSlots
 pub mod ReadySlots
 pub mod ServedRows
+pub mod VotedSlots

@@ -1,3 +1,4 @@
 pub mod FixedMembers
 pub mod TakenSlots
+pub mod VotesUnderWay
 pub mod Definitions
