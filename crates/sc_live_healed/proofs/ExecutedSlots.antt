@@ -118,7 +118,7 @@ none_left key out none some slot xs most = elim (cases_lt 0 (standing key out no
 ]
 
 -- no slot is one of none
-range_none : (from slot : ℕ) → one_if (in_range from 0 slot) ≡ 0
+pub range_none : (from slot : ℕ) → one_if (in_range from 0 slot) ≡ 0
 range_none from slot = elim (cases_lt slot from) [
   | inl low ↦ one_no (in_range from 0 slot) (range_before from 0 slot low)
   | inr high ↦ one_no (in_range from 0 slot) (range_behind from 0 slot (omega (arith, high)))
@@ -152,7 +152,7 @@ module _ (base : Base) (me : ℕ) (ballot : Ballot) (Held : Flight Command → T
     pub same_ready : place.0.ready ≡ without_slot before.ready (next before)
 
   -- the group keeps its record
-  core_after : (command : Command) (group : Group) → IsFixedCommand base command → group.core ≡ base.core → (applied group command).0.core ≡ base.core
+  pub core_after : (command : Command) (group : Group) → IsFixedCommand base command → group.core ≡ base.core → (applied group command).0.core ≡ base.core
   core_after (Call client seq op) group (inl held) e =
       (called_core group.core.gone group.core.lock group client seq op (ap (λ (core : Core). core.gone) e ∙ stands) (ap (λ (core : Core). core.lock) e ∙ free) (ap (λ (core : Core). holds_key core.arc (key_of op)) e ∙ held)).0 ∙ e
   core_after Noop group fixed e = e
@@ -278,7 +278,7 @@ module _ (base : Base) (me : ℕ) (ballot : Ballot) (Held : Flight Command → T
   told counted r mails e _ (inl held) = absurd held
   told counted r mails e _ (inr same) = cc
 
-  entry_says : (counted : Bool) (command : Command) (r : ReplicaState) (mails : List Mail) → IsFixedCommand base command → r.group.core ≡ base.core
+  pub entry_says : (counted : Bool) (command : Command) (r : ReplicaState) (mails : List Mail) → IsFixedCommand base command → r.group.core ≡ base.core
       → Says (entered command r) mails (welcomed counted (members r) (learnt_to counted (members r) (next r) command (spoken counted (before_of r.group.core) (applied r.group command).1 command (announced counted (applied r.group command).1 command (entered command r, mails)))))
   entry_says counted command r mails fixed e =
       let spoke : Place = spoken counted (before_of r.group.core) (applied r.group command).1 command (announced counted (applied r.group command).1 command (entered command r, mails)) in

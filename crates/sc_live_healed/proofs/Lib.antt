@@ -4,3 +4,6 @@ pub mod ExecutedSlots
 pub mod ReadySlots
 pub mod ServedRows
 pub mod VotedSlots
+pub mod StoppedRows
+pub mod MailedSlots
+pub mod TickedSlots

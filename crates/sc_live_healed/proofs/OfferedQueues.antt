@@ -116,7 +116,7 @@ module _ (base : Base) (me : ℕ) (ballot : Ballot) (Held : Flight Command → T
 
     asked : IsAsked base me ballot (sent_all r.me base.core.members (Accept (name_of r) r.leader.ballot slot command) mails) (record { slot = slot; value = command; voters = None })
     asked member a =
-        (command, subst (λ (m : Mail). Among m (sent_all r.me base.core.members (Accept (name_of r) r.leader.ballot slot command) mails))
+        inr (command, subst (λ (m : Mail). Among m (sent_all r.me base.core.members (Accept (name_of r) r.leader.ballot slot command) mails))
         (ap (λ n. mail_of n member (Accept (name_of r) r.leader.ballot slot command)) k.me_is
         ∙ ap (λ (core : Core). mail_of me member (Accept core.id r.leader.ballot slot command)) k.core
         ∙ ap (λ b. mail_of me member (Accept base.core.id b slot command)) k.ballot_is)

@@ -10,15 +10,18 @@ use Rattle.sc_words.proofs.PaxosProofs.Lemmas.{Each-among, Each-weaker, find_fou
 use Rattle.sc_node_table.specs.Definitions.{is_act, ReplicaState, Place, next, either, taken_at, listed, taken_from, at_slot, slots_ahead, last_slot}
 use Rattle.sc_live_plain.specs.Definitions.{AreTaken}
 use Rattle.sc_live_plain.proofs.Lemmas.{mail_of, at_found}
-use Rattle.sc_live_healed.specs.Definitions.{IsFixedCommand, IsFixedRequest, IsUndecided}
+use Rattle.sc_live_healed.specs.Definitions.{IsFixedCommand, IsFixedRequest, IsUndecided, HasVoted}
 
 -- what stands in one list of mails stands in the other
 abbrev pub Grows : List Mail → List Mail → Type 0
 Grows before after = (mail : Mail) → Among mail before → Among mail after
 
--- each member is asked to accept what is in flight
+-- each member's vote for what is in flight is counted, or the member is asked to accept it
 abbrev pub IsAsked : Base → ℕ → Ballot → List Mail → Flight Command → Type 0
-IsAsked base me ballot mails flight = (member : ℕ) → Among member base.core.members → (command : Command) × Among (mail_of me member (Accept base.core.id ballot flight.slot command)) mails
+IsAsked base me ballot mails flight = (member : ℕ) → Among member base.core.members → HasVoted member flight ⊎ ((command : Command) × Among (mail_of me member (Accept base.core.id ballot flight.slot command)) mails)
+
+pub asked_still : (base : Base) (me : ℕ) (ballot : Ballot) (mails more : List Mail) (flight : Flight Command) → Grows mails more → IsAsked base me ballot mails flight → IsAsked base me ballot more flight
+asked_still base me ballot mails more flight grow asked member a = elim (asked member a) [ inl voted ↦ inl voted | inr one ↦ inr (one.0, grow _ one.1) ]
 
 -- what is in flight: a request or a Noop that is not decided; the row found it so, or asks each member to accept it
 pub record IsUnderWay (base : Base) (me : ℕ) (ballot : Ballot) (Held : Flight Command → Type 0) (mails : List Mail) (flight : Flight Command) : Type 0 where
@@ -66,7 +69,7 @@ module _ (base : Base) (me : ℕ) (ballot : Ballot) (Held : Flight Command → T
         (λ flight u. record {
           value = u.value;
           undecided = u.undecided;
-          from = elim (u.from) [ inl held ↦ inl held | inr asked ↦ inr (λ member a. (let one = asked member a in (one.0, grow _ one.1))) ];
+          from = elim (u.from) [ inl held ↦ inl held | inr asked ↦ inr (asked_still base me ballot mails more flight grow asked) ];
         }) r.leader.flights k.flights;
     ready = k.ready;
     reports = k.reports;
