@@ -1,3 +1,11 @@
+pub mod FixedWalks
+pub mod FixedPumps
+pub mod FixedRows
+pub mod FixedTicks
+pub mod FixedEntries
+pub mod FixedParts
+pub mod FixedPlaces
+pub mod FixedNodes
 pub mod ServingReplicas
 pub mod OfferedQueues
 pub mod ExecutedSlots
@@ -7,3 +15,4 @@ pub mod VotedSlots
 pub mod StoppedRows
 pub mod MailedSlots
 pub mod TickedSlots
+pub mod Lemmas

@@ -59,9 +59,10 @@ pub record IsFollower (base : Base) (r : ReplicaState) : Type 0 where
   pub hint : r.hint ≡ Some leader
   pub member : is_member base.core.members leader ≡ true
 
--- no promise is above the greatest ballot seen; a replica that runs does so in a ballot of its own, and one that does not is a follower
+-- no promise is above the greatest ballot seen, and each is to a member; a replica that runs does so in a ballot of its own, and one that does not is a follower
 pub record KeepsBallots (base : Base) (r : ReplicaState) : Type 0 where
   pub promised : IsAtLeast r.top r.acceptor.promised
+  pub asker : is_member base.core.members r.acceptor.promised.node ≡ true
   pub running : r.running ≡ true → RunsInOwnBallot r
   pub stopped : r.running ≡ false → IsFollower base r
 
@@ -90,7 +91,7 @@ IsFixedBody base from to (Prepare group ballot from_slot) = (group ≡ base.core
 IsFixedBody base from to (Promise group ballot reports) = (group ≡ base.core.id) × IsOfMembers base from to × (ballot.node ≡ to) × Each (λ (report : Report Command). IsFixedCommand base report.value) reports
 IsFixedBody base from to (Accept group ballot slot command) = (group ≡ base.core.id) × IsOfMembers base from to × (ballot.node ≡ from) × IsFixedCommand base command
 IsFixedBody base from to (Accepted group ballot slot) = (group ≡ base.core.id) × IsOfMembers base from to × (ballot.node ≡ to)
-IsFixedBody base from to (Nack group promised) = (group ≡ base.core.id) × IsOfMembers base from to
+IsFixedBody base from to (Nack group promised) = (group ≡ base.core.id) × IsOfMembers base from to × (is_member base.core.members promised.node ≡ true)
 IsFixedBody base from to (Learn group slot command) = (group ≡ base.core.id) × IsOfMembers base from to × IsFixedCommand base command
 IsFixedBody base from to (Ask group from_slot) = (group ≡ base.core.id) × IsOfMembers base from to
 IsFixedBody base from to (Install group slot sent sets) = (group ≡ base.core.id) × IsOfMembers base from to × IsFixedBase base sent × (sets ≡ replicate slots_ahead base.core.members)
