@@ -15,4 +15,6 @@ pub mod VotedSlots
 pub mod StoppedRows
 pub mod MailedSlots
 pub mod TickedSlots
+pub mod NodeMail
+pub mod NodeSlots
 pub mod Lemmas

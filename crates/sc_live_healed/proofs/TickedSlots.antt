@@ -98,7 +98,7 @@ module _ (base : Base) (free : base.core.lock ≡ Free) (stands : base.core.gone
   -- what a tick leaves
   pub record HasTicked (place : Place) : Type 0 where
     pub takes : TakesSlots base place.0
-    pub asked : AskAll base place
+    pub asked : (r.top.round ≡ 2 ^ 32 - 1 → ⊥) → AskAll base place
 
   module _ (flight : Flight Command) (a : Among flight r.leader.flights) where
     one_flight : 1 ≤ flights_at flight.slot r.leader.flights
@@ -174,7 +174,7 @@ module _ (base : Base) (free : base.core.lock ≡ Free) (stands : base.core.gone
       let place : Place = pumped (r, mails) in
       record {
         takes = served_takes base r.me r.leader.ballot None_ place served;
-        asked = Each-weaker (IsUnderWay base r.me r.leader.ballot None_ place.1) (IsAsked base place.0.me place.0.leader.ballot place.1)
+        asked = λ low. Each-weaker (IsUnderWay base r.me r.leader.ballot None_ place.1) (IsAsked base place.0.me place.0.leader.ballot place.1)
             (λ flight u. elim (u.from) [
               | inl no_ ↦ absurd no_
               | inr one ↦ subst (λ me. IsAsked base me place.0.leader.ballot place.1 flight) (sym served.serves.me_is) (subst (λ b. IsAsked base r.me b place.1 flight) (sym served.serves.ballot_is) one)
@@ -188,24 +188,25 @@ module _ (base : Base) (free : base.core.lock ≡ Free) (stands : base.core.gone
       quiet_lock (λ (place : Place). HasTicked (pumped (wishing false drawer place))) r.group.core.lock r mails (ap (λ (core : Core). core.lock) fixed.group ∙ free) (asked_pumps on mails asked)
 
   -- an election
-  elects : (mails : List Mail) → (r.top.round ≡ 2 ^ 32 - 1 → ⊥) → HasTicked (elected (r, mails))
+  elects : settled r ≡ false → (mails : List Mail) → HasTicked (elected (r, mails))
   unfolding elected
-  elects mails low =
-      subst HasTicked (sym (cond-false (eqb r.top.round (2 ^ 32 - 1)) (r, mails) _ (ne_eqb r.top.round (2 ^ 32 - 1) low)))
-      (record {
+  elects off mails =
+      cond_both (eqb r.top.round (2 ^ 32 - 1)) (r, mails) _ HasTicked
+      (λ t. record { takes = takes_slots; asked = λ low. absurd (low (eqb-true r.top.round (2 ^ 32 - 1) t)) })
+      (λ _. record {
         takes = empty_takes base (record r { top = record { round = r.top.round + 1; node = r.me }; hint = Some r.me; running = true; leader = new_leader (record { round = r.top.round + 1; node = r.me }) (next r); ready = []; waits = 0 }) refl refl
             (λ t. absurd (true≢false (sym t ∙ and_right (not (below (record { round = r.top.round + 1; node = r.me }) r.acceptor.promised)) (is_majority (first_set r.sets) []) (none_decided (first_set r.sets)))));
-        asked = tt;
+        asked = λ low. tt;
       })
 
   -- a tick
-  pub tick_takes : (drawer : Drawer) (mails : List Mail) → (r.top.round ≡ 2 ^ 32 - 1 → ⊥) → HasTicked (tick_row false drawer (r, mails))
+  pub tick_takes : (drawer : Drawer) (mails : List Mail) → HasTicked (tick_row false drawer (r, mails))
   unfolding tick_row
-  tick_takes drawer mails low =
+  tick_takes drawer mails =
       let here : (is_some r.group.core.gone || not (is_member (members r) r.me)) ≡ false =
           ap (λ (core : Core). is_some core.gone || not (is_member core.members r.me)) fixed.group ∙ ap (λ (o : Option Route). is_some o || not (is_member base.core.members r.me)) stands ∙ ap not member in
       subst HasTicked (sym (cond-false (is_some r.group.core.gone || not (is_member (members r) r.me)) (r, mails) _ here))
-      (cond_both (not (settled r)) (elected (r, mails)) _ HasTicked (λ _. elects mails low)
+      (cond_both (not (settled r)) (elected (r, mails)) _ HasTicked (λ off. elects (so_not (settled r) off) mails)
       (λ f. (
       let on : r.running ≡ true = (and_parts r.running (may_offer r (first_set r.sets)) (not_so (settled r) f)).0 in
       cond_both (is_idle r) _ _ HasTicked

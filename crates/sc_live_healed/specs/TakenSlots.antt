@@ -1,10 +1,11 @@
 -- What a replica that runs has in flight, ready and queued at the end of a row, in a group that is not reshaped.
-use Rattle.std.specs.Prelude.{◌≡◌, ℕ, ◌+◌, ◌<◌, ◌≤◌, ◌==◌, true, false, [], length, count_by, ◌⊎◌}
-use Rattle.sc_base.specs.Definitions.{Each, votes_of, is_majority}
+use Rattle.std.specs.Prelude.{◌≡◌, ℕ, ◌+◌, ◌<◌, ◌≤◌, ◌==◌, true, false, List, [], length, count_by, ◌⊎◌}
+use Rattle.sc_base.specs.Definitions.{Among, Each, votes_of, is_majority}
 use Rattle.sc_node_table.specs.Values.{Base, Command, Flight, Report}
 use Rattle.sc_words.specs.paxos.Definitions.{kept_voters}
-use Rattle.sc_node_table.specs.Definitions.{ReplicaState, next, settled, slots_ahead, last_slot}
+use Rattle.sc_node_table.specs.Definitions.{NodeState, ReplicaState, next, settled, slots_ahead, last_slot}
 use Rattle.sc_live_plain.specs.Definitions.{AreTaken}
+use Rattle.sc_live_healed.specs.FixedMembers.{IsFixedReplica}
 
 -- a command in flight whose counted voters are members, each counted once, and are no majority
 pub record IsUndecided (base : Base) (flight : Flight Command) : Type 0 where
@@ -23,3 +24,7 @@ pub record TakesSlots (base : Base) (r : ReplicaState) : Type 0 where
   pub executed : count_by (λ entry. entry.0 == next r) r.ready ≡ 0
   pub undecided : Each (IsUndecided base) r.leader.flights
   pub offered : settled r ≡ true → next r ≤ last_slot → HasOfferedAll taken r
+
+-- each replica of a node takes its slots as `TakesSlots` says
+abbrev pub AllTakeSlots : List Base → NodeState → Type 0
+AllTakeSlots bases node = Each (λ r. (base : Base) → Among base bases → IsFixedReplica base r → TakesSlots base r) node.replicas
