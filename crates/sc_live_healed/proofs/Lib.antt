@@ -17,4 +17,5 @@ pub mod MailedSlots
 pub mod TickedSlots
 pub mod NodeMail
 pub mod NodeSlots
+pub mod AnsweredAccepts
 pub mod Lemmas
