@@ -39,9 +39,6 @@ seen_voter seen r mails =
     either_way (λ (p : Place). IsSameVoter r p.0) (r.running && below r.leader.ballot seen) (stopped (Some seen.node) (top, mails)) (top, mails) (then_voter r top (stopped (Some seen.node) (top, mails)).0 t (stopped_voter (Some seen.node) top mails)) t
 
 module _ (base : Base) (from : ℕ) (seen : Ballot) (slot : ℕ) (command : Command) where
-  report : Report Command
-  report = record { slot = slot; ballot = seen; value = command }
-
   -- the acceptor answers, or the executed state is sent
   took_answers : (r : ReplicaState) (mails : List Mail) → name_of r ≡ base.core.id → IsInBounds r → IsAnswered (took from (record { slot = slot; ballot = seen; value = command }) (r, mails)).1 base r.me from seen slot
   unfolding took install_to

@@ -18,4 +18,5 @@ pub mod TickedSlots
 pub mod NodeMail
 pub mod NodeSlots
 pub mod AnsweredAccepts
+pub mod VotesUnderWay
 pub mod Lemmas

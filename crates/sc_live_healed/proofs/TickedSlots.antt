@@ -104,7 +104,7 @@ module _ (base : Base) (free : base.core.lock ≡ Free) (stands : base.core.gone
     one_flight : 1 ≤ flights_at flight.slot r.leader.flights
     one_flight = flight_stands flight.slot r.leader.flights flight a refl
 
-    in_open : (next r ≤ flight.slot) × (flight.slot < next r + slots_ahead)
+    pub in_open : (next r ≤ flight.slot) × (flight.slot < next r + slots_ahead)
     in_open =
         let one = one_flight in
         let once = takes_slots.slots.once flight.slot in
