@@ -1,7 +1,7 @@
 -- What holds of a replica of a group that is not reshaped is kept by a request or a Noop that it executes, where each part of the entry keeps it.
-use Rattle.std.proofs.Common.{◌≡◌, ℕ, ◌-◌, ◌||◌, not, eqb, Bool, true, false, cond, List, [], ◌∷◌, ◌++◌, filter, Option, Some, None, refl, sym, ◌∙◌, ap, subst, inl, inr}
+use Rattle.std.proofs.Common.{◌≡◌, ℕ, not, Bool, true, false, cond, List, [], ◌∷◌, filter, Option, Some, None, refl, sym, ◌∙◌, ap, subst, inl, inr}
 use Rattle.std.proofs.lemmas.Bool.{cond_both, cond-false}
-use Rattle.sc_base.specs.Definitions.{Among, Each, is_member}
+use Rattle.sc_base.specs.Definitions.{Each, is_member}
 use Rattle.sc_words.proofs.PaxosProofs.Lemmas.{Each-from}
 use Rattle.sc_node_table.specs.Values.{Op, Command, Noop, Call, Base, Core, AnswerBody, OrderResult, Effect, Mail, Learn}
 use Rattle.sc_group_table.specs.machine.Definitions.{applied, Group}

@@ -1,8 +1,8 @@
 -- A node keeps its replicas of groups that are not reshaped, and sends mail of these groups alone, in each of its steps but orders, where it has no policy.
-use Rattle.std.proofs.Common.{◌≡◌, ℕ, ◌&&◌, Bool, true, false, true≢false, cond, List, [], ◌∷◌, ◌++◌, Option, Some, None, refl, sym, ◌∙◌, ap, subst, inl, inr, append-nil}
+use Rattle.std.proofs.Common.{◌≡◌, ℕ, Bool, true, false, List, [], ◌∷◌, ◌++◌, Option, Some, None, refl, sym, ◌∙◌, ap, subst, inl, inr, append-nil}
 use Rattle.std.proofs.lemmas.Bool.{cond_both, cond-true, cond-false, cases_Bool}
-use Rattle.sc_base.specs.Definitions.{Among, Each, Drawer, same_draw, is_member}
-use Rattle.sc_base.proofs.Lemmas.{draw_is, same_name}
+use Rattle.sc_base.specs.Definitions.{Among, Each, Drawer, same_draw, is_member, least_of}
+use Rattle.sc_base.proofs.Lemmas.{draw_is}
 use Rattle.sc_words.proofs.PaxosProofs.Lemmas.{Each-among, Each-append, Each-weaker, find_found}
 use Rattle.sc_node_table.specs.Values.{Draw, Base, Core, Input, Got, OrderLine, Mail, MailBody, Request, Answer, Prepare, Promise, Accept, Accepted, Nack, Learn, Ask, Install, TxPrepare, TxVote, TxOutcome, TxElsewhere, TxWatch, TxWatched, Told}
 use Rattle.sc_actor.specs.declared.rows.Input.TheVariants.{Tick, Go, Told as ToldInput}
@@ -10,13 +10,15 @@ use Rattle.sc_node_table.specs.Definitions.{NodeState, ReplicaState, Place, Exec
 use Rattle.sc_law_walks.proofs.Lemmas.{either_way}
 use Rattle.sc_law_refusal.proofs.RefusalProofs.Joining.{tick_behind}
 use Rattle.sc_live_healed.proofs.FixedWalks.{IsFixedPlace, IsFresh, IsSaid, IsMember}
-use Rattle.sc_live_healed.proofs.FixedPlaces.{mailed_fixed, ticked_fixed, name_is}
+use Rattle.sc_live_healed.proofs.FixedPlaces.{mailed_fixed, ticked_fixed}
 use Rattle.sc_live_healed.specs.Definitions.{IsFixedReplica, KeepsBallots, IsFixedBody, IsFixedMail, IsFixedNode}
 
--- The groups of a scenario at their birth: each is free and not gone, its first leader is a member, and no two have the same name.
+-- The groups of a scenario at their birth: each is free and not gone, its first leader and its least node are members, no two have the same name, and each is followed by one of them.
 pub record AreFresh (bases : List Base) : Type 0 where
   pub each : (base : Base) → Among base bases → (me : ℕ) → IsMember base me → IsFresh base me
   pub apart : (base other : Base) → Among base bases → Among other bases → base.core.id ≡ other.core.id → base ≡ other
+  pub least : (base : Base) → Among base bases → IsMember base (least_of base.core.members)
+  pub follows : (base : Base) → Among base bases → (other : Base) × Among other bases × (other.core.id ≡ base.core.succ.group) × (other.core.members ≡ base.core.succ.members)
 
 -- what a node may take: a mail of these groups, a tick or its start
 abbrev pub MayTake : List Base → ℕ → Input Mail OrderLine → Type 0

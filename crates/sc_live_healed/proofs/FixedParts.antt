@@ -1,23 +1,23 @@
 -- The parts of a replica of a group that is not reshaped: what is queued, in flight, ready, reported and executed stays a request or a Noop, and its record stays that of the group's birth.
-use Rattle.std.proofs.Common.{◌≡◌, ℕ, zero, suc, ◌+◌, ◌-◌, ◌&&◌, ◌||◌, not, nat_le, nat_lt, eqb, max, Bool, true, false, true≢false, cond, List, [], ◌∷◌, ◌++◌, length, drop, replicate, filter, Option, Some, None, refl, sym, ◌∙◌, ap, subst, inl, inr}
+use Rattle.std.proofs.Common.{◌≡◌, ℕ, ◌-◌, ◌&&◌, ◌||◌, not, nat_lt, eqb, Bool, true, false, true≢false, cond, List, [], ◌∷◌, ◌++◌, replicate, Option, Some, None, refl, sym, ◌∙◌, ap, subst, inl, inr}
 use Rattle.std.specs.FinMap.{get}
 use Rattle.std.specs.Prelude.{slice_get}
 use Rattle.std.specs.Option.{option_map}
-use Rattle.std.proofs.lemmas.Bool.{cond_both, and_parts}
-use Rattle.sc_base.specs.Definitions.{Among, Each, is_member, same_ballot, is_majority, most_nodes}
+use Rattle.std.proofs.lemmas.Bool.{cond_both}
+use Rattle.sc_base.specs.Definitions.{Each, is_member, same_ballot, is_majority, most_nodes}
 use Rattle.sc_base.specs.declared.ops.Noted.{Noted}
 use Rattle.sc_words.specs.ideal.Definitions.{key_of, holds_key}
-use Rattle.sc_words.proofs.PaxosProofs.Lemmas.{Each-append, Each-among, Each-filter, Each-passes, Each-weaker, choice_among, find_found}
-use Rattle.sc_node_table.specs.Values.{Ballot, Draw, Op, Command, Noop, Call, Base, Core, Route, Lock, Free, Coordinating, Promised, Watching, AnswerBody, Effect, Counted, Chosen, NotYet, Flight, Report, Must}
-use Rattle.sc_words.specs.declared.paxos.answers.Must.TheVariants.{Value, Gap, Free as Open}
+use Rattle.sc_words.proofs.PaxosProofs.Lemmas.{Each-append, Each-among, Each-passes, Each-weaker, choice_among}
+use Rattle.sc_node_table.specs.Values.{Ballot, Op, Command, Noop, Call, Base, Core, Route, Lock, Free, Coordinating, Promised, Watching, AnswerBody, Effect, Counted, Chosen, NotYet, Flight, Report}
+use Rattle.sc_words.specs.declared.paxos.answers.Must.TheVariants.{Value}
 use Rattle.sc_mail.specs.declared.bodies.AnswerBody.TheVariants as Says
 use Rattle.sc_words.specs.declared.commands.effects.Effect.TheVariants as Was
 use Rattle.sc_words.specs.declared.paxos.answers.Learnt.{Learnt}
 use Rattle.sc_group_table.specs.machine.Definitions.{applied, called, served, served_by_note, done, Group}
-use Rattle.sc_words.specs.paxos.Definitions.{LeaderState, promise_counted, flight_at, counted, vote_at, voters_after, kept_voters, must, must_without, names_above, choice, chosen_value, with_voters, without_flight, entry_at, learnt, next_of, LogState}
-use Rattle.sc_node_table.specs.Definitions.{answer_of, admits_requests, turned_down, refused_at, request_refusal, request_before, queued_number, without_request, is_request_of, put_back, at_slot, flying, with_entry, rest_of, ReplicaState, slots_ahead, open_nodes, is_in_some, nodes_to, numbers_from, refused_by}
+use Rattle.sc_words.specs.paxos.Definitions.{LeaderState, flight_at, counted, vote_at, voters_after, kept_voters, must, must_without, names_above, choice, entry_at, next_of, LogState}
+use Rattle.sc_node_table.specs.Definitions.{answer_of, admits_requests, turned_down, refused_at, request_refusal, request_before, without_request, is_request_of, at_slot, with_entry, ReplicaState, slots_ahead, open_nodes, is_in_some, nodes_to, numbers_from, refused_by}
 use Rattle.sc_law_entries.specs.names.Definitions.{Opt}
-use Rattle.sc_law_entries.proofs.NamesProofs.Lists.{opt_get, Each-drop, opt_find, opt_slot, slot_with, slot_without, flight_without, voters_with}
+use Rattle.sc_law_entries.proofs.NamesProofs.Lists.{opt_get, opt_find, opt_slot, flight_without, voters_with}
 use Rattle.sc_law_walks.proofs.Lemmas.{either_way}
 use Rattle.sc_live_healed.proofs.FixedWalks.{IsFresh, IsMember}
 use Rattle.sc_live_healed.specs.Definitions.{IsFixedRequest, IsFixedCommand, IsFixedAnswer}

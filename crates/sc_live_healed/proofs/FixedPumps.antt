@@ -1,20 +1,19 @@
 -- An invariant of a replica of a group that is not reshaped is kept while the replica offers and executes entries.
-use Rattle.std.proofs.Common.{◌≡◌, ℕ, ◌+◌, ◌-◌, ◌<◌, ◌≤◌, ◌&&◌, ◌||◌, nat_le, eqb, Bool, true, false, cond, List, [], ◌∷◌, ◌++◌, length, replicate, Option, Some, None, refl, sym, ◌∙◌, ap, subst, arith, inl, inr}
+use Rattle.std.proofs.Common.{◌≡◌, ℕ, ◌+◌, ◌<◌, ◌≤◌, ◌&&◌, nat_le, eqb, Bool, true, false, cond, List, [], ◌∷◌, ◌++◌, length, replicate, Option, Some, None, refl, sym, ◌∙◌, ap, subst, arith, inl, inr}
 use Rattle.std.specs.Prelude.{is_some}
 use Rattle.sc_base.specs.Definitions.{Among, Each, is_member}
 use Rattle.std.proofs.lemmas.Bool.{cond_both, cond-true, and_parts, eq-eqb, or_left, or_right}
 use Rattle.std.specs.List.{list_any}
 use Rattle.sc_words.proofs.PaxosProofs.Lemmas.{Each-from}
-use Rattle.sc_node_table.specs.Definitions.{at_slot, ended, left_gone, left, is_among, looked_for, looked, executed_one, next_child, has_room, next_ready, ending, executed_ready, all_ready, executed, turned_down, answered, Found, is_act, from_backlog, from_acts, from_queues, found_by, found_for, offered, pumped_from, pumped, ReplicaState, Place, Executed, next, members, settled, may_offer, first_set, childless, taken_at, under_way, is_idle, last_slot, next_queued, slots_ahead}
-use Rattle.sc_node_table.specs.Values.{Ballot, Command, Noop, Call, Base, Core, Route, AnswerBody, Mail, Must, Gap}
+use Rattle.sc_node_table.specs.Definitions.{at_slot, left_gone, left, is_among, looked_for, looked, executed_one, next_child, has_room, next_ready, ending, executed_ready, all_ready, executed, turned_down, answered, Found, is_act, from_backlog, from_acts, from_queues, found_by, found_for, offered, pumped_from, pumped, ReplicaState, Place, Executed, next, members, settled, may_offer, first_set, childless, taken_at, under_way, is_idle, last_slot, next_queued, slots_ahead}
+use Rattle.sc_node_table.specs.Values.{Command, Noop, Call, Base, Core, Route, AnswerBody, Mail, Must, Gap}
 use Rattle.sc_words.specs.declared.paxos.answers.Must.TheVariants.{Value, Free as Open}
-use Rattle.sc_group_table.specs.machine.Definitions.{child_by}
 use Rattle.sc_words.specs.paxos.Definitions.{must}
 use Rattle.sc_law_walks.proofs.Lemmas.{next_found, either_way, entered_place}
 use Rattle.sc_law_walks.specs.Definitions.{IfThere}
-use Rattle.sc_live_healed.proofs.FixedWalks.{FixedWalk, IsFixedPlace, IsMember, IsFresh}
+use Rattle.sc_live_healed.proofs.FixedWalks.{FixedWalk, IsMember}
 use Rattle.sc_live_healed.proofs.FixedParts.{ready_fixed}
-use Rattle.sc_live_healed.specs.Definitions.{IsFixedCommand, IsFollower}
+use Rattle.sc_live_healed.specs.Definitions.{IsFixedCommand}
 
 -- one of two, where the test fails
 none_there : {X : Type 0} (o : Option X) → is_some o ≡ false → o ≡ None

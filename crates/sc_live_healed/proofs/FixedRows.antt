@@ -1,23 +1,20 @@
 -- An invariant of a replica of a group that is not reshaped is kept by each row of the replica's table.
-use Rattle.std.proofs.Common.{◌≡◌, ℕ, zero, suc, ◌+◌, ◌-◌, ◌≤◌, ◌&&◌, ◌||◌, not, nat_le, nat_lt, eqb, refl, Bool, true, false, true≢false, cond, List, [], ◌∷◌, ◌++◌, length, Option, Some, None, sym, ◌∙◌, ap, subst, arith}
-use Rattle.std.specs.Prelude.{is_some}
-use Rattle.sc_base.specs.Definitions.{Each, same_ballot, Drawer, is_member}
+use Rattle.std.proofs.Common.{◌≡◌, ℕ, zero, suc, ◌+◌, ◌≤◌, ◌&&◌, ◌||◌, not, nat_le, nat_lt, eqb, refl, Bool, true, false, true≢false, cond, List, [], ◌∷◌, ◌++◌, length, Option, Some, None, sym, ◌∙◌, ap, subst, arith}
+use Rattle.sc_base.specs.Definitions.{same_ballot, is_member}
 use Rattle.std.proofs.lemmas.Bool.{cond_both, and_parts, eqb-true, eq-eqb, ltb-false, ltb-true}
-use Rattle.sc_node_table.specs.Values.{Ballot, Draw, Op, Command, Call, Base, Core, Lock, Free, Coordinating, Promised, Watching, AnswerBody, Mail, MailBody, Request, Answer, Prepare, Promise, Accept, Accepted, Nack, Learn, Ask, Install, TxPrepare, TxVote, TxOutcome, TxElsewhere, TxWatch, TxWatched, Told, Report, PrepareAnswer, AcceptAnswer, Counted, Chosen, NotYet}
-use Rattle.sc_group_table.specs.machine.Definitions.{base_of}
+use Rattle.sc_node_table.specs.Values.{Ballot, Draw, Op, Command, Call, Base, Core, AnswerBody, Mail, MailBody, Request, Answer, Prepare, Promise, Accept, Accepted, Nack, Learn, Ask, Install, TxPrepare, TxVote, TxOutcome, TxElsewhere, TxWatch, TxWatched, Told, Report, PrepareAnswer, AcceptAnswer, Counted, Chosen, NotYet}
 use Rattle.sc_mail.specs.declared.bodies.AnswerBody.TheVariants as Says
 use Rattle.sc_words.specs.declared.paxos.answers.PrepareAnswer.TheVariants as Prepared
 use Rattle.sc_words.specs.declared.paxos.answers.AcceptAnswer.TheVariants as Asked
 use Rattle.sc_words.specs.paxos.Definitions.{IsAtLeast, below, prepared, accepted as accepted_by, AcceptorState, reports_from, may_promise, may_accept, after_promise, after_accept, LeaderState, promise_counted, entry_at, counted}
 use Rattle.sc_words.proofs.PaxosProofs.Lemmas.{at_least_itself}
-use Rattle.sc_node_table.specs.Definitions.{elected, ended, stopped, saw, executed, has_room, jumped, install_to, sent, pumped, queued_number, without_request, wishing, reminded, reminders, waited_in, ReplicaState, Place, Executed, childless, name_of, next, members, settled, is_idle, set_at, last_slot, forgotten, may_offer, first_set, refused_at, queued, requested, request_row, learn_row, taught, most_taught, ask_row, looked_up, looked, took_over, install_row, mailed, request_refusal, at_slot, with_slot, hinted, promise_to, promised, prepare_row, accepted_to, took, accept_row, leads, promise_row, readied, vote_tallied, voted, accepted_row, nack_row, tick_row, asked_again, uncounted, last_entry_sent, flying, slots_ahead}
+use Rattle.sc_node_table.specs.Definitions.{ended, stopped, saw, executed, has_room, jumped, install_to, sent, pumped, queued_number, without_request, ReplicaState, Place, Executed, childless, name_of, next, members, set_at, last_slot, forgotten, refused_at, queued, requested, request_row, learn_row, taught, most_taught, ask_row, looked_up, looked, took_over, install_row, mailed, at_slot, with_slot, promise_to, promised, prepare_row, accepted_to, took, accept_row, leads, promise_row, readied, vote_tallied, voted, accepted_row, nack_row}
 use Rattle.sc_law_walks.proofs.Places.{asked_place}
-use Rattle.sc_law_walks.proofs.Talks.{all_sent, others_sent}
 use Rattle.sc_law_walks.proofs.Lemmas.{either_way}
 use Rattle.sc_law_walks.specs.Definitions.{GoesOn}
-use Rattle.sc_live_healed.proofs.FixedWalks.{FixedWalk, IsFixedPlace, IsMember, IsFresh}
+use Rattle.sc_live_healed.proofs.FixedWalks.{FixedWalk, IsMember}
 use Rattle.sc_live_healed.proofs.FixedParts.{counted_fixed}
-use Rattle.sc_live_healed.proofs.FixedPumps.{OfMembers, open_members, pumps, execution, not_gone, is_still_member, set_members}
+use Rattle.sc_live_healed.proofs.FixedPumps.{pumps, execution}
 use Rattle.sc_live_healed.specs.Definitions.{IsFixedCommand}
 
 -- a ballot that is seen is no later than the greatest

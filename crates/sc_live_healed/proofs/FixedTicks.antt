@@ -1,5 +1,5 @@
 -- An invariant of a replica of a group that is not reshaped is kept by the replica's tick, where its node has no policy.
-use Rattle.std.proofs.Common.{◌≡◌, ℕ, ◌+◌, ◌-◌, ◌^◌, ◌||◌, not, eqb, refl, Bool, true, false, true≢false, cond, List, [], ◌∷◌, filter, Option, Some, None, sym, ◌∙◌, ap, subst}
+use Rattle.std.proofs.Common.{◌≡◌, ℕ, ◌+◌, ◌-◌, ◌^◌, ◌||◌, not, eqb, refl, Bool, true, false, cond, List, [], ◌∷◌, Option, Some, None, sym, ◌∙◌, ap, subst}
 use Rattle.std.specs.Prelude.{is_some}
 use Rattle.std.proofs.lemmas.Bool.{cond_both, and_parts}
 use Rattle.sc_base.specs.Definitions.{Each, Drawer, is_member}
@@ -9,7 +9,7 @@ use Rattle.sc_group_table.specs.machine.Definitions.{Group}
 use Rattle.sc_words.specs.paxos.Definitions.{entry_at, has_counted}
 use Rattle.sc_node_table.specs.Definitions.{elected, sent_all, sent_others, sent, pumped, wishing, reminded, reminders, waited_in, ReplicaState, Place, name_of, next, members, settled, is_idle, may_offer, first_set, tick_row, asked_again, uncounted, last_entry_sent, flying}
 use Rattle.sc_law_walks.proofs.Lemmas.{either_way, elected_place}
-use Rattle.sc_live_healed.proofs.FixedWalks.{FixedWalk, IsMember}
+use Rattle.sc_live_healed.proofs.FixedWalks.{FixedWalk, FixedTickParts, IsMember}
 use Rattle.sc_live_healed.proofs.FixedPumps.{OfMembers, open_members, pumps, set_members}
 
 not_so : (b : Bool) → not b ≡ false → b ≡ true
@@ -50,7 +50,7 @@ unfolding wishing reminded
 tick_alone drawer (r, mails) e =
     ap (λ (ms : List Mail). (waited_in r.group.core.lock r, ms)) (reminds_none r.group.core.lock r.me r.group mails e) ∙ ap (λ (x : ReplicaState). (x, mails)) (waits_none r.group.core.lock r e)
 
-module _ (base : Base) (me : ℕ) (w : FixedWalk base me) where
+module _ (base : Base) (me : ℕ) (w : FixedWalk base me) (t : FixedTickParts base me w.P) where
   abbrev P : Place → Type 0
   P place = w.P place
 
@@ -59,7 +59,7 @@ module _ (base : Base) (me : ℕ) (w : FixedWalk base me) where
   last_said None r mails on e k = k
   last_said (Some command) r mails on e k =
       let of : Each (IsMember base) (members r) = subst (λ (core : Core). Each (IsMember base) core.members) (sym (w.frame (r, mails) k).fixed.group) (set_members base me w) in
-      others_told r.me base (λ ms. P (r, ms)) (Learn (name_of r) (next r - 1) command) (λ to ms m q. w.relearns to command r ms m on e q) (members r) mails of k
+      others_told r.me base (λ ms. P (r, ms)) (Learn (name_of r) (next r - 1) command) (λ to ms m q. t.relearns to command r ms m on e q) (members r) mails of k
 
   again_by : (r : ReplicaState) (slot : ℕ) (set : List ℕ) (sets : List (List ℕ)) (mails : List Mail) (o : Option Command) → r.running ≡ true → Each (IsMember base) set → flying r slot ≡ o → P (r, mails)
       → ((more : List Mail) → P (r, more) → P (r, asked_again r (slot + 1) sets more))
@@ -67,7 +67,7 @@ module _ (base : Base) (me : ℕ) (w : FixedWalk base me) where
   again_by r slot set sets mails None on of e k more = more mails k
   again_by r slot set sets mails (Some command) on of e k more =
       more (sent_all r.me (uncounted r slot set) (Accept (name_of r) r.leader.ballot slot command) mails)
-      (all_told r.me base (λ ms. P (r, ms)) (Accept (name_of r) r.leader.ballot slot command) (λ to ms m q. w.reasks to slot command r ms m on e q) (uncounted r slot set) mails (Each-filter (IsMember base) (λ node. not (has_counted slot node r.leader)) set of) k)
+      (all_told r.me base (λ ms. P (r, ms)) (Accept (name_of r) r.leader.ballot slot command) (λ to ms m q. t.reasks to slot command r ms m on e q) (uncounted r slot set) mails (Each-filter (IsMember base) (λ node. not (has_counted slot node r.leader)) set of) k)
 
   again_said : (r : ReplicaState) (slot : ℕ) (sets : List (List ℕ)) (mails : List Mail) → r.running ≡ true → OfMembers base me w sets → P (r, mails) → P (r, asked_again r slot sets mails)
   unfolding asked_again
@@ -81,7 +81,7 @@ module _ (base : Base) (me : ℕ) (w : FixedWalk base me) where
 
   elects : (r : ReplicaState) (mails : List Mail) → settled r ≡ false → P (r, mails) → P (elected (r, mails))
   unfolding elected
-  elects r mails off k = either_way P (eqb r.top.round (2 ^ 32 - 1)) (r, mails) (elected_place (r, mails)) k (w.elected r mails off k)
+  elects r mails off k = either_way P (eqb r.top.round (2 ^ 32 - 1)) (r, mails) (elected_place (r, mails)) k (t.elected r mails off k)
 
   pub ticks : (drawer : Drawer) (place : Place) → P place → P (tick_row false drawer place)
   unfolding tick_row

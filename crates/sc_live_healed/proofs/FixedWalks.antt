@@ -1,14 +1,14 @@
 -- What an invariant of a replica of a group that is not reshaped needs, together with the mails of its row: what holds of both, and that each part of a row keeps it. In such a group nobody joins or leaves, so a replica stops only for a greater ballot or a state that it takes over, and is elected only at a tick.
-use Rattle.std.proofs.Common.{◌≡◌, ℕ, ◌+◌, ◌-◌, ◌<◌, ◌≤◌, nat_le, cond, true, false, List, [], ◌∷◌, ◌++◌, length, Option, Some, None}
+use Rattle.std.proofs.Common.{◌≡◌, ℕ, ◌+◌, ◌-◌, ◌<◌, ◌≤◌, nat_le, cond, true, false, List, [], ◌∷◌, ◌++◌, length, Some, None}
 use Rattle.sc_base.specs.Definitions.{Each, is_member}
-use Rattle.sc_node_table.specs.Values.{Ballot, Draw, Op, Command, Noop, Call, Base, Lock, Free, AnswerBody, Mail, MailBody, Request, Prepare, Promise, Accept, Accepted, Nack, Learn, Ask, Install, Chosen, NotYet, Report}
+use Rattle.sc_node_table.specs.Values.{Ballot, Draw, Op, Command, Noop, Call, Base, Free, AnswerBody, Mail, MailBody, Request, Prepare, Promise, Accept, Accepted, Nack, Learn, Ask, Install, Chosen, NotYet, Report}
 use Rattle.sc_words.specs.declared.paxos.answers.Must.TheVariants.{Value}
 use Rattle.sc_group_table.specs.machine.Definitions.{base_of}
 use Rattle.sc_words.specs.paxos.Definitions.{IsAtLeast, reports_from, after_promise, after_accept, may_promise, may_accept, promise_counted, entry_at, counted, must, below}
 use Rattle.sc_node_table.specs.Definitions.{stopped, offered, answered, answer_to, turned_down, sent, jumped, hinted, refused_at, ReplicaState, Place, name_of, next, taken_at, at_slot, with_slot, queued_number, without_request, flying, settled}
 use Rattle.sc_law_walks.specs.Definitions.{GoesOn}
 use Rattle.sc_law_walks.proofs.Lemmas.{entered_place, elected_place}
-use Rattle.sc_live_healed.specs.Definitions.{IsFixedCommand, IsFixedReplica, KeepsBallots, IsFixedBody}
+use Rattle.sc_live_healed.specs.Definitions.{IsFixedReplica, KeepsBallots, IsFixedBody}
 
 -- A group as it is at its birth: it is not locked and not gone, its first leader is a member, and so is this node.
 pub record IsFresh (base : Base) (me : ℕ) : Type 0 where
@@ -32,7 +32,7 @@ pub record IsFixedPlace (base : Base) (me : ℕ) (place : Place) : Type 0 where
 abbrev pub IsMember : Base → ℕ → Type 0
 IsMember base node = is_member base.core.members node ≡ true
 
--- One invariant of replicas of such a group with their mails: what holds of them, what is heard, and that each part of a row keeps it.
+-- One invariant of replicas of such a group with their mails: what holds of them, what is heard, and that each part of a row that is no tick keeps it.
 pub record FixedWalk (base : Base) (me : ℕ) : Type 1 where
   pub fresh : IsFresh base me
   pub P : Place → Type 0
@@ -78,7 +78,9 @@ pub record FixedWalk (base : Base) (me : ℕ) : Type 1 where
   pub requested : (from : ℕ) (group : Draw) (client seq : ℕ) (op : Op) (r : ReplicaState) (mails : List Mail) → Hears from (Request group client seq op) → refused_at r.group.core.gone op r ≡ None → queued_number r.backlog client ≡ None → P (r, mails) → P (record r { backlog = r.backlog ++ Call client seq op ∷ [] }, mails)
   pub requested_again : (from : ℕ) (group : Draw) (client seq other : ℕ) (op : Op) (r : ReplicaState) (mails : List Mail) → Hears from (Request group client seq op) → refused_at r.group.core.gone op r ≡ None → queued_number r.backlog client ≡ Some other → nat_le seq other ≡ false → P (r, mails)
       → P (record r { backlog = without_request r.backlog client ++ Call client seq op ∷ [] }, mails)
-  -- ticks
+
+-- That ticks keep the invariant: elections, and what is said again.
+pub record FixedTickParts (base : Base) (me : ℕ) (P : Place → Type 0) : Type 0 where
   pub elected : (r : ReplicaState) (mails : List Mail) → settled r ≡ false → P (r, mails) → P (elected_place (r, mails))
   pub reasks : (to slot : ℕ) (command : Command) (r : ReplicaState) (mails : List Mail) → IsMember base to → r.running ≡ true → flying r slot ≡ Some command → P (r, mails) → P (r, sent r.me to (Accept (name_of r) r.leader.ballot slot command) mails)
   pub relearns : (to : ℕ) (command : Command) (r : ReplicaState) (mails : List Mail) → IsMember base to → settled r ≡ true → entry_at (next r - 1) r.log ≡ Some command → P (r, mails) → P (r, sent r.me to (Learn (name_of r) (next r - 1) command) mails)

@@ -4,6 +4,7 @@ pub mod FixedRows
 pub mod FixedTicks
 pub mod FixedEntries
 pub mod FixedParts
+pub mod FixedChanges
 pub mod FixedPlaces
 pub mod FixedNodes
 pub mod ServingReplicas
@@ -20,3 +21,7 @@ pub mod NodeSlots
 pub mod AnsweredAccepts
 pub mod VotesUnderWay
 pub mod Lemmas
+pub mod FixedBirths
+pub mod FixedClients
+pub mod FixedJournals
+pub mod UntoldRows

@@ -1,10 +1,12 @@
 -- What holds of each replica and each mail in any journal without orders and policy: the members of each group are those of its birth, and nothing but requests is executed.
-use Rattle.std.specs.Prelude.{◌≡◌, ℕ, true, false, List, [], replicate, Option, Some, None, ◌⊎◌}
+use Rattle.std.specs.Prelude.{◌≡◌, ℕ, true, false, List, [], replicate, Some, None, ◌⊎◌}
 use Rattle.sc_base.specs.Definitions.{Among, Each, is_member}
-use Rattle.sc_node_table.specs.Values.{Draw, Ballot, Base, Command, Noop, Call, Join, Leave, Split, Begin, Prepared, RecordVote, GiveUp, Finish, Watched, RecordWatch, AnswerBody, Value, NotLeader, NotMine, Gone, Stale, Mail, MailBody, Request, Answer, Prepare, Promise, Accept, Accepted, Nack, Learn, Ask, Install, TxPrepare, TxVote, TxOutcome, TxElsewhere, TxWatch, TxWatched, Told, Report, Flight}
+use Rattle.sc_node_table.specs.Values.{Draw, Base, Command, Noop, Call, Join, Leave, Split, Begin, Prepared, RecordVote, GiveUp, Finish, Watched, RecordWatch, AnswerBody, Value, NotLeader, NotMine, Gone, Stale, Mail, MailBody, Request, Answer, Prepare, Promise, Accept, Accepted, Nack, Learn, Ask, Install, TxPrepare, TxVote, TxOutcome, TxElsewhere, TxWatch, TxWatched, Told, Report, Flight}
 use Rattle.sc_words.specs.ideal.Definitions.{key_of, holds_key}
 use Rattle.sc_words.specs.paxos.Definitions.{IsAtLeast}
 use Rattle.sc_group_table.specs.machine.Definitions.{Group}
+use Rattle.sc_client_table.specs.declared.lookup.ways.Way.{Way}
+use Rattle.sc_client_table.specs.table.Definitions.{Client}
 use Rattle.sc_node_table.specs.Definitions.{NodeState, ReplicaState, replica_of, slots_ahead}
 
 -- a request for a key of the group
@@ -113,3 +115,15 @@ pub record IsFixedMail (bases : List Base) (mail : Mail) : Type 0 where
 pub record IsFixedNode (bases : List Base) (node : NodeState) : Type 0 where
   pub replicas : Each (λ r. (base : Base) × Among base bases × (is_member base.core.members node.me ≡ true) × (r.me ≡ node.me) × IsFixedReplica base r × KeepsBallots base r) node.replicas
   pub has : (base : Base) → Among base bases → is_member base.core.members node.me ≡ true → (r : ReplicaState) × (replica_of base.core.id node.replicas ≡ Some r)
+
+-- what a client knows of a group: its members are those of its birth, and so is the node that is preferred, if there is one
+pub record KnowsFixed (bases : List Base) (group : Draw) (known : Way) : Type 0 where
+  pub base : Base
+  pub among : Among base bases
+  pub name : base.core.id ≡ group
+  pub members : known.members ≡ base.core.members
+  pub preferred : (node : ℕ) → known.preferred ≡ Some node → is_member base.core.members node ≡ true
+
+-- a client that knows these groups alone, each as at its birth
+abbrev pub IsFixedClient : List Base → Client → Type 0
+IsFixedClient bases client = Each (λ (entry : Draw × Way). KnowsFixed bases entry.0 entry.1) client.known
