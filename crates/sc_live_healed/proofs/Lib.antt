@@ -20,6 +20,9 @@ pub mod NodeMail
 pub mod NodeSlots
 pub mod AnsweredAccepts
 pub mod VotesUnderWay
+pub mod VotesBesides
+pub mod LivingMajorities
+pub mod IdleReplicas
 pub mod Lemmas
 pub mod FixedBirths
 pub mod FixedClients

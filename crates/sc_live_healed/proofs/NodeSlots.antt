@@ -63,6 +63,7 @@ module _ (bases : List Base) (fresh : AreFresh bases) (rosters : AreRosters base
   pub record HasTickedAll (mails : List Mail) (base : Base) (before after : ReplicaState) : Type 0 where
     pub takes : TakesSlots base after
     pub fixed : IsFixedReplica base after
+    pub me_is : after.me ≡ node.me
     pub asked : IsLow before → AskAll base (after, mails)
 
   -- the replicas of a node after a tick, each with what it was before
@@ -73,14 +74,14 @@ module _ (bases : List Base) (fresh : AreFresh bases) (rosters : AreRosters base
   Ticks mails (r ∷ replicas) [] = ⊥
 
   one_tick : (drawer : Drawer) (r : ReplicaState) (mails : List Mail) → IsHere r → Takes bases fresh r → (base : Base) × Among base bases × IsFixedReplica base r
-      × TakesSlots base (tick_row false drawer (r, mails)).0 × IsFixedReplica base (tick_row false drawer (r, mails)).0 × (IsLow r → AskAll base (tick_row false drawer (r, mails))) × Grows mails (tick_row false drawer (r, mails)).1
+      × TakesSlots base (tick_row false drawer (r, mails)).0 × IsFixedReplica base (tick_row false drawer (r, mails)).0 × ((tick_row false drawer (r, mails)).0.me ≡ node.me) × (IsLow r → AskAll base (tick_row false drawer (r, mails))) × Grows mails (tick_row false drawer (r, mails)).1
   one_tick drawer r mails one takes =
       let base : Base = one.0 in
       let f = fresh.each base one.1 node.me one.2 in
       let here : is_member base.core.members r.me ≡ true = ap (is_member base.core.members) one.3 ∙ one.2 in
       let t = tick_takes base f.free f.stands r here one.4 (takes base one.1 one.4) drawer mails in
       let p = one_ticks bases fresh node k drawer r mails one in
-      (base, one.1, one.4, t.takes, subst (λ (place : Place). IsFixedReplica base place.0) (sym p.1) p.0.fixed, t.asked,
+      (base, one.1, one.4, t.takes, subst (λ (place : Place). IsFixedReplica base place.0) (sym p.1) p.0.fixed, subst (λ (place : Place). place.0.me ≡ node.me) (sym p.1) p.0.me_is, t.asked,
         subst (λ (place : Place). Grows mails place.1) (sym p.1) (λ mail a. among_left mails (tick_row false drawer (r, [])).1 mail a))
     where
       among_left : (xs ys : List Mail) (x : Mail) → Among x xs → Among x (xs ++ ys)
@@ -101,8 +102,9 @@ module _ (bases : List Base) (fresh : AreFresh bases) (rosters : AreRosters base
       (((one.0, one.1, one.2, record {
         takes = one.3;
         fixed = one.4;
-        asked = λ low. Each-weaker (IsAsked one.0 place.0.me place.0.leader.ballot place.1) (IsAsked one.0 place.0.me place.0.leader.ballot last) (λ flight a. asked_still one.0 place.0.me place.0.leader.ballot place.1 last flight rest.1 a) place.0.leader.flights (one.5 low);
-      }), rest.0), λ mail a. rest.1 mail (one.6 mail a))
+        me_is = one.5;
+        asked = λ low. Each-weaker (IsAsked one.0 place.0.me place.0.leader.ballot place.1) (IsAsked one.0 place.0.me place.0.leader.ballot last) (λ flight a. asked_still one.0 place.0.me place.0.leader.ballot place.1 last flight rest.1 a) place.0.leader.flights (one.6 low);
+      }), rest.0), λ mail a. rest.1 mail (one.7 mail a))
 
   all_after : (mails : List Mail) (replicas after : List ReplicaState) → Ticks mails replicas after → Each (Takes bases fresh) after
   all_after mails [] [] t = tt

@@ -49,7 +49,7 @@ module _ (mail : Mail) (others more : List Mail) (base : Base) (lead member : �
   still_under_way m (Answered (Installs last sent sets up near (inr a))) = Answered (Installs last sent sets (subst (λ (s : ℕ). s ≤ last) same up) near (rest _ a))
 
 -- an answer among other mails
-answered_still : (mails more : List Mail) (base : Base) (member lead : ℕ) (ballot : Ballot) (slot : ℕ) → ((mail : Mail) → Among mail mails → mail.to ≡ lead → Among mail more) → IsAnswered mails base member lead ballot slot → IsAnswered more base member lead ballot slot
+pub answered_still : (mails more : List Mail) (base : Base) (member lead : ℕ) (ballot : Ballot) (slot : ℕ) → ((mail : Mail) → Among mail mails → mail.to ≡ lead → Among mail more) → IsAnswered mails base member lead ballot slot → IsAnswered more base member lead ballot slot
 answered_still mails more base member lead ballot slot grow (Accepts a) = Accepts (grow _ a refl)
 answered_still mails more base member lead ballot slot grow (Refuses promised low a) = Refuses promised low (grow _ a refl)
 answered_still mails more base member lead ballot slot grow (Installs last sent sets up near a) = Installs last sent sets up near (grow _ a refl)

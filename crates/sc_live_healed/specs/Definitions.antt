@@ -2,3 +2,4 @@
 pub use Rattle.sc_live_healed.specs.FixedMembers.{IsFixedCommand, IsFixedRequest, IsFixedGroup, IsFixedReplica, RunsInOwnBallot, IsFollower, KeepsBallots, IsOfMembers, IsFixedBase, IsFixedAnswer, IsFixedBody, IsFixedMail, IsFixedNode, KnowsFixed, IsFixedClient}
 pub use Rattle.sc_live_healed.specs.TakenSlots.{IsUndecided, HasOfferedAll, TakesSlots, AllTakeSlots}
 pub use Rattle.sc_live_healed.specs.VotesUnderWay.{HasVoted, Counts, IsCarried, mail_between, IsAnswered, Accepts, Refuses, Installs, IsVoteUnderWay, Counted, Asked, Answered, VotesAreUnderWay, IsInBounds}
+pub use Rattle.sc_live_healed.specs.IdleReplicas.{LivingMajority, IsIdle}

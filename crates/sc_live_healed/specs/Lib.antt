@@ -1,4 +1,5 @@
 pub mod FixedMembers
 pub mod TakenSlots
 pub mod VotesUnderWay
+pub mod IdleReplicas
 pub mod Definitions
