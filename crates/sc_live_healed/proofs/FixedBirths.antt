@@ -40,7 +40,7 @@ right_in lines k low = cond_both (eqb (k + 1) (length lines)) 0 (k + 1) (λ (n :
     by (inr ge) apart = absurd (apart (omega (arith, ge, low)))
 
 module _ (scenario : Scenario) (bounded : IsBounded scenario) where
-  place_of : (base : Base) → Among base scenario.groups → (k : ℕ) × (k < length bounded.starts) × (base_at bounded.starts k ≡ base)
+  pub place_of : (base : Base) → Among base scenario.groups → (k : ℕ) × (k < length bounded.starts) × (base_at bounded.starts k ≡ base)
   place_of base a = at_line bounded.starts (length bounded.starts) base (subst (Among base) bounded.groups a)
 
   some_members : (k : ℕ) → k < length bounded.starts → 1 ≤ length (base_at bounded.starts k).core.members

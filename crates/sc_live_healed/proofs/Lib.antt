@@ -28,3 +28,4 @@ pub mod FixedBirths
 pub mod FixedClients
 pub mod FixedJournals
 pub mod UntoldRows
+pub mod TakenJournals
