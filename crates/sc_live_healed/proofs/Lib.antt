@@ -29,3 +29,4 @@ pub mod FixedClients
 pub mod FixedJournals
 pub mod UntoldRows
 pub mod TakenJournals
+pub mod VotesInTurns
