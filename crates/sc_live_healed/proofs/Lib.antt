@@ -30,3 +30,4 @@ pub mod FixedJournals
 pub mod UntoldRows
 pub mod TakenJournals
 pub mod VotesInTurns
+pub mod VotesOfTurns

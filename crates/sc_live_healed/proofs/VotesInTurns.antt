@@ -26,7 +26,7 @@ use Rattle.sc_live_healed.proofs.VotesUnderWay.{answered_still, accept_answered,
 use Rattle.sc_live_healed.proofs.VotesBesides.{votes_after_others}
 
 -- a player that is a node
-node_is : {one other : NodeState} → ◌≡◌ {A = Player} (Node one) (Node other) → one ≡ other
+pub node_is : {one other : NodeState} → ◌≡◌ {A = Player} (Node one) (Node other) → one ≡ other
 node_is e = cc
 
 module _ (words : ℕ → ℕ → ℕ × ℕ) (scenario : Scenario) (bounded : IsBounded scenario) (off : scenario.policy ≡ false) (alive : ℕ → Type 0) where
@@ -36,22 +36,23 @@ module _ (words : ℕ → ℕ → ℕ × ℕ) (scenario : Scenario) (bounded : I
   abbrev pub S : System Player Mail OrderLine
   S = system_of as_nodes words scenario
 
-  -- What these rows leave to the actors that are alive: they are nodes, may get mail, and their replicas take their slots and are in bounds.
+  -- What these rows leave to the actors that are alive: they are nodes, may get mail, and their replicas take their slots, are in bounds and can elect themselves.
   pub record LetsVote (rows : Rows) : Type 0 where
     pub taken : IsTakenJournal scenario rows
     pub gets : (who : ℕ) → alive who → may_get (numbers_of S.births) rows who ≡ true
     pub nodes : (seat : Seat Player) → IsOf scenario seat → alive seat.who → (node : NodeState) × (value player_table seat rows ≡ Node node)
     pub bounds : (seat : Seat Player) → IsOf scenario seat → (node : NodeState) → value player_table seat rows ≡ Node node → (base : Base) (r : ReplicaState) → Among base bases → replica_of base.core.id node.replicas ≡ Some r → IsInBounds r
+    pub rounds : (seat : Seat Player) → IsOf scenario seat → (node : NodeState) → value player_table seat rows ≡ Node node → Each (λ (r : ReplicaState). r.top.round ≡ 2 ^ 32 - 1 → ⊥) node.replicas
 
   -- the votes for what the actor of a seat has in flight are counted or under way after these rows
   abbrev pub VotesAt : Seat Player → Rows → Type 0
   VotesAt seat rows = (node : NodeState) → value player_table seat rows ≡ Node node → VotesAreUnderWay bases alive (pending_mail S rows) node
 
   -- what is known of a node after these rows
-  node_fixed : (rows : Rows) → LetsVote rows → (seat : Seat Player) → IsOf scenario seat → (node : NodeState) → value player_table seat rows ≡ Node node → IsFixedPlayer bases seat.who (Node node)
+  pub node_fixed : (rows : Rows) → LetsVote rows → (seat : Seat Player) → IsOf scenario seat → (node : NodeState) → value player_table seat rows ≡ Node node → IsFixedPlayer bases seat.who (Node node)
   node_fixed rows l seat is_of node e = subst (IsFixedPlayer bases seat.who) e (l.taken.fixed.players seat is_of)
 
-  node_takes : (rows : Rows) → LetsVote rows → (seat : Seat Player) → IsOf scenario seat → (node : NodeState) → value player_table seat rows ≡ Node node → AllTakeSlots bases node
+  pub node_takes : (rows : Rows) → LetsVote rows → (seat : Seat Player) → IsOf scenario seat → (node : NodeState) → value player_table seat rows ≡ Node node → AllTakeSlots bases node
   node_takes rows l seat is_of node e = subst (PlayerTakes bases) e (l.taken.takes seat is_of)
 
   module _ (are_nodes : (who : ℕ) → alive who → is_node who ≡ true) (seat : Seat Player) (is_of : IsOf scenario seat) (living : alive seat.who) where
