@@ -31,3 +31,4 @@ pub mod UntoldRows
 pub mod TakenJournals
 pub mod VotesInTurns
 pub mod VotesOfTurns
+pub mod IdleNodes
