@@ -15,3 +15,5 @@ pub mod UntoldRows
 pub mod FixedBesides
 pub mod MovedReplicas
 pub mod PollAnswers
+pub mod PollRows
+pub mod PollTurns

@@ -20,7 +20,7 @@ use Rattle.sc_live_healed.specs.Definitions.{IsFixedBody, IsFixedReplica, KeepsB
 -- ---- what is seen
 
 -- a ballot that is seen leaves the acceptor and the log
-seen_keeps : (ballot : Ballot) (place : Place) → ((saw ballot place).0.acceptor ≡ place.0.acceptor) × (next (saw ballot place).0 ≡ next place.0) × ((saw ballot place).0.me ≡ place.0.me)
+pub seen_keeps : (ballot : Ballot) (place : Place) → ((saw ballot place).0.acceptor ≡ place.0.acceptor) × (next (saw ballot place).0 ≡ next place.0) × ((saw ballot place).0.me ≡ place.0.me)
 unfolding saw ended
 seen_keeps ballot (r, mails) =
     let seen : ReplicaState = cond (below r.top ballot) (record r { top = ballot }) r in
@@ -80,7 +80,7 @@ unfolding ended
 ended_stops from r mails = cond_both r.running (stopped (Some from) (r, mails)) (r, mails) (λ (p : Place). p.0.running ≡ false) (λ _. refl) (λ f. f)
 
 -- so does a state of a later slot
-over_stops : (from slot : ℕ) (sent : Base) (sets : List (List ℕ)) (place : Place) → is_member sent.core.members from ≡ true → (took_over from slot sent sets place).0.running ≡ false
+pub over_stops : (from slot : ℕ) (sent : Base) (sets : List (List ℕ)) (place : Place) → is_member sent.core.members from ≡ true → (took_over from slot sent sets place).0.running ≡ false
 unfolding took_over looked_up jumped forgotten
 over_stops from slot sent sets (r, mails) m =
     let place1 : Place = cond r.running (stopped (Some from) (r, mails)) (r, mails) in
