@@ -135,6 +135,13 @@ module _ (base : Base) (me : ℕ) (w : FixedWalk base me) where
       cond_both (settled place.0 && nat_le (next place.0) last_slot) (pumped_from (next place.0) place.0.sets place) place P
       (λ t. (from_pumps (next place.0) (length place.0.sets) (next place.0) place.0.sets place (open_members place k) (omega arith) (k, (and_parts place.0.running (may_offer place.0 (first_set place.0.sets)) (and_parts (settled place.0) (nat_le (next place.0) last_slot) t).0).0, refl, refl)).0) (λ _. k)
 
+  -- the pump executes nothing
+  pub pumps_next : (place : Place) → P place → next (pumped place).0 ≡ next place.0
+  unfolding pumped
+  pumps_next place k =
+      cond_both (settled place.0 && nat_le (next place.0) last_slot) (pumped_from (next place.0) place.0.sets place) place (λ (p : Place). next p.0 ≡ next place.0)
+      (λ t. (from_pumps (next place.0) (length place.0.sets) (next place.0) place.0.sets place (open_members place k) (omega arith) (k, (and_parts place.0.running (may_offer place.0 (first_set place.0.sets)) (and_parts (settled place.0) (nat_le (next place.0) last_slot) t).0).0, refl, refl)).2) (λ _. refl)
+
   -- ---- an entry, and what was ready after it
 
   -- the node stays a member

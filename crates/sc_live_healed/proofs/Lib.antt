@@ -32,3 +32,8 @@ pub mod TakenJournals
 pub mod VotesInTurns
 pub mod VotesOfTurns
 pub mod IdleNodes
+pub mod FixedBesides
+pub mod MovedReplicas
+pub mod PollAnswers
+pub mod PollRows
+pub mod PollTurns

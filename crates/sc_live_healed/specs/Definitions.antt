@@ -3,3 +3,4 @@ pub use Rattle.sc_live_healed.specs.FixedMembers.{IsFixedCommand, IsFixedRequest
 pub use Rattle.sc_live_healed.specs.TakenSlots.{IsUndecided, HasOfferedAll, TakesSlots, AllTakeSlots}
 pub use Rattle.sc_live_healed.specs.VotesUnderWay.{HasVoted, Counts, IsCarried, mail_between, IsAnswered, Accepts, Refuses, Installs, IsVoteUnderWay, Counted, Asked, Answered, VotesAreUnderWay, IsInBounds}
 pub use Rattle.sc_live_healed.specs.IdleReplicas.{LivingMajority, IsIdle}
+pub use Rattle.sc_live_healed.specs.Polls.{IsSettledOrStopped, AnswersPoll, IsAnswerKind}

@@ -1,0 +1,291 @@
+-- What a row that is no tick changes of a replica of a group that is not reshaped: its greatest ballot rises, what it asks is within it, it promises nothing but what the mail brings, it begins to lead no ballot, and it loses no promise of its own ballot.
+use Rattle.std.proofs.Common.{◌≡◌, ℕ, ◌+◌, ◌-◌, ◌<◌, ◌≤◌, ◌/◌, ◌*◌, ◌&&◌, not, max, Bool, true, false, true≢false, cond, List, [], ◌∷◌, ◌++◌, drop, length, Option, Some, None, ◌⊎◌, inl, inr, refl, sym, ◌∙◌, ap, subst, arith}
+use Rattle.std.proofs.lemmas.Bool.{cond_both}
+use Rattle.sc_base.specs.Definitions.{Among, Each, Drawer, same_ballot, is_majority, is_member, client_actor}
+use Rattle.sc_words.proofs.PaxosProofs.Lemmas.{Each-append, Each-weaker, not_below_parts, below_parts}
+use Rattle.sc_paxos_law.proofs.Lemmas.{Among-left, among-member, member-among}
+use Rattle.sc_node_table.specs.Values.{Ballot, Draw, Op, Command, Noop, Call, Base, Core, AnswerBody, Counted, Mail, MailBody, Request, Answer, Prepare, Promise, Accept, Accepted, Nack, Learn, Ask, Install, Flight, TxPrepare, TxVote, TxOutcome, TxElsewhere, TxWatch, TxWatched, Told, Report}
+use Rattle.sc_group_table.specs.machine.Definitions.{base_of}
+use Rattle.sc_words.specs.paxos.Definitions.{IsAtLeast, AcceptorState, LeaderState, below, after_promise, after_accept, reports_from, kept_voters, voters_after, promise_counted, counted, vote_at, flight_at}
+use Rattle.sc_node_table.specs.Definitions.{ended, stopped, entered, forgotten, floor_of, jumped, offered, put_back, answered_all, sent, sent_all, under_way, hinted, mailed, pumped, tick_row, open_nodes, ReplicaState, Place, name_of, next, slots_ahead}
+use Rattle.sc_law_walks.proofs.Talks.{all_sent, all_answered, all_dismissed, one_answered}
+use Rattle.sc_law_walks.proofs.Lemmas.{either_way, Talk, counted_ballot, promise_ballot, floor_under, entered_next, entered_place}
+use Rattle.sc_live_healed.proofs.FixedWalks.{IsFresh, IsMember, IsFixedPlace, FixedWalk}
+use Rattle.sc_live_healed.proofs.FixedEntries.{FixedEntry, entry_keeps}
+use Rattle.sc_live_healed.proofs.FixedParts.{ready_fixed, applied_core}
+use Rattle.sc_live_healed.proofs.FixedPumps.{pumps, pumps_next}
+use Rattle.sc_live_healed.proofs.FixedRows.{takes_mail}
+use Rattle.sc_live_healed.proofs.FixedTicks.{ticks}
+use Rattle.sc_live_healed.proofs.FixedBesides.{FixedFacts, FixedStates, FixedTickStates, both_walk, both_ticks}
+use Rattle.sc_live_healed.specs.Definitions.{IsFixedBody, IsFixedCommand, KeepsBallots}
+
+-- a mail that asks for a promise or a vote does so in a round that is not above this one
+abbrev pub AsksWithin : ℕ → MailBody → Type 0
+AsksWithin round (Prepare group ballot from_slot) = ballot.round ≤ round
+AsksWithin round (Accept group ballot slot command) = ballot.round ≤ round
+AsksWithin round _ = Unit {0}
+
+-- a mail that asks for a promise or a vote brings its ballot
+abbrev pub Brings : MailBody → Ballot → Type 0
+Brings (Prepare group asked from_slot) ballot = asked ≡ ballot
+Brings (Accept group asked slot command) ballot = asked ≡ ballot
+Brings _ ballot = ⊥
+
+-- What a row leaves of a replica, which may elect itself in it where Elects holds: by its greatest ballot, its promise and floor, whether it runs, with which ballot and promises, its next slot, and the mail.
+pub record Moves (Elects : Type 0) (start : ReplicaState) (body : MailBody) (top promised : Ballot) (floor : ℕ) (running : Bool) (ballot : Ballot) (is_first : Bool) (promisers : List ℕ) (next_slot : ℕ) (mails : List Mail) : Type 0 where
+  pub rises : start.top.round ≤ top.round
+  pub asks : Each (λ (mail : Mail). AsksWithin top.round mail.body) mails
+  pub promise : (promised ≡ start.acceptor.promised) ⊎ Brings body promised
+  pub leads : running ≡ true → Elects ⊎ ((start.running ≡ true) × (ballot ≡ start.leader.ballot) × (is_first ≡ start.leader.is_first) × ((node : ℕ) → is_member start.leader.promisers node ≡ true → is_member promisers node ≡ true))
+  pub floored : floor < next_slot
+
+-- what a row leaves of a replica with its mail
+abbrev pub HasMoved : Type 0 → ReplicaState → MailBody → Place → Type 0
+HasMoved Elects start body (r, mails) = Moves Elects start body r.top r.acceptor.promised r.acceptor.floor r.running r.leader.ballot r.leader.is_first r.leader.promisers (next r) mails
+
+-- a ballot that is at least another is of no earlier round
+pub at_least_round : (a b : Ballot) → IsAtLeast a b → b.round ≤ a.round
+at_least_round a b e = elim (not_below_parts a b e) [ inl lt ↦ omega (arith, lt) | inr p ↦ omega (arith, p.0) ]
+
+below_round : (a b : Ballot) → below a b ≡ true → a.round ≤ b.round
+below_round a b e = elim (below_parts a b e) [ inl lt ↦ omega (arith, lt) | inr p ↦ omega (arith, p.0) ]
+
+within_more : (low high : ℕ) (body : MailBody) → low ≤ high → AsksWithin low body → AsksWithin high body
+within_more low high (Prepare group ballot from_slot) up a = omega (arith, up, a)
+within_more low high (Accept group ballot slot command) up a = omega (arith, up, a)
+within_more low high _ up a = tt
+
+-- any mail but a question is within any round
+module _ (round : ℕ) where
+  abbrev Within : List Mail → Type 0
+  Within mails = Each (λ (mail : Mail). AsksWithin round mail.body) mails
+
+  pushed : (me to : ℕ) (body : MailBody) (mails : List Mail) → AsksWithin round body → Within mails → Within (sent me to body mails)
+  pushed me to body mails a m = Each-append (λ (mail : Mail). AsksWithin round mail.body) mails (record { from = me; to = to; body = body } ∷ []) m (a, tt)
+
+  talk : (me : ℕ) → Talk me Within
+  talk me = record {
+    tells = λ number result mails m. pushed me 0 (Told number result) mails tt m;
+    answers = λ client group seq answer mails m. pushed me (client_actor client) (Answer group seq answer) mails tt m;
+    offers = λ to tx offer mails own m. pushed me to (TxPrepare tx offer) mails tt m;
+    watches = λ to tx watch mails own m. pushed me to (TxWatch tx watch) mails tt m;
+    casts = λ to tx coord part vote mails m. pushed me to (TxVote tx coord part vote) mails tt m;
+    sees = λ to tx coord part vote mails m. pushed me to (TxWatched tx coord part vote) mails tt m;
+    ends = λ to tx part outcome mails m. pushed me to (TxOutcome tx part outcome) mails tt m;
+    sends_on = λ to tx coord hint mails m. pushed me to (TxElsewhere tx coord hint) mails tt m;
+  }
+
+module _ (base : Base) (me : ℕ) (fresh : IsFresh base me) (Elects : Type 0) (start : ReplicaState) (heard_from : ℕ) (heard_body : MailBody) where
+  abbrev E : Place → Type 0
+  E place = HasMoved Elects start heard_body place
+
+  abbrev F : Place → Type 0
+  F place = IsFixedPlace base me place
+
+  abbrev pub move_facts : FixedFacts
+  move_facts = record { E = λ place. HasMoved Elects start heard_body place; HeardSo = λ from body. body ≡ heard_body; SeenSo = λ ballot. Unit {0} }
+
+  says : (r : ReplicaState) (to : ℕ) (body : MailBody) (mails : List Mail) → AsksWithin r.top.round body → E (r, mails) → E (r, sent r.me to body mails)
+  says r to body mails a k = record { rises = k.rises; asks = pushed r.top.round r.me to body mails a k.asks; promise = k.promise; leads = k.leads; floored = k.floored }
+
+  own_round : (r : ReplicaState) (mails : List Mail) → r.running ≡ true → F (r, mails) → r.leader.ballot.round ≤ r.top.round
+  own_round r mails on f = at_least_round r.top r.leader.ballot (f.ballots.running on).seen
+
+  offers_low : (slot : ℕ) (set : List ℕ) (command : Command) (r : ReplicaState) (mails : List Mail) → r.leader.ballot.round ≤ r.top.round → E (r, mails) → E (offered slot set command (r, mails))
+  unfolding offered
+  offers_low slot set command r mails low k =
+      record {
+        rises = k.rises;
+        asks = all_sent r.me (Within r.top.round) (Accept (name_of r) r.leader.ballot slot command) (λ to ms m. pushed r.top.round r.me to (Accept (name_of r) r.leader.ballot slot command) ms low m) set mails k.asks;
+        promise = k.promise;
+        leads = k.leads;
+        floored = k.floored;
+      }
+
+  offers : (slot : ℕ) (set : List ℕ) (command : Command) (r : ReplicaState) (mails : List Mail) → r.running ≡ true → F (r, mails) → E (r, mails) → E (offered slot set command (r, mails))
+  offers slot set command r mails on f k = offers_low slot set command r mails (own_round r mails on f) k
+
+  stops : (hint : Option ℕ) (answer : AnswerBody) (r : ReplicaState) (mails : List Mail) → E (r, mails) → E (ended hint answer (r, mails))
+  unfolding ended
+  stops hint answer r mails k = record {
+    rises = k.rises;
+    asks = all_dismissed r.me (Within r.top.round) (talk r.top.round r.me) (name_of r) hint answer r.backlog (answered_all r.me (name_of r) answer (under_way r) mails) (all_answered r.me (Within r.top.round) (talk r.top.round r.me) (name_of r) answer (under_way r) mails k.asks);
+    promise = k.promise;
+    leads = λ on. absurd (true≢false (sym on));
+    floored = k.floored;
+  }
+
+  higher : (ballot : Ballot) (r : ReplicaState) (mails : List Mail) → below r.top ballot ≡ true → E (r, mails) → E (record r { top = ballot }, mails)
+  higher ballot r mails t k =
+      let up : r.top.round ≤ ballot.round = below_round r.top ballot t in record {
+        rises = (let low = k.rises in omega (arith, low, up));
+        asks = Each-weaker (λ (mail : Mail). AsksWithin r.top.round mail.body) (λ (mail : Mail). AsksWithin ballot.round mail.body) (λ mail a. within_more r.top.round ballot.round mail.body up a) mails k.asks;
+        promise = k.promise;
+        leads = k.leads;
+        floored = k.floored;
+      }
+
+  -- ---- entries
+
+  goes_back : (command : Command) (r : ReplicaState) (mails : List Mail) → E (r, mails) → E (put_back command r, mails)
+  unfolding put_back
+  goes_back Noop r mails k = k
+  goes_back _ r mails k = k
+
+  module _ (command : Command) (r : ReplicaState) (fixed : IsFixedCommand base command) where
+    abbrev Q : Place → Type 0
+    Q place = E place × (place.0.group.core ≡ base.core)
+
+    enters_by : (mails : List Mail) → next (entered command r) ≡ next r + 1 → E (r, mails) → E (entered command r, mails)
+    unfolding entered forgotten
+    enters_by mails longer k =
+        let low = floor_under (next r) (omega arith) in
+        let was = k.floored in
+        record { rises = k.rises; asks = k.asks; promise = k.promise; leads = k.leads; floored = omega (arith, longer, low, was) }
+
+    core_after : (entered command r).group.core ≡ r.group.core
+    unfolding entered forgotten
+    core_after = applied_core base command r.group fixed
+
+    enters : (mails : List Mail) → F (r, mails) → E (r, mails) → Q (entered command r, mails)
+    enters mails f k = (enters_by mails (entered_next command r) k, core_after ∙ f.fixed.group)
+
+    back_core : (other : Command) (x : ReplicaState) → x.group.core ≡ base.core → (put_back other x).group.core ≡ base.core
+    unfolding put_back
+    back_core Noop x e = e
+    back_core _ x e = e
+
+    entry_of : (counted : Bool) → FixedEntry base counted command r Q
+    entry_of counted = record {
+      Lost = λ other. Unit {0};
+      core_is = λ place k. k.1;
+      answers = λ client seq op answer x mails t is e k. (says x (client_actor client) (Answer (name_of x) seq answer) mails tt k.0, k.1);
+      returned = λ x mails t k. (goes_back command x mails k.0, back_core command x k.1);
+      teaches = λ to x mails t m k. (says x to (Learn (name_of x) (next r) command) mails tt k.0, k.1);
+      flies = λ other x mails e k. tt;
+      landed = λ place k. k;
+      back = λ other x mails l k. (goes_back other x mails k.0, back_core other x k.1);
+    }
+
+  pub enters_moved : (counted : Bool) (command : Command) (r : ReplicaState) (mails : List Mail) → IsFixedCommand base command → F (r, mails) → E (r, mails) → E (entered_place counted command (r, mails))
+  enters_moved counted command r mails fixed f k =
+      (entry_keeps base counted command r (Q command r fixed) (entry_of command r fixed counted) fixed f.fixed.group mails (enters command r fixed mails f k)).0
+
+  -- ---- votes and promises
+
+  hints : (ballot : Ballot) (r : ReplicaState) (mails : List Mail) → E (r, mails) → E (hinted ballot r, mails)
+  hints ballot r mails k = cond_both r.running r (record r { hint = Some ballot.node }) (λ (x : ReplicaState). E (x, mails)) (λ _. k) (λ _. k)
+
+  -- a vote leaves ballot and promises
+  same_promisers : (from : ℕ) (ballot : Ballot) (slot : ℕ) (set : List ℕ) (leader : LeaderState Command) → ((counted from ballot slot set leader).1.is_first ≡ leader.is_first) × ((counted from ballot slot set leader).1.promisers ≡ leader.promisers)
+  same_promisers from ballot slot set leader =
+      either_way (λ (x : Counted Command × LeaderState Command). (x.1.is_first ≡ leader.is_first) × (x.1.promisers ≡ leader.promisers)) (same_ballot ballot leader.ballot) _ _ (by (flight_at slot leader.flights)) (refl, refl)
+    where
+      by : (o : Option (Flight Command)) → ((vote_at from slot set o leader).1.is_first ≡ leader.is_first) × ((vote_at from slot set o leader).1.promisers ≡ leader.promisers)
+      by None = (refl, refl)
+      by (Some flight) = either_way (λ (x : Counted Command × LeaderState Command). (x.1.is_first ≡ leader.is_first) × (x.1.promisers ≡ leader.promisers)) (is_majority set (kept_voters (voters_after set from flight.voters))) _ _ (refl, refl) (refl, refl)
+
+  leads_with : (r : ReplicaState) (mails : List Mail) (leader : LeaderState Command) → leader.ballot ≡ r.leader.ballot → leader.is_first ≡ r.leader.is_first → ((node : ℕ) → is_member r.leader.promisers node ≡ true → is_member leader.promisers node ≡ true) → E (r, mails) → E (record r { leader = leader }, mails)
+  leads_with r mails leader b i p k = record {
+    rises = k.rises;
+    asks = k.asks;
+    promise = k.promise;
+    leads = λ on. elim (k.leads on) [ inl e ↦ inl e | inr l ↦ inr (l.0, b ∙ l.1, i ∙ l.2, λ node m. p node (l.3 node m)) ];
+    floored = k.floored;
+  }
+
+  votes : (from : ℕ) (ballot : Ballot) (slot : ℕ) (set : List ℕ) (r : ReplicaState) (mails : List Mail) → E (r, mails) → E (record r { leader = (counted from ballot slot set r.leader).1 }, mails)
+  votes from ballot slot set r mails k =
+      let same = same_promisers from ballot slot set r.leader in
+      leads_with r mails (counted from ballot slot set r.leader).1 (counted_ballot from ballot slot set r.leader) same.0 (λ node m. ap (λ (nodes : List ℕ). is_member nodes node) same.1 ∙ m) k
+
+  more_promisers : (from : ℕ) (ballot : Ballot) (reports : List (Report Command)) (leader : LeaderState Command) → ((promise_counted from ballot reports leader).1.is_first ≡ leader.is_first) × ((node : ℕ) → is_member leader.promisers node ≡ true → is_member (promise_counted from ballot reports leader).1.promisers node ≡ true)
+  more_promisers from ballot reports leader =
+      either_way (λ (x : Bool × LeaderState Command). (x.1.is_first ≡ leader.is_first) × ((node : ℕ) → is_member leader.promisers node ≡ true → is_member x.1.promisers node ≡ true)) (same_ballot ballot leader.ballot && not (is_member leader.promisers from)) _ _
+      (refl, λ node m. among-member (leader.promisers ++ from ∷ []) node (Among-left node leader.promisers (from ∷ []) (member-among leader.promisers node m))) (refl, λ node m. m)
+
+  polls : (from : ℕ) (ballot : Ballot) (reports : List (Report Command)) (r : ReplicaState) (mails : List Mail) → E (r, mails) → E (record r { leader = (promise_counted from ballot reports r.leader).1 }, mails)
+  polls from ballot reports r mails k =
+      let more = more_promisers from ballot reports r.leader in
+      leads_with r mails (promise_counted from ballot reports r.leader).1 (promise_ballot from ballot reports r.leader) more.0 more.1 k
+
+  promises : (promised : Ballot) (acceptor : AcceptorState Command) (r : ReplicaState) (mails : List Mail) → Brings heard_body acceptor.promised → acceptor.floor ≡ r.acceptor.floor → E (r, mails) → E (record r { acceptor = acceptor }, mails)
+  promises promised acceptor r mails b same k = record { rises = k.rises; asks = k.asks; promise = inr b; leads = k.leads; floored = (let low = k.floored in omega (arith, low, same)) }
+
+  -- ---- a state that is taken over
+
+  jumps : (slot : ℕ) (sent : Base) (sets : List (List ℕ)) (from : ℕ) (r : ReplicaState) (mails : List Mail) → next r ≤ slot → E (r, mails) → E (record (jumped slot sent sets r) { hint = Some from }, mails)
+  unfolding jumped forgotten
+  jumps slot sent sets from r mails later k = record {
+    rises = k.rises;
+    asks = k.asks;
+    promise = k.promise;
+    leads = k.leads;
+    floored = (let low = k.floored in let cut = floor_under slot (omega (arith, later)) in omega (arith, low, later, cut));
+  }
+
+  -- ---- the walk
+
+  pub move_states : FixedStates base me move_facts
+  move_states = record {
+    prepare_seen = λ from group ballot from_slot h. tt;
+    accept_seen = λ from group ballot slot command h. tt;
+    nack_seen = λ from group promised h. tt;
+    turned = λ command answer backlog r mails on e turn f k. record { rises = k.rises; asks = one_answered r.me (Within r.top.round) (talk r.top.round r.me) r.group.core.id answer command mails k.asks; promise = k.promise; leads = k.leads; floored = k.floored };
+    offers_value = λ slot set command r mails on near none e of f k. offers slot set command r mails on f k;
+    offers_noop = λ slot set r mails on near none of f k. offers slot set Noop r mails on f k;
+    offers_call = λ slot set command backlog r mails on near none e of f k. (let low = own_round r mails on f in offers_low slot set command (record r { backlog = backlog }) mails low k);
+    counted_entry = λ command r mails on e f k. enters_moved true command r mails (ready_fixed base r.ready (next r) command e f.fixed.ready) f k;
+    learnt_entry = λ from group command r mails h f k. enters_moved false command r mails h.0.2 f k;
+    seen = λ ballot r mails s t goes f k. higher ballot r mails t k;
+    overtaken = λ ballot r mails s on t f k. cond_both (below r.top ballot) (record r { top = ballot }) r (λ (x : ReplicaState). E (stopped (Some ballot.node) (x, mails))) (λ up. stops (Some ballot.node) _ (record r { top = ballot }) mails (higher ballot r mails up k)) (λ _. stops (Some ballot.node) _ r mails k);
+    polled = λ from group ballot reports r mails on h f k. polls from ballot reports r mails k;
+    counts = λ from group ballot slot set count r mails on h e f k. votes from ballot slot set r mails k;
+    chosen = λ from group ballot slot set command r mails on h e f k. votes from ballot slot set r mails k;
+    promised = λ from group ballot from_slot r mails h top goes t f k. hints ballot (record r { acceptor = after_promise ballot r.acceptor }) _
+        (promises ballot (after_promise ballot r.acceptor) r _ (subst (λ (body : MailBody). Brings body ballot) h.1 refl) refl (says r from (Promise (name_of r) ballot (reports_from from_slot r.acceptor.accepted)) mails tt k));
+    accepted = λ from group report r mails h top goes t f k. hints report.ballot (record r { acceptor = after_accept report r.acceptor }) _
+        (promises report.ballot (after_accept report r.acceptor) r _ (subst (λ (body : MailBody). Brings body report.ballot) h.1 refl) refl (says r from (Accepted (name_of r) report.ballot report.slot) mails tt k));
+    nacks = λ to r mails m f k. says r to (Nack (name_of r) r.acceptor.promised) mails tt k;
+    installs = λ to r mails m f k. says r to (Install (name_of r) (next r - 1) (base_of r.group) r.sets) mails tt k;
+    recalls = λ to slot command r mails m e f k. says r to (Learn (name_of r) slot command) mails tt k;
+    wants = λ to slot r mails m low f k. says r to (Ask (name_of r) (next r)) mails tt k;
+    stops = λ from r mails m on f k. stops (Some from) _ r mails k;
+    jumps = λ from group slot sent sets r mails h later off f k. jumps slot sent sets from r mails later k;
+    refuses = λ client seq op answer r mails e f k. says r (client_actor client) (Answer (name_of r) seq answer) mails tt k;
+    requested = λ from group client seq op r mails h e none f k. k;
+    requested_again = λ from group client seq other op r mails h e some more f k. k;
+  }
+
+  -- a row of mail moves a replica so
+  pub mailed_moves : start.acceptor.floor < next start → IsFixedBody base heard_from me heard_body → F (start, []) → F (mailed heard_from heard_body (start, [])).0 × E (mailed heard_from heard_body (start, [])).0
+  mailed_moves low h f =
+      (takes_mail base me (both_walk base me fresh move_facts move_states) heard_from heard_body (start, []) (h, refl)
+      (f, record { rises = omega arith; asks = tt; promise = inl refl; leads = λ on. inr (on, refl, refl, λ node m. m); floored = low })).0
+
+  -- the pump, of the replica that the row found
+  pub pumped_moves : start.acceptor.floor < next start → F (start, []) → F (pumped (start, [])) × E (pumped (start, [])) × (next (pumped (start, [])).0 ≡ next start)
+  pumped_moves low f =
+      let k : F (start, []) × E (start, []) = (f, record { rises = omega arith; asks = tt; promise = inl refl; leads = λ on. inr (on, refl, refl, λ node m. m); floored = low }) in
+      let w : FixedWalk base me = both_walk base me fresh move_facts move_states in
+      let after = pumps base me w (start, []) k in (after.0, after.1, pumps_next base me w (start, []) k)
+
+  -- a tick, which may elect the replica
+  pub tick_states : Elects → FixedTickStates base me move_facts
+  tick_states may = record {
+    elected = λ r mails off f k. record {
+      rises = (let low = k.rises in omega (arith, low));
+      asks = all_sent r.me (Within (r.top.round + 1)) (Prepare (name_of r) (record { round = r.top.round + 1; node = r.me }) (next r)) (λ to ms m. pushed (r.top.round + 1) r.me to (Prepare (name_of r) (record { round = r.top.round + 1; node = r.me }) (next r)) ms (omega arith) m) (open_nodes r.sets) mails
+          (Each-weaker (λ (mail : Mail). AsksWithin r.top.round mail.body) (λ (mail : Mail). AsksWithin (r.top.round + 1) mail.body) (λ mail a. within_more r.top.round (r.top.round + 1) mail.body (omega arith) a) mails k.asks);
+      promise = k.promise;
+      leads = λ on. inl may;
+      floored = k.floored;
+    };
+    reasks = λ to slot command r mails m on e f k. says r to (Accept (name_of r) r.leader.ballot slot command) mails (own_round r mails on f) k;
+    relearns = λ to command r mails m on e f k. says r to (Learn (name_of r) (next r - 1) command) mails tt k;
+  }
+
+  pub ticked_moves : Elects → (drawer : Drawer) → start.acceptor.floor < next start → F (start, []) → F (tick_row false drawer (start, [])) × E (tick_row false drawer (start, []))
+  ticked_moves may drawer low f =
+      ticks base me (both_walk base me fresh move_facts move_states) (both_ticks base me fresh move_facts move_states (tick_states may)) drawer (start, [])
+      (f, record { rises = omega arith; asks = tt; promise = inl refl; leads = λ on. inr (on, refl, refl, λ node m. m); floored = low })
