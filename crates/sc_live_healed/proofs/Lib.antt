@@ -37,3 +37,4 @@ pub mod MovedReplicas
 pub mod PollAnswers
 pub mod PollRows
 pub mod PollTurns
+pub mod LivingActors
