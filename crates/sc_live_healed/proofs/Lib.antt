@@ -31,10 +31,10 @@ pub mod UntoldRows
 pub mod TakenJournals
 pub mod VotesInTurns
 pub mod VotesOfTurns
+pub mod LivingActors
 pub mod IdleNodes
 pub mod FixedBesides
 pub mod MovedReplicas
 pub mod PollAnswers
 pub mod PollRows
 pub mod PollTurns
-pub mod LivingActors
