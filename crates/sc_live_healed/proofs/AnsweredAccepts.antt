@@ -1,12 +1,12 @@
 -- A replica of a group that is not reshaped answers each Accept.
-use Rattle.std.proofs.Common.{◌≡◌, ℕ, ◌+◌, ◌-◌, ◌<◌, ◌≤◌, ◌&&◌, not, nat_le, Bool, true, false, true≢false, cond, List, [], ◌∷◌, ◌++◌, Option, Some, None, ◌⊎◌, inl, inr, refl, sym, ◌∙◌, ap, subst, arith}
-use Rattle.std.proofs.lemmas.Bool.{cond_both, cond-true, and_from, leb-true}
-use Rattle.sc_base.specs.Definitions.{Among, is_member}
-use Rattle.sc_node_table.specs.Values.{Ballot, Draw, Base, Command, Core, Mail, MailBody, Accept, Accepted, Nack, Install, Report, AcceptAnswer}
+use Rattle.std.proofs.Common.{◌≡◌, ℕ, ◌-◌, ◌&&◌, not, nat_le, Bool, true, false, cond, List, Option, Some, refl, ◌∙◌, ap, subst, arith}
+use Rattle.std.proofs.lemmas.Bool.{cond_both, leb-true}
+use Rattle.sc_base.specs.Definitions.{Among}
+use Rattle.sc_node_table.specs.Values.{Ballot, Draw, Base, Command, Mail, Accepted, Nack, Install, AcceptAnswer}
 use Rattle.sc_words.specs.declared.paxos.answers.AcceptAnswer.TheVariants as Votes
-use Rattle.sc_words.specs.paxos.Definitions.{below, accepted as accepted_by, AcceptorState, after_accept, may_accept}
+use Rattle.sc_words.specs.paxos.Definitions.{below, AcceptorState, after_accept, may_accept}
 use Rattle.sc_group_table.specs.machine.Definitions.{base_of}
-use Rattle.sc_node_table.specs.Definitions.{stopped, ended, saw, install_to, sent, ReplicaState, Place, name_of, next, last_slot, hinted, accepted_to, took, accept_row}
+use Rattle.sc_node_table.specs.Definitions.{stopped, ended, saw, install_to, sent, ReplicaState, Place, name_of, next, accepted_to, took, accept_row}
 use Rattle.sc_law_walks.proofs.Lemmas.{either_way}
 use Rattle.sc_live_plain.proofs.RepeatedMail.{last_among}
 use Rattle.sc_live_healed.specs.Definitions.{mail_between, IsAnswered, Accepts, Refuses, Installs, IsInBounds}

@@ -1,17 +1,16 @@
 -- Behind turns of which one is the tick of a node that is alive, each settled replica of the node is idle, where more than half of its group's members are alive.
-use Rattle.std.proofs.Common.{◌≡◌, ℕ, ◌-◌, ◌^◌, Bool, true, List, [], ◌∷◌, ◌++◌, Some, false, refl, sym, ◌∙◌, ap, subst, inr, append-nil}
+use Rattle.std.proofs.Common.{◌≡◌, ℕ, ◌-◌, ◌^◌, Bool, true, List, [], ◌∷◌, ◌++◌, Some, false, sym, ◌∙◌, subst, inr, append-nil}
 use Rattle.sc_base.specs.Definitions.{Among, Each, same_draw}
 use Rattle.sc_base.proofs.Lemmas.{draw_is}
-use Rattle.sc_node_table.specs.Values.{Seat, Row, Base, Core, Mail, OrderLine, Node}
+use Rattle.sc_node_table.specs.Values.{Seat, Base, Mail, Node}
 use Rattle.sc_actor.specs.Definitions.{value, is_quiet, may_get, numbers_of}
 use Rattle.sc_actor.proofs.Lemmas.{lawful-prefix}
-use Rattle.sc_live_orderly.specs.Definitions.{is_told}
 use Rattle.sc_node_table.specs.Definitions.{NodeState, ReplicaState, name_of, replica_of, is_node, settled}
 use Rattle.sc_words.proofs.PaxosProofs.Lemmas.{Each-among, Each-weaker, find_found}
 use Rattle.sc_scenario.specs.declared.scenario.scenarios.Scenario.{Scenario}
 use Rattle.sc_scenario.specs.scenario.Definitions.{IsBounded}
 use Rattle.sc_meaning.specs.sound.Definitions.{Player, Lawful, as_nodes, player_table, schedule, system_of}
-use Rattle.sc_live_orderly.specs.Definitions.{Turn, pending_mail, HasTurns}
+use Rattle.sc_live_orderly.specs.Definitions.{Turn, HasTurns}
 use Rattle.sc_live_orderly.proofs.PendingMail.{none_pending}
 use Rattle.sc_live_healed.specs.Definitions.{IsFixedReplica, VotesAreUnderWay, IsInBounds, LivingMajority, IsIdle, IsSettledOrStopped}
 use Rattle.sc_live_healed.proofs.FixedNodes.{IsOne, name_one}

@@ -1,17 +1,16 @@
 -- Where no mail is pending, a settled replica of which the votes of living members were under way is idle.
-use Rattle.std.proofs.Common.{◌≡◌, ℕ, ◌+◌, ◌<◌, ◌≤◌, eqb, Bool, true, false, true≢false, List, [], ◌∷◌, length, Option, Some, None, ◌⊎◌, inl, inr, refl, sym, ◌∙◌, ap, subst, arith}
+use Rattle.std.proofs.Common.{◌≡◌, ℕ, ◌+◌, ◌<◌, ◌≤◌, eqb, Bool, true, true≢false, List, [], ◌∷◌, Some, inl, inr, refl, sym, ◌∙◌, ap, subst, arith}
 use Rattle.std.proofs.lemmas.Bool.{cases_lt, eq-eqb}
-use Rattle.sc_base.specs.Definitions.{Among, Each, is_majority, is_member}
+use Rattle.sc_base.specs.Definitions.{Among, Each, is_member}
 use Rattle.sc_paxos_law.proofs.Lemmas.{among-member}
 use Rattle.sc_words.proofs.PaxosProofs.Lemmas.{Each-among}
-use Rattle.sc_node_table.specs.Values.{Ballot, Base, Command, Flight, Mail, Report}
+use Rattle.sc_node_table.specs.Values.{Ballot, Base, Command, Flight, Report}
 use Rattle.sc_words.specs.paxos.Definitions.{kept_voters}
-use Rattle.sc_node_table.specs.Definitions.{NodeState, ReplicaState, replica_of, next, settled, last_slot, slots_ahead}
-use Rattle.sc_live_plain.specs.Definitions.{takers}
+use Rattle.sc_node_table.specs.Definitions.{NodeState, ReplicaState, replica_of, next, settled, last_slot}
 use Rattle.sc_live_plain.proofs.Lemmas.{in_range, range_yes, one_yes, one_if}
 use Rattle.sc_live_plain.proofs.SlotCounts.{count-cons, entries_at}
 use Rattle.sc_live_plain.proofs.LeadingReplicas.{flights_at}
-use Rattle.sc_live_healed.specs.Definitions.{IsFixedReplica, IsUndecided, HasOfferedAll, TakesSlots, HasVoted, IsAnswered, Accepts, Refuses, Installs, IsVoteUnderWay, Counted, Asked, Answered, VotesAreUnderWay, LivingMajority, IsIdle}
+use Rattle.sc_live_healed.specs.Definitions.{IsFixedReplica, IsUndecided, TakesSlots, HasVoted, IsAnswered, Accepts, Refuses, Installs, IsVoteUnderWay, Counted, Asked, Answered, VotesAreUnderWay, LivingMajority, IsIdle}
 use Rattle.sc_live_healed.proofs.ExecutedSlots.{range_none}
 use Rattle.sc_live_healed.proofs.LivingMajorities.{living_decide}
 

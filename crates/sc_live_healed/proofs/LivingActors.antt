@@ -1,21 +1,21 @@
 -- Actors with numbers of nodes are nodes in each prefix of a journal, and in turns nobody crashes.
-use Rattle.std.proofs.Common.{◌≡◌, ℕ, ◌+◌, ◌<◌, ◌≤◌, ◌&&◌, ◌||◌, not, leb, eqb, Bool, true, false, true≢false, cond, List, [], ◌∷◌, ◌++◌, map, find, Option, Some, None, ◌⊎◌, inl, inr, refl, sym, ◌∙◌, ap, subst, arith, append-nil, append_assoc}
+use Rattle.std.proofs.Common.{◌≡◌, ℕ, ◌&&◌, ◌||◌, not, leb, eqb, Bool, true, false, true≢false, cond, List, [], ◌∷◌, ◌++◌, map, find, Option, Some, None, refl, sym, ◌∙◌, ap, subst, arith, append-nil, append_assoc}
 use Rattle.std.specs.List.{list_any}
 use Rattle.std.proofs.lemmas.List.{append_cancel_left}
 use Rattle.std.proofs.lemmas.List.Folds.{list_any-append}
 use Rattle.std.proofs.lemmas.Bool.{cond_both, and_right, or_from, lt-leb}
-use Rattle.sc_base.specs.Definitions.{Among, Each, client_actor, most_nodes}
+use Rattle.sc_base.specs.Definitions.{Each, client_actor, most_nodes}
 use Rattle.sc_base.proofs.Lemmas.{map-some}
-use Rattle.sc_node_table.specs.Values.{Seat, Row, Event, Deliver, OrderLine, Base, Mail, Node, Client}
+use Rattle.sc_node_table.specs.Values.{Seat, Row, Event, OrderLine, Base, Mail, Node, Client}
 use Rattle.sc_actor.specs.declared.rows.Event.TheVariants.{Tick as TickEvent, Go as GoEvent}
-use Rattle.sc_actor.specs.Definitions.{mails, acted, input_of, replay, value, may_get, has_crashed, has_started, is_crash, numbers_of, acts, row_of, lowest, line_row, System}
+use Rattle.sc_actor.specs.Definitions.{acted, input_of, replay, value, may_get, has_crashed, has_started, is_crash, numbers_of, acts, row_of, line_row, System}
 use Rattle.sc_words.proofs.PaxosProofs.Lemmas.{Each-among, Each-append, Each-from_All, find_found}
 use Rattle.sc_node_table.specs.Definitions.{NodeState, is_node, numbers_from}
 use Rattle.sc_scenario.specs.declared.scenario.scenarios.Scenario.{Scenario}
 use Rattle.sc_scenario.specs.declared.scenario.scenarios.Asks.{Asks as Requests}
 use Rattle.sc_scenario.specs.scenario.Definitions.{IsBounded, IsBoundedClient}
-use Rattle.sc_meaning.specs.sound.Definitions.{Player, as_nodes, births, client_seat, client_seats, node_seat, player_table, route_of, system_of}
-use Rattle.sc_live_orderly.specs.Definitions.{Kick, Ticks, Starts, Turn, kick_line, AreDelivered, IsTurn, HasTurns}
+use Rattle.sc_meaning.specs.sound.Definitions.{Player, as_nodes, births, client_seat, client_seats, node_seat, player_table, route_of}
+use Rattle.sc_live_orderly.specs.Definitions.{Kick, Ticks, Starts, Turn, kick_line, AreDelivered, HasTurns}
 use Rattle.sc_live_orderly.specs.Turns.{as_list}
 use Rattle.sc_live_orderly.proofs.PendingMail.{takes_lowest}
 use Rattle.sc_live_healed.proofs.FixedJournals.{Rows, IsOf}
@@ -104,10 +104,11 @@ module _ (s : System Player Mail OrderLine) where
       let rest = turns_kind t.0 turns after t.2 in
       let first = first_kind rows turn.kick turn.who t.1.first t.1.first_is in
       let others = delivered_kind (rows ++ as_list t.1.first) t.1.deliveries t.1.delivered in
-      let K : Row Mail OrderLine → Type 0 = λ row. is_crash row.event ≡ false in
-      (as_list t.1.first ++ (t.1.deliveries ++ rest.0),
+      let K : Row Mail OrderLine → Type 0 = λ row. is_crash row.event ≡ false in (
+        as_list t.1.first ++ (t.1.deliveries ++ rest.0),
         rest.1 ∙ (ap (λ (rs : Rows). rs ++ rest.0) t.1.after_is ∙ (append_assoc (rows ++ as_list t.1.first) t.1.deliveries rest.0 ∙ append_assoc rows (as_list t.1.first) (t.1.deliveries ++ rest.0))),
-        Each-append K (as_list t.1.first) (t.1.deliveries ++ rest.0) first (Each-append K t.1.deliveries rest.0 others rest.2))
+        Each-append K (as_list t.1.first) (t.1.deliveries ++ rest.0) first (Each-append K t.1.deliveries rest.0 others rest.2),
+      )
 
   none_crash : (who : ℕ) (more : Rows) → AreKind more → list_any (λ (row : Row Mail OrderLine). eqb row.who who && is_crash row.event) more ≡ false
   none_crash who [] k = refl

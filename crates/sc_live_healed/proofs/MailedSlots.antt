@@ -1,13 +1,11 @@
 -- Each mail leaves a replica of a group that is not reshaped stopped, or with its slots taken as they should be; and so does its birth.
-use Rattle.std.proofs.Common.{◌≡◌, ℕ, ◌+◌, ◌<◌, ◌≤◌, ◌==◌, Bool, true, false, List, [], ◌∷◌, length, count_by, true≢false, Option, Some, None, ◌⊎◌, inl, inr, refl, sym, ◌∙◌, ap, subst, arith}
+use Rattle.std.proofs.Common.{◌≡◌, ℕ, ◌+◌, ◌<◌, ◌==◌, true, false, List, [], count_by, true≢false, None, ◌⊎◌, inl, inr, refl, sym, ◌∙◌, ap, subst, arith}
 use Rattle.std.proofs.lemmas.Bool.{cases_Bool, and_parts}
 use Rattle.sc_base.specs.Definitions.{Among, Each, is_member, IsRoster}
-use Rattle.sc_node_table.specs.Values.{Base, Command, Free, Flight, Report, MailBody, Request, Answer, Prepare, Promise, Accept, Accepted, Nack, Learn, Ask, Install, TxPrepare, TxVote, TxOutcome, TxElsewhere, TxWatch, TxWatched, Told}
-use Rattle.sc_words.proofs.PaxosProofs.Lemmas.{Each-from}
-use Rattle.sc_node_table.specs.Definitions.{ReplicaState, Place, Executed, next, settled, may_offer, first_set, slots_ahead, born_replica, mailed}
+use Rattle.sc_node_table.specs.Values.{Base, Command, Free, Flight, Report, MailBody, Request, Answer, Prepare, Promise, Accept, Accepted, Nack, Learn, Ask, Install}
+use Rattle.sc_node_table.specs.Definitions.{ReplicaState, Place, next, settled, may_offer, first_set, slots_ahead, born_replica, mailed}
 use Rattle.sc_live_plain.specs.Definitions.{AreTaken, takers}
-use Rattle.sc_live_plain.proofs.Lemmas.{in_range, one_if}
-use Rattle.sc_live_healed.specs.Definitions.{IsFixedCommand, IsFixedReplica, IsFixedBody, IsFollower, KeepsBallots, IsUndecided, TakesSlots, Counts, IsCarried}
+use Rattle.sc_live_healed.specs.Definitions.{IsFixedReplica, IsFixedBody, IsFollower, KeepsBallots, IsUndecided, TakesSlots, Counts, IsCarried}
 use Rattle.sc_live_healed.proofs.ExecutedSlots.{range_none}
 use Rattle.sc_live_healed.proofs.ReadySlots.{HasServed, served_takes}
 use Rattle.sc_live_healed.proofs.ServedRows.{requests, prepares, promises_count, accepts, nacks, learns, asks, installs, unchanged}

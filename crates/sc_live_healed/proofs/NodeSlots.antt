@@ -1,19 +1,17 @@
 -- A node's replicas take their slots as they should after each of its steps, where its groups are not reshaped.
-use Rattle.std.proofs.Common.{◌≡◌, ℕ, ◌-◌, ◌^◌, Bool, true, false, List, [], ◌∷◌, ◌++◌, Option, Some, None, ◌⊎◌, inl, inr, refl, sym, ◌∙◌, ap, subst}
+use Rattle.std.proofs.Common.{◌≡◌, ℕ, ◌-◌, ◌^◌, Bool, true, false, List, [], ◌∷◌, ◌++◌, Some, ◌⊎◌, inl, inr, sym, ◌∙◌, ap, subst}
 use Rattle.sc_base.specs.Definitions.{Among, Each, Drawer, same_draw, is_member, IsRoster}
-use Rattle.sc_words.proofs.PaxosProofs.Lemmas.{Each-among, Each-weaker, Each-from, find_found}
+use Rattle.sc_words.proofs.PaxosProofs.Lemmas.{Each-among, Each-weaker, find_found}
 use Rattle.sc_node_table.specs.Values.{Draw, Base, Core, Input, Got, OrderLine, Mail}
 use Rattle.sc_actor.specs.declared.rows.Input.TheVariants.{Tick, Go, Told as ToldInput}
 use Rattle.sc_node_table.specs.Definitions.{NodeState, ReplicaState, Place, name_of, replica_of, with_replica, ticked, on_tick, tick_row, names_after_tick, mailed, node_table}
 use Rattle.sc_law_walks.proofs.Lemmas.{either_way}
-use Rattle.sc_live_plain.proofs.RepeatedMail.{among_push}
-use Rattle.sc_live_healed.proofs.FixedWalks.{IsFixedPlace}
-use Rattle.sc_live_healed.proofs.FixedNodes.{AreFresh, MayTake, IsOne, One, name_one, one_ticks}
+use Rattle.sc_live_healed.proofs.FixedNodes.{AreFresh, MayTake, One, one_ticks}
 use Rattle.sc_live_healed.proofs.NodeMail.{TakesMail, PassesMail, mail_taken}
 use Rattle.sc_live_healed.proofs.ServingReplicas.{Grows, IsAsked, asked_still}
 use Rattle.sc_live_healed.proofs.MailedSlots.{mailed_takes}
-use Rattle.sc_live_healed.proofs.TickedSlots.{AskAll, HasTicked, tick_takes}
-use Rattle.sc_live_healed.specs.Definitions.{IsFixedReplica, KeepsBallots, IsFixedBody, IsFixedNode, IsFixedMail, TakesSlots, AllTakeSlots}
+use Rattle.sc_live_healed.proofs.TickedSlots.{AskAll, tick_takes}
+use Rattle.sc_live_healed.specs.Definitions.{IsFixedReplica, IsFixedBody, IsFixedNode, TakesSlots, AllTakeSlots}
 
 -- Of these groups, the members are one to nine nodes.
 abbrev pub AreRosters : List Base → Type 0
@@ -80,9 +78,16 @@ module _ (bases : List Base) (fresh : AreFresh bases) (rosters : AreRosters base
       let f = fresh.each base one.1 node.me one.2 in
       let here : is_member base.core.members r.me ≡ true = ap (is_member base.core.members) one.3 ∙ one.2 in
       let t = tick_takes base f.free f.stands r here one.4 (takes base one.1 one.4) drawer mails in
-      let p = one_ticks bases fresh node k drawer r mails one in
-      (base, one.1, one.4, t.takes, subst (λ (place : Place). IsFixedReplica base place.0) (sym p.1) p.0.fixed, subst (λ (place : Place). place.0.me ≡ node.me) (sym p.1) p.0.me_is, t.asked,
-        subst (λ (place : Place). Grows mails place.1) (sym p.1) (λ mail a. among_left mails (tick_row false drawer (r, [])).1 mail a))
+      let p = one_ticks bases fresh node k drawer r mails one in (
+        base,
+        one.1,
+        one.4,
+        t.takes,
+        subst (λ (place : Place). IsFixedReplica base place.0) (sym p.1) p.0.fixed,
+        subst (λ (place : Place). place.0.me ≡ node.me) (sym p.1) p.0.me_is,
+        t.asked,
+        subst (λ (place : Place). Grows mails place.1) (sym p.1) (λ mail a. among_left mails (tick_row false drawer (r, [])).1 mail a),
+      )
     where
       among_left : (xs ys : List Mail) (x : Mail) → Among x xs → Among x (xs ++ ys)
       among_left [] ys x a = absurd a
@@ -98,13 +103,23 @@ module _ (bases : List Base) (fresh : AreFresh bases) (rosters : AreRosters base
       let place : Place = tick_row false drawer (r, mails) in
       let one = one_tick drawer r mails here.0 takes.0 in
       let rest = tick_all (names_after_tick false drawer r) replicas place.1 here.1 takes.1 in
-      let last : List Mail = (ticked false (names_after_tick false drawer r) replicas place.1).1 in
-      (((one.0, one.1, one.2, record {
-        takes = one.3;
-        fixed = one.4;
-        me_is = one.5;
-        asked = λ low. Each-weaker (IsAsked one.0 place.0.me place.0.leader.ballot place.1) (IsAsked one.0 place.0.me place.0.leader.ballot last) (λ flight a. asked_still one.0 place.0.me place.0.leader.ballot place.1 last flight rest.1 a) place.0.leader.flights (one.6 low);
-      }), rest.0), λ mail a. rest.1 mail (one.7 mail a))
+      let last : List Mail = (ticked false (names_after_tick false drawer r) replicas place.1).1 in (
+        (
+          (
+            one.0,
+            one.1,
+            one.2,
+            record {
+              takes = one.3;
+              fixed = one.4;
+              me_is = one.5;
+              asked = λ low. Each-weaker (IsAsked one.0 place.0.me place.0.leader.ballot place.1) (IsAsked one.0 place.0.me place.0.leader.ballot last) (λ flight a. asked_still one.0 place.0.me place.0.leader.ballot place.1 last flight rest.1 a) place.0.leader.flights (one.6 low);
+            },
+          ),
+          rest.0,
+        ),
+        λ mail a. rest.1 mail (one.7 mail a),
+      )
 
   all_after : (mails : List Mail) (replicas after : List ReplicaState) → Ticks mails replicas after → Each (Takes bases fresh) after
   all_after mails [] [] t = tt

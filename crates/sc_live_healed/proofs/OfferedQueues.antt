@@ -1,16 +1,16 @@
 -- What the pump leaves of a replica that runs, where its group is not reshaped: all open slots are taken, or nothing is queued and each report is of a slot that is taken.
-use Rattle.std.proofs.Common.{◌≡◌, ℕ, zero, suc, ◌+◌, ◌<◌, ◌≤◌, ◌&&◌, ◌||◌, not, ltb, eqb, Bool, true, false, cond, List, [], ◌∷◌, ◌++◌, replicate, Option, Some, None, ◌⊎◌, inl, inr, refl, sym, ◌∙◌, ap, subst, arith}
+use Rattle.std.proofs.Common.{◌≡◌, ℕ, zero, suc, ◌+◌, ◌<◌, ◌≤◌, ◌&&◌, eqb, Bool, true, false, List, [], ◌∷◌, replicate, Option, Some, None, inl, inr, refl, sym, ◌∙◌, ap, subst, arith}
 use Rattle.std.specs.Prelude.{is_some, nat_le, nat_lt}
 use Rattle.std.specs.List.{list_any}
 use Rattle.std.specs.Option.{option_map}
-use Rattle.std.proofs.lemmas.Bool.{cond_both, cond-true, cond-false, cases_lt, eqb-false, ltb-false, and_parts, and_from, both_ways, le-leb, leb-true, or_parts, cases_eq}
-use Rattle.sc_base.specs.Definitions.{Among, Each, is_member}
-use Rattle.sc_node_table.specs.Values.{Ballot, Draw, Op, Base, Command, Noop, Call, Core, Lock, Free, Mail, MailBody, Accept, Must, Gap, Flight, Report}
+use Rattle.std.proofs.lemmas.Bool.{cond_both, cond-false, cases_lt, ltb-false, and_parts, and_from, both_ways, le-leb, leb-true, or_parts, cases_eq}
+use Rattle.sc_base.specs.Definitions.{Among, Each}
+use Rattle.sc_node_table.specs.Values.{Ballot, Op, Base, Command, Noop, Call, Core, Free, Mail, MailBody, Accept, Must, Gap, Flight, Report}
 use Rattle.sc_words.specs.declared.paxos.answers.Must.TheVariants.{Value, Free as Open}
 use Rattle.sc_words.specs.ideal.Definitions.{key_of, holds_key}
 use Rattle.sc_words.specs.paxos.Definitions.{must, must_without, choice, names_above}
-use Rattle.sc_words.proofs.PaxosProofs.Lemmas.{Each-push, Each-weaker, Each-among, Each-from, choice_among, choice_best}
-use Rattle.sc_node_table.specs.Definitions.{sent_all, Found, is_act, next_queued, from_backlog, from_acts, from_queues, found_by, found_for, offered, pumped_from, pumped, ReplicaState, Place, name_of, next, first_set, settled, may_offer, taken_at, under_way, open_slots, is_idle, last_slot, slots_ahead}
+use Rattle.sc_words.proofs.PaxosProofs.Lemmas.{Each-push, Each-among, Each-from, choice_among, choice_best}
+use Rattle.sc_node_table.specs.Definitions.{sent_all, is_act, next_queued, from_backlog, from_acts, from_queues, found_by, found_for, offered, pumped_from, pumped, ReplicaState, Place, name_of, next, first_set, settled, may_offer, taken_at, under_way, open_slots, is_idle, last_slot, slots_ahead}
 use Rattle.sc_live_plain.specs.Definitions.{takers}
 use Rattle.sc_live_plain.proofs.Lemmas.{mail_of, in_range, range_yes, range_behind, one_if, one_yes, one_no}
 use Rattle.sc_live_plain.proofs.SlotCounts.{count-push}
@@ -45,11 +45,11 @@ names_up slot (report ∷ reports) e =
 below_open : (slot : ℕ) (reports : List (Report Command)) → (names_above slot reports ≡ false) × (choice slot reports ≡ None) → Each (λ (report : Report Command). report.slot < slot) reports
 below_open slot reports e =
     Each-from (λ (report : Report Command). report.slot < slot) reports (λ report a. (
-      let low = Each-among (λ (x : Report Command). x.slot ≤ slot) reports report (names_up slot reports e.0) a in
-      elim (cases_eq report.slot slot) [
-        | inl here ↦ (let best = choice_best slot reports report a here in cc (best.1, e.1))
-        | inr other ↦ omega (arith, low, other)
-      ]))
+    let low = Each-among (λ (x : Report Command). x.slot ≤ slot) reports report (names_up slot reports e.0) a in
+    elim (cases_eq report.slot slot) [
+      | inl here ↦ (let best = choice_best slot reports report a here in cc (best.1, e.1))
+      | inr other ↦ omega (arith, low, other)
+    ]))
 
 module _ (base : Base) (me : ℕ) (ballot : Ballot) (Held : Flight Command → Type 0) (free : base.core.lock ≡ Free) (stands : base.core.gone ≡ None) where
   abbrev S : ℕ → Place → Type 0
@@ -116,11 +116,14 @@ module _ (base : Base) (me : ℕ) (ballot : Ballot) (Held : Flight Command → T
 
     asked : IsAsked base me ballot (sent_all r.me base.core.members (Accept (name_of r) r.leader.ballot slot command) mails) (record { slot = slot; value = command; voters = None })
     asked member a =
-        inr (command, subst (λ (m : Mail). Among m (sent_all r.me base.core.members (Accept (name_of r) r.leader.ballot slot command) mails))
-        (ap (λ n. mail_of n member (Accept (name_of r) r.leader.ballot slot command)) k.me_is
-        ∙ ap (λ (core : Core). mail_of me member (Accept core.id r.leader.ballot slot command)) k.core
-        ∙ ap (λ b. mail_of me member (Accept base.core.id b slot command)) k.ballot_is)
-        (all_reached r.me (Accept (name_of r) r.leader.ballot slot command) base.core.members mails member a))
+        inr (
+          command,
+          subst (λ (m : Mail). Among m (sent_all r.me base.core.members (Accept (name_of r) r.leader.ballot slot command) mails))
+              (ap (λ n. mail_of n member (Accept (name_of r) r.leader.ballot slot command)) k.me_is
+              ∙ ap (λ (core : Core). mail_of me member (Accept core.id r.leader.ballot slot command)) k.core
+              ∙ ap (λ b. mail_of me member (Accept base.core.id b slot command)) k.ballot_is)
+              (all_reached r.me (Accept (name_of r) r.leader.ballot slot command) base.core.members mails member a),
+        )
 
     none_voted : IsUndecided base (record { slot = slot; value = command; voters = None })
     none_voted = record { voters = omega arith; undecided = none_decided base.core.members }

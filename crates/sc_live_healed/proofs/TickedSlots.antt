@@ -1,23 +1,21 @@
 -- A tick leaves a replica of a group that is not reshaped with its slots taken as they should be: each member whose vote is not counted is asked again, and an election finds nothing in flight.
-use Rattle.std.proofs.Common.{◌≡◌, ℕ, zero, suc, ◌+◌, ◌-◌, ◌^◌, ◌<◌, ◌≤◌, ◌&&◌, ◌||◌, not, eqb, Bool, true, false, true≢false, cond, List, [], ◌∷◌, ◌++◌, length, replicate, Option, Some, None, ◌⊎◌, inl, inr, refl, sym, ◌∙◌, ap, subst, arith}
+use Rattle.std.proofs.Common.{◌≡◌, ℕ, zero, suc, ◌+◌, ◌-◌, ◌^◌, ◌<◌, ◌≤◌, ◌||◌, not, eqb, Bool, true, false, true≢false, List, [], ◌∷◌, ◌++◌, length, replicate, Option, Some, None, inl, inr, refl, sym, ◌∙◌, ap, subst, arith}
 use Rattle.std.specs.Prelude.{is_some}
-use Rattle.std.specs.List.{filter}
 use Rattle.std.specs.Option.{option_map}
-use Rattle.std.proofs.lemmas.Bool.{cond_both, cond-true, cond-false, cases_lt, cases_eq, cases_Bool, and_parts, and_right, eqb-true, eq-eqb, ne_eqb, both_ways}
+use Rattle.std.proofs.lemmas.Bool.{cond_both, cond-false, cases_lt, cases_eq, cases_Bool, and_parts, and_right, eqb-true, both_ways}
 use Rattle.sc_base.specs.Definitions.{Among, Each, Drawer, is_member, is_majority}
-use Rattle.sc_node_table.specs.Values.{Ballot, Base, Command, Core, Lock, Free, Route, Mail, MailBody, Accept, Learn, Flight}
-use Rattle.sc_words.specs.paxos.Definitions.{below, flight_at, has_counted, kept_voters, entry_at, new_leader}
+use Rattle.sc_node_table.specs.Values.{Base, Command, Core, Lock, Free, Route, Mail, Accept, Flight}
+use Rattle.sc_words.specs.paxos.Definitions.{below, flight_at, has_counted, entry_at, new_leader}
 use Rattle.sc_words.specs.paxos.Votes.{voters_at}
 use Rattle.sc_words.proofs.PaxosProofs.Lemmas.{Each-among, Each-from, Each-weaker, Among-filter}
-use Rattle.sc_node_table.specs.Definitions.{elected, sent_all, open_nodes, wishing, pumped, waited_in, reminders, reminded, ReplicaState, Place, name_of, next, members, settled, may_offer, first_set, flying, taken_at, listed, taken_from, under_way, is_idle, open_slots, numbers_from, slots_ahead, asked_again, last_entry_sent, uncounted, tick_row}
-use Rattle.sc_live_plain.specs.Definitions.{takers}
-use Rattle.sc_live_plain.proofs.Lemmas.{mail_of, in_range, range_behind, one_no, one_yes}
+use Rattle.sc_node_table.specs.Definitions.{elected, sent_all, wishing, pumped, waited_in, reminders, reminded, ReplicaState, Place, name_of, next, members, settled, may_offer, first_set, flying, taken_at, listed, taken_from, under_way, is_idle, numbers_from, slots_ahead, asked_again, last_entry_sent, uncounted, tick_row}
+use Rattle.sc_live_plain.proofs.Lemmas.{mail_of, in_range, range_behind, one_no}
 use Rattle.sc_live_plain.proofs.SlotCounts.{find_some, one_if_most}
 use Rattle.sc_live_plain.proofs.LeadingReplicas.{flights_at, range_before, takes}
 use Rattle.sc_live_plain.proofs.Flights.{only_flight}
 use Rattle.sc_live_plain.proofs.RepeatedMail.{all_kept, all_reached}
 use Rattle.sc_live_steps.proofs.FollowingProofs.LeastMembers.{none_decided}
-use Rattle.sc_live_healed.specs.Definitions.{IsFixedCommand, IsFixedReplica, KeepsBallots, IsUndecided, TakesSlots, HasVoted}
+use Rattle.sc_live_healed.specs.Definitions.{IsFixedCommand, IsFixedReplica, IsUndecided, TakesSlots}
 use Rattle.sc_live_healed.proofs.ServingReplicas.{Grows, IsAsked, IsServing, IsUnderWay}
 use Rattle.sc_live_healed.proofs.ReadySlots.{HasServed, served_takes, pump_serves}
 use Rattle.sc_live_healed.proofs.VotedSlots.{flight_stands}
@@ -135,8 +133,11 @@ module _ (base : Base) (free : base.core.lock ≡ Free) (stands : base.core.gone
               let out : Among node (uncounted r flight.slot base.core.members) = Among-filter (λ x. not (has_counted flight.slot x r.leader)) base.core.members node n (ap not f) in
               let flies : flying r flight.slot ≡ Some flight.value = ap (option_map (λ (f : Flight Command). f.value)) found in
               let sent = again_asks r base.core.members slots_ahead (next r) flight.slot node flight.value mails open_.0 open_.1 flies out in
-              inr (flight.value, subst (λ (l : List (List ℕ)). Among (mail_of r.me node (Accept base.core.id r.leader.ballot flight.slot flight.value)) (asked_again r (next r) l mails)) (sym fixed.sets)
-              (subst (λ (core : Core). Among (mail_of r.me node (Accept core.id r.leader.ballot flight.slot flight.value)) (asked_again r (next r) (replicate slots_ahead base.core.members) mails)) fixed.group sent)))
+              inr (
+                flight.value,
+                subst (λ (l : List (List ℕ)). Among (mail_of r.me node (Accept base.core.id r.leader.ballot flight.slot flight.value)) (asked_again r (next r) l mails)) (sym fixed.sets)
+                    (subst (λ (core : Core). Among (mail_of r.me node (Accept core.id r.leader.ballot flight.slot flight.value)) (asked_again r (next r) (replicate slots_ahead base.core.members) mails)) fixed.group sent),
+              ))
         ]
 
     -- an idle replica has nothing in flight
@@ -204,7 +205,7 @@ module _ (base : Base) (free : base.core.lock ≡ Free) (stands : base.core.gone
   unfolding tick_row
   tick_takes drawer mails =
       let here : (is_some r.group.core.gone || not (is_member (members r) r.me)) ≡ false =
-          ap (λ (core : Core). is_some core.gone || not (is_member core.members r.me)) fixed.group ∙ ap (λ (o : Option Route). is_some o || not (is_member base.core.members r.me)) stands ∙ ap not member in
+      ap (λ (core : Core). is_some core.gone || not (is_member core.members r.me)) fixed.group ∙ ap (λ (o : Option Route). is_some o || not (is_member base.core.members r.me)) stands ∙ ap not member in
       subst HasTicked (sym (cond-false (is_some r.group.core.gone || not (is_member (members r) r.me)) (r, mails) _ here))
       (cond_both (not (settled r)) (elected (r, mails)) _ HasTicked (λ off. elects (so_not (settled r) off) mails)
       (λ f. (

@@ -1,20 +1,19 @@
 -- Accepted at a replica that runs, and whose group is not reshaped: the vote is counted, and the slots stay taken as they should be.
-use Rattle.std.proofs.Common.{◌≡◌, ℕ, ◌+◌, ◌-◌, ◌<◌, ◌≤◌, ◌&&◌, eqb, Bool, true, false, true≢false, cond, List, [], ◌∷◌, length, count_by, replicate, Option, Some, None, ◌⊎◌, inl, inr, refl, sym, ◌∙◌, ap, subst, arith}
+use Rattle.std.proofs.Common.{◌≡◌, ℕ, ◌+◌, ◌-◌, ◌<◌, ◌≤◌, ◌&&◌, eqb, true, false, List, [], ◌∷◌, length, Option, Some, None, ◌⊎◌, inl, inr, refl, sym, ◌∙◌, ap, subst, arith}
 use Rattle.std.specs.Prelude.{nat_lt, slice_get}
 use Rattle.std.proofs.lemmas.Bool.{cond_both, cond-true, cond-false, cases_lt, cases_eq, eqb-true, eqb-false, eq-eqb, ne_eqb, le-ltb, lt-ltb, and_from, and_parts, both_ways}
 use Rattle.sc_base.specs.Definitions.{Among, Each, same_ballot, is_majority, is_member, IsRoster}
 use Rattle.sc_base.proofs.Lemmas.{ballot_itself}
-use Rattle.sc_node_table.specs.Values.{Ballot, Draw, Base, Command, Free, Mail, MailBody, Accepted, Flight, Counted, Chosen, NotYet}
-use Rattle.sc_words.specs.paxos.Definitions.{LeaderState, flight_at, without_flight, without_flight_at, kept_voters, voters_after, with_voters, vote_at, counted}
+use Rattle.sc_node_table.specs.Values.{Ballot, Draw, Base, Command, Free, Mail, Accepted, Flight, Counted, Chosen, NotYet}
+use Rattle.sc_words.specs.paxos.Definitions.{LeaderState, flight_at, without_flight, without_flight_at, kept_voters, voters_after, with_voters, vote_at}
 use Rattle.sc_words.proofs.PaxosProofs.Lemmas.{find_found, Each-among, Each-from}
-use Rattle.sc_node_table.specs.Definitions.{has_room, executed, ReplicaState, Place, Executed, childless, next, settled, set_at, last_slot, at_slot, with_slot, slots_ahead, leads, readied, vote_tallied, voted, accepted_row}
-use Rattle.sc_law_walks.proofs.Lemmas.{either_way}
+use Rattle.sc_node_table.specs.Definitions.{has_room, executed, ReplicaState, Place, Executed, childless, next, set_at, last_slot, with_slot, slots_ahead, leads, readied, vote_tallied, voted, accepted_row}
 use Rattle.sc_live_plain.specs.Definitions.{takers}
 use Rattle.sc_live_plain.proofs.Lemmas.{in_range, range_behind, one_yes, one_no, with_each}
 use Rattle.sc_live_plain.proofs.SlotCounts.{count-cons, find_some, entries_at, out_here, out_other, with_count, one_if_most}
 use Rattle.sc_live_plain.proofs.LeadingReplicas.{flights_at, range_before}
 use Rattle.sc_live_plain.proofs.Flights.{voted_count, vote_kept, numbered_get, numbered_past}
-use Rattle.sc_live_healed.specs.Definitions.{IsFixedCommand, IsFixedReplica, KeepsBallots, IsUndecided, HasOfferedAll, TakesSlots, HasVoted, IsCarried}
+use Rattle.sc_live_healed.specs.Definitions.{IsFixedCommand, IsFixedReplica, IsUndecided, TakesSlots, IsCarried}
 use Rattle.sc_live_healed.proofs.ServingReplicas.{IsServing, IsUnderWay}
 use Rattle.sc_live_healed.proofs.ReadySlots.{HasServed, executed_serves}
 
@@ -34,10 +33,10 @@ module _ (P : Flight Command → Type 0) (slot : ℕ) where
   others_all : (f : Flight Command) (fs : Flights) → f.slot ≡ slot → flights_at slot (f ∷ fs) ≤ 1 → ((g : Flight Command) → Among g fs → (g.slot ≡ slot → ⊥) → P g) → Each P fs
   others_all f fs here most other =
       Each-from P fs (λ g a. other g a (λ at. (
-        let c = count-cons (λ (y : Flight Command). eqb y.slot slot) f fs in
-        let one = one_yes (eqb f.slot slot) (eq-eqb f.slot slot here) in
-        let more = flight_stands slot fs g a at in
-        absurd (omega (arith, c, one, more, most)))))
+      let c = count-cons (λ (y : Flight Command). eqb y.slot slot) f fs in
+      let one = one_yes (eqb f.slot slot) (eq-eqb f.slot slot here) in
+      let more = flight_stands slot fs g a at in
+      absurd (omega (arith, c, one, more, most)))))
 
   -- with other voters at the slot
   voted_all : (voters : Option (List ℕ)) (fs : Flights) → flights_at slot fs ≤ 1 → ((g : Flight Command) → Among g fs → (g.slot ≡ slot → ⊥) → P g) → ((g : Flight Command) → Among g fs → g.slot ≡ slot → P (record g { voters = voters })) → Each P (with_voters slot voters fs)
@@ -60,7 +59,6 @@ module _ (P : Flight Command → Type 0) (slot : ℕ) where
 module _ (base : Base) (free : base.core.lock ≡ Free) (stands : base.core.gone ≡ None) (roster : IsRoster base.core.members)
     (r : ReplicaState) (member : is_member base.core.members r.me ≡ true) (fixed : IsFixedReplica base r) (takes : TakesSlots base r) (on : r.running ≡ true)
     (group : Draw) (from slot : ℕ) (voter : is_member base.core.members from ≡ true) (mails : List Mail) where
-
   module _ (seen : Ballot) where
     abbrev pub Held : Flight Command → Type 0
     Held flight = IsCarried from (Accepted group seen slot) r.leader.ballot r.leader.flights flight
@@ -216,17 +214,17 @@ module _ (base : Base) (free : base.core.lock ≡ Free) (stands : base.core.gone
           (λ t. executed_serves base r.me r.leader.ballot Held free stands member takes.taken true flight.value after mails value_fixed ready_serves)
           (λ n. (
           let past : slot ≡ next r → ⊥ = λ here. (
-            let low : next r < last_slot + length r.sets = elim (cases_lt (next r) (last_slot + length r.sets)) [
-              | inl low ↦ low
-              | inr high ↦ (
-                  let once = takes.slots.once (next r) in
-                  let one = one_flight in
-                  let here_ : flights_at slot r.leader.flights ≡ flights_at (next r) r.leader.flights = ap (λ m. flights_at m r.leader.flights) here in
-                  let none : takes.taken ≡ 0 = elim (takes.room) [ inl none ↦ none | inr low ↦ omega (arith, low, high, many) ] in
-                  let out = one_no (in_range (next r) takes.taken (next r)) (range_behind (next r) takes.taken (next r) (omega (arith, none))) in
-                  absurd (omega (arith, once, out, one, here_)))
-            ] in
-            both_ways (eqb slot (next r) && has_room after) n (and_from (eqb slot (next r)) (has_room after) (eq-eqb slot (next r) here) (lt-ltb (next r) (last_slot + length r.sets) low))) in
+          let low : next r < last_slot + length r.sets = elim (cases_lt (next r) (last_slot + length r.sets)) [
+            | inl low ↦ low
+            | inr high ↦ (
+                let once = takes.slots.once (next r) in
+                let one = one_flight in
+                let here_ : flights_at slot r.leader.flights ≡ flights_at (next r) r.leader.flights = ap (λ m. flights_at m r.leader.flights) here in
+                let none : takes.taken ≡ 0 = elim (takes.room) [ inl none ↦ none | inr low ↦ omega (arith, low, high, many) ] in
+                let out = one_no (in_range (next r) takes.taken (next r)) (range_behind (next r) takes.taken (next r) (omega (arith, none))) in
+                absurd (omega (arith, once, out, one, here_)))
+          ] in
+          both_ways (eqb slot (next r) && has_room after) n (and_from (eqb slot (next r)) (has_room after) (eq-eqb slot (next r) here) (lt-ltb (next r) (last_slot + length r.sets) low))) in
           let was = takes.executed in
           let more = with_count slot flight.value r.ready (next r) no_entry in
           let no_ = one_no (eqb slot (next r)) (ne_eqb slot (next r) past) in

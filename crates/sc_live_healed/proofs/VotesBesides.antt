@@ -1,14 +1,14 @@
 -- The votes for what a node has in flight stay counted or under way while others take mail, and are so after its own tick.
-use Rattle.std.proofs.Common.{◌≡◌, ℕ, ◌-◌, ◌^◌, Bool, true, false, List, [], ◌∷◌, Option, Some, ◌⊎◌, inl, inr, refl, sym, ◌∙◌, ap, subst}
-use Rattle.sc_base.specs.Definitions.{Among, Each, same_draw, is_member}
+use Rattle.std.proofs.Common.{◌≡◌, ℕ, ◌-◌, ◌^◌, false, List, [], ◌∷◌, inl, inr, refl, sym, ◌∙◌, ap, subst}
+use Rattle.sc_base.specs.Definitions.{Among, Each, same_draw}
 use Rattle.sc_words.proofs.PaxosProofs.Lemmas.{Each-among, find_found}
 use Rattle.sc_node_table.specs.Values.{Ballot, Base, Command, Core, Mail, Accept, Flight}
-use Rattle.sc_node_table.specs.Definitions.{NodeState, ReplicaState, name_of, replica_of, on_tick}
+use Rattle.sc_node_table.specs.Definitions.{NodeState, ReplicaState, name_of, on_tick}
 use Rattle.sc_paxos_law.proofs.Lemmas.{member-among}
 use Rattle.sc_base.proofs.Lemmas.{draw_is}
 use Rattle.sc_live_healed.specs.Definitions.{IsFixedReplica, IsFixedNode, AllTakeSlots, mail_between, IsAnswered, IsVoteUnderWay, Counted, Asked, Answered, VotesAreUnderWay}
 use Rattle.sc_live_healed.proofs.FixedNodes.{AreFresh}
-use Rattle.sc_live_healed.proofs.NodeSlots.{AreRosters, Ticks, HasTickedAll, IsLow, ticks_so, one_base}
+use Rattle.sc_live_healed.proofs.NodeSlots.{AreRosters, Ticks, ticks_so}
 use Rattle.sc_live_healed.proofs.ServingReplicas.{Grows, IsAsked}
 use Rattle.sc_live_healed.proofs.VotesUnderWay.{answered_still, still_under_way}
 
@@ -29,9 +29,9 @@ module _ (bases : List Base) (alive : ℕ → Type 0) (node : NodeState) (mail :
       still_under_way mail others more base node.me member r.leader.ballot flight flight rest refl (record {
         counted = λ v. v;
         asked = λ command is. (
-          let who : mail.to ≡ member = ap (λ (x : Mail). x.to) is in
-          Answered (subst (λ (w : ℕ). IsAnswered more base w node.me r.leader.ballot flight.slot) who
-          (answers base a r.leader.ballot flight.slot command (subst alive (sym who) lives) (is ∙ ap (λ (w : ℕ). mail_between node.me w (Accept base.core.id r.leader.ballot flight.slot command)) (sym who)))));
+            let who : mail.to ≡ member = ap (λ (x : Mail). x.to) is in
+            Answered (subst (λ (w : ℕ). IsAnswered more base w node.me r.leader.ballot flight.slot) who
+            (answers base a r.leader.ballot flight.slot command (subst alive (sym who) lives) (is ∙ ap (λ (w : ℕ). mail_between node.me w (Accept base.core.id r.leader.ballot flight.slot command)) (sym who)))));
         accepted = λ is. absurd (elsewhere (ap (λ (x : Mail). x.to) is));
         refused = λ promised low is. absurd (elsewhere (ap (λ (x : Mail). x.to) is));
         installed = λ last sent sets up near is. absurd (elsewhere (ap (λ (x : Mail). x.to) is));

@@ -1,26 +1,22 @@
 -- From the tick of a node on, the votes for what it has in flight are counted or under way, delivery by delivery.
-use Rattle.std.proofs.Common.{◌≡◌, ℕ, ◌-◌, ◌^◌, eqb, Bool, true, false, true≢false, cond, List, [], ◌∷◌, ◌++◌, filter, find, Option, Some, None, refl, sym, ◌∙◌, ap, subst, inl, inr, append-nil, append_assoc}
+use Rattle.std.proofs.Common.{◌≡◌, ℕ, ◌-◌, ◌^◌, eqb, true, false, true≢false, cond, List, [], ◌∷◌, ◌++◌, filter, find, Option, Some, refl, sym, ◌∙◌, ap, subst, inl, inr, append-nil, append_assoc}
 use Rattle.std.specs.Option.{option_map}
 use Rattle.std.proofs.lemmas.Bool.{cond-true, cond-false, cases_Bool, eqb-true, eq-eqb}
 use Rattle.sc_base.specs.Definitions.{Among, Each}
-use Rattle.sc_node_table.specs.Values.{Ballot, Seat, Row, Event, Deliver, Input, Got, Base, Command, OrderLine, Mail, Accept, Node, Client}
-use Rattle.sc_actor.specs.declared.rows.Event.TheVariants.{Tick as TickEvent}
-use Rattle.sc_actor.specs.declared.rows.Input.TheVariants.{Tick}
-use Rattle.sc_actor.specs.Definitions.{mails, copies, numbered, acted, input_of, value, may_get, numbers_of, row_of, lowest, System}
+use Rattle.sc_node_table.specs.Values.{Ballot, Seat, Row, Event, Deliver, Got, Base, Command, OrderLine, Mail, Accept, Node}
+use Rattle.sc_actor.specs.Definitions.{mails, acted, input_of, value, may_get, numbers_of, System}
 use Rattle.sc_actor.proofs.Lemmas.{value-snoc}
-use Rattle.sc_node_table.specs.Definitions.{NodeState, ReplicaState, replica_of, is_node, node_table, on_tick}
+use Rattle.sc_node_table.specs.Definitions.{NodeState, ReplicaState, replica_of, is_node, node_table}
 use Rattle.sc_words.proofs.PaxosProofs.Lemmas.{find_found, Among-filter}
 use Rattle.sc_paxos_law.proofs.Lemmas.{Among-left, Among-right}
 use Rattle.sc_scenario.specs.declared.scenario.scenarios.Scenario.{Scenario}
 use Rattle.sc_scenario.specs.scenario.Definitions.{IsBounded}
 use Rattle.sc_meaning.specs.sound.Definitions.{Player, as_nodes, births, player_table, system_of}
-use Rattle.sc_live_orderly.specs.Definitions.{mail_with, pending_mail, TakesLowest, AreDelivered}
+use Rattle.sc_live_orderly.specs.Definitions.{pending_mail, TakesLowest, AreDelivered}
 use Rattle.sc_live_orderly.proofs.PendingMail.{takes_lowest}
 use Rattle.sc_live_plain.proofs.Lemmas.{some_is}
-use Rattle.sc_live_healed.specs.Definitions.{IsFixedMail, IsFixedNode, AllTakeSlots, mail_between, IsAnswered, VotesAreUnderWay, IsInBounds}
-use Rattle.sc_live_healed.proofs.FixedNodes.{AreFresh}
-use Rattle.sc_live_healed.proofs.FixedJournals.{Rows, IsFixedPlayer, IsOf, IsFixedJournal, fresh, given}
-use Rattle.sc_live_healed.proofs.NodeSlots.{AreRosters}
+use Rattle.sc_live_healed.specs.Definitions.{IsFixedMail, AllTakeSlots, mail_between, IsAnswered, VotesAreUnderWay, IsInBounds}
+use Rattle.sc_live_healed.proofs.FixedJournals.{Rows, IsFixedPlayer, IsOf, fresh, given}
 use Rattle.sc_live_healed.proofs.TakenJournals.{groups_rosters, PlayerTakes, IsTakenJournal}
 use Rattle.sc_live_healed.proofs.VotesUnderWay.{answered_still, accept_answered, votes_after_mail}
 use Rattle.sc_live_healed.proofs.VotesBesides.{votes_after_others}
@@ -112,7 +108,7 @@ module _ (words : ℕ → ℕ → ℕ × ℕ) (scenario : Scenario) (bounded : I
           let to : t.mail.to ≡ at.0.me = sym receiver_is ∙ sym k.0 in
           let leads : alive lead.me = subst alive (sym mine) living in
           let given_ = accept_answered bases (fresh words scenario bounded off) at.0 k.2 (l.bounds t.seat receiver_of_seat at.0 at.1) t.mail mail_fixed to base a lead.me ballot slot command (are_nodes lead.me leads)
-              (is ∙ ap (λ (who : ℕ). mail_between lead.me who (Accept base.core.id ballot slot command)) to) in
+          (is ∙ ap (λ (who : ℕ). mail_between lead.me who (Accept base.core.id ballot slot command)) to) in
           subst (λ (who : ℕ). IsAnswered more base who lead.me ballot slot) (sym to)
           (answered_still (node_table at.0 (Got t.mail)).1 more base at.0.me lead.me ballot slot (λ x b e. sent_stays at.0 at.1 x b (subst alive (sym e) leads)) given_)
 

@@ -1,22 +1,22 @@
 -- After the turn of a node the votes for what it has in flight are counted or under way, and stay so turn by turn; so where no mail is pending its settled replicas are idle.
-use Rattle.std.proofs.Common.{◌≡◌, ℕ, ◌-◌, ◌^◌, ◌&&◌, not, eqb, Bool, true, false, true≢false, cond, List, [], ◌∷◌, ◌++◌, filter, find, Option, Some, None, ◌⊎◌, inl, inr, refl, sym, ◌∙◌, ap, subst, append-nil, append_assoc}
+use Rattle.std.proofs.Common.{◌≡◌, ℕ, not, eqb, Bool, true, false, true≢false, List, [], ◌∷◌, ◌++◌, filter, find, Option, Some, None, ◌⊎◌, inl, inr, refl, sym, ◌∙◌, ap, subst, append-nil, append_assoc}
 use Rattle.std.specs.Option.{option_map}
 use Rattle.std.specs.List.{list_any}
-use Rattle.std.proofs.lemmas.Bool.{cond_both, cond-true, cond-false, cases_Bool, eqb-true, eq-eqb, and_parts}
-use Rattle.sc_base.specs.Definitions.{Among, Each}
-use Rattle.sc_node_table.specs.Values.{Seat, Row, Event, Base, OrderLine, Mail, Node}
+use Rattle.std.proofs.lemmas.Bool.{cond_both, cond-true, cond-false, eqb-true, eq-eqb, and_parts}
+use Rattle.sc_base.specs.Definitions.{Among}
+use Rattle.sc_node_table.specs.Values.{Seat, Row, Event, OrderLine, Mail, Node}
 use Rattle.sc_actor.specs.declared.rows.Event.TheVariants.{Tick as TickEvent, Go as GoEvent}
 use Rattle.sc_actor.specs.declared.rows.Input.TheVariants.{Tick, Go}
 use Rattle.sc_actor.specs.Definitions.{mails, copies, counts_at, acted, input_of, value, may_get, has_crashed, has_started, numbers_of, row_of, acts, is_quiet, line_row, System}
 use Rattle.sc_actor.proofs.Lemmas.{value-snoc}
 use Rattle.sc_base.proofs.Lemmas.{map-some}
-use Rattle.sc_node_table.specs.Definitions.{NodeState, ReplicaState, is_node, on_tick}
+use Rattle.sc_node_table.specs.Definitions.{NodeState, is_node, on_tick}
 use Rattle.sc_words.proofs.PaxosProofs.Lemmas.{find_found, Among-filter}
 use Rattle.sc_paxos_law.proofs.Lemmas.{Among-right}
 use Rattle.sc_scenario.specs.declared.scenario.scenarios.Scenario.{Scenario}
 use Rattle.sc_scenario.specs.scenario.Definitions.{IsBounded}
 use Rattle.sc_meaning.specs.sound.Definitions.{Player, as_nodes, births, player_table}
-use Rattle.sc_live_orderly.specs.Definitions.{Kick, Ticks, Starts, Turn, kick_line, mail_with, pending_mail, AreDelivered, IsTurn, HasTurns}
+use Rattle.sc_live_orderly.specs.Definitions.{Kick, Ticks, Starts, Turn, kick_line, mail_with, pending_mail, IsTurn, HasTurns}
 use Rattle.sc_live_orderly.specs.Turns.{as_list}
 use Rattle.sc_live_orderly.proofs.PendingMail.{none_pending}
 use Rattle.sc_live_orderly.proofs.RemainingMail.{after-row}
@@ -65,7 +65,7 @@ module _ (words : ℕ → ℕ → ℕ × ℕ) (scenario : Scenario) (bounded : I
   left_alone : (rows : Rows) (row : Row Mail OrderLine) → is_quiet System_ rows ≡ true → (row.who ≡ seat.who → (acted player_table (value player_table seat rows) (input_of (mails rows) row.event)).0 ≡ value player_table seat rows) → Votes rows → Votes (rows ++ row ∷ [])
   left_alone rows row quiet same votes node e =
       let now : value player_table seat rows ≡ value player_table seat (rows ++ row ∷ []) = sym (value-snoc player_table seat rows row
-        ∙ cond_both (eqb row.who seat.who) (acted player_table (value player_table seat rows) (input_of (mails rows) row.event)).0 (value player_table seat rows) (λ (p : Player). p ≡ value player_table seat rows) (λ t. same (eqb-true row.who seat.who t)) (λ _. refl)) in
+      ∙ cond_both (eqb row.who seat.who) (acted player_table (value player_table seat rows) (input_of (mails rows) row.event)).0 (value player_table seat rows) (λ (p : Player). p ≡ value player_table seat rows) (λ t. same (eqb-true row.who seat.who t)) (λ _. refl)) in
       let none = none_pending System_ rows quiet in
       votes_with_more scenario.groups alive [] (pending_mail System_ (rows ++ row ∷ [])) node (λ mail a. absurd a)
       (subst (λ (ms : List Mail). VotesAreUnderWay scenario.groups alive ms node) none (votes node (now ∙ e)))

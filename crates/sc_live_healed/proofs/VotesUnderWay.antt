@@ -1,23 +1,21 @@
 -- The votes of members that are alive stay counted or under way while mail is delivered, and are so after a node's tick.
-use Rattle.std.proofs.Common.{◌≡◌, ℕ, ◌+◌, ◌-◌, ◌^◌, ◌<◌, ◌≤◌, ◌&&◌, ◌||◌, not, nat_lt, eqb, Bool, true, false, true≢false, cond, List, [], ◌∷◌, length, replicate, Option, Some, None, ◌⊎◌, inl, inr, refl, sym, ◌∙◌, ap, subst, arith}
-use Rattle.std.proofs.lemmas.Bool.{cond-true, cond-false, cases_Bool, eq-eqb, le-ltb, and_from, or_from}
-use Rattle.sc_base.specs.Definitions.{Among, Each, same_draw, is_member}
+use Rattle.std.proofs.Common.{◌≡◌, ℕ, ◌≤◌, ◌||◌, not, nat_lt, eqb, Bool, true, false, true≢false, List, [], ◌∷◌, length, replicate, Some, None, ◌⊎◌, inl, inr, refl, sym, ◌∙◌, ap, subst, arith}
+use Rattle.std.proofs.lemmas.Bool.{cond-false, cases_Bool, eq-eqb, le-ltb, and_from, or_from}
+use Rattle.sc_base.specs.Definitions.{Among, same_draw, is_member}
 use Rattle.sc_base.proofs.Lemmas.{draw_is, same_name}
-use Rattle.sc_words.proofs.PaxosProofs.Lemmas.{Each-among, find_found}
-use Rattle.sc_node_table.specs.Values.{Ballot, Draw, Base, Command, Core, Input, Got, OrderLine, Mail, MailBody, Accept, Accepted, Nack, Install, Flight}
-use Rattle.sc_actor.specs.declared.rows.Input.TheVariants.{Tick}
+use Rattle.sc_words.proofs.PaxosProofs.Lemmas.{Each-among}
+use Rattle.sc_node_table.specs.Values.{Ballot, Draw, Base, Command, Core, Got, Mail, MailBody, Accept, Accepted, Nack, Install, Flight}
 use Rattle.sc_words.specs.paxos.Definitions.{below}
-use Rattle.sc_node_table.specs.Definitions.{NodeState, ReplicaState, Place, Executed, name_of, replica_of, with_replica, is_node, may_come, group_of_mail, stopped, saw, nack_row, took_over, install_row, mailed, accept_row, on_tick, node_table, next, last_slot, slots_ahead}
-use Rattle.sc_paxos_law.proofs.Lemmas.{among-member, member-among}
+use Rattle.sc_node_table.specs.Definitions.{NodeState, ReplicaState, Place, name_of, replica_of, with_replica, is_node, may_come, group_of_mail, nack_row, took_over, install_row, mailed, accept_row, node_table, next, last_slot, slots_ahead}
+use Rattle.sc_paxos_law.proofs.Lemmas.{member-among}
 use Rattle.sc_live_plain.proofs.Lemmas.{some_is}
 use Rattle.sc_live_plain.proofs.Replicas.{put_found, put_others}
 use Rattle.sc_live_healed.specs.Definitions.{IsFixedReplica, IsFixedBase, IsFixedBody, IsFixedMail, IsFixedNode, TakesSlots, AllTakeSlots, HasVoted, Counts, IsCarried, mail_between, IsAnswered, Accepts, Refuses, Installs, IsVoteUnderWay, Counted, Asked, Answered, VotesAreUnderWay, IsInBounds}
 use Rattle.sc_live_healed.proofs.FixedNodes.{AreFresh}
 use Rattle.sc_live_healed.proofs.NodeMail.{TakesMail, PassesMail, mail_taken}
-use Rattle.sc_live_healed.proofs.NodeSlots.{AreRosters, found_takes, Ticks, HasTickedAll, ticks_so, one_base}
+use Rattle.sc_live_healed.proofs.NodeSlots.{AreRosters, found_takes}
 use Rattle.sc_live_healed.proofs.AnsweredAccepts.{accept_answers}
-use Rattle.sc_live_healed.proofs.ServingReplicas.{Grows, IsAsked, IsUnderWay}
-use Rattle.sc_live_healed.proofs.ReadySlots.{HasServed}
+use Rattle.sc_live_healed.proofs.ServingReplicas.{Grows, IsUnderWay}
 use Rattle.sc_live_healed.proofs.ServedRows.{seen_by, took_over_off}
 use Rattle.sc_live_healed.proofs.MailedSlots.{mailed_leaves}
 use Rattle.sc_live_healed.proofs.TickedSlots.{in_open}
@@ -67,8 +65,8 @@ unfolding install_row
 install_stops base from slot sent sets r mails fixed same m are near up =
     let many : length sets ≡ length r.sets = ap length are ∙ sym (ap length fixed.sets) in
     let no_ : (not (eqb (length sets) (length r.sets)) || (nat_lt last_slot slot || nat_lt slot (next r))) ≡ false =
-        or_from (not (eqb (length sets) (length r.sets))) (nat_lt last_slot slot || nat_lt slot (next r)) (ap not (eq-eqb (length sets) (length r.sets) many))
-        (or_from (nat_lt last_slot slot) (nat_lt slot (next r)) (le-ltb last_slot slot near) (le-ltb slot (next r) up)) in
+    or_from (not (eqb (length sets) (length r.sets))) (nat_lt last_slot slot || nat_lt slot (next r)) (ap not (eq-eqb (length sets) (length r.sets) many))
+    (or_from (nat_lt last_slot slot) (nat_lt slot (next r)) (le-ltb last_slot slot near) (le-ltb slot (next r) up)) in
     ap (λ (p : Place). p.0.running) (cond-false (not (eqb (length sets) (length r.sets)) || (nat_lt last_slot slot || nat_lt slot (next r))) (r, mails) (took_over from slot sent sets (r, mails)) no_)
     ∙ took_over_off base from slot sent sets (r, mails) same m
 
@@ -122,7 +120,6 @@ module _ (bases : List Base) (fresh : AreFresh bases) where
       (bounds : (base : Base) (r : ReplicaState) → Among base bases → replica_of base.core.id node.replicas ≡ Some r → IsInBounds r)
       (mail : Mail) (m : IsFixedMail bases mail) (to : mail.to ≡ node.me) (others more : List Mail) (rest : Grows others more)
       (sends : (x : Mail) → Among x (node_table node (Got mail)).1 → alive x.to → Among x more) (votes : VotesAreUnderWay bases alive (mail ∷ others) node) where
-
     -- its own Accept is answered
     own_asked : (base : Base) → Among base bases → (ballot : Ballot) (slot : ℕ) (command : Command) → mail ≡ mail_between node.me mail.to (Accept base.core.id ballot slot command) → IsAnswered more base mail.to node.me ballot slot
     own_asked base a ballot slot command is =
@@ -177,15 +174,15 @@ module _ (bases : List Base) (fresh : AreFresh bases) where
           still_under_way mail others more base node.me member ballot c.was flight rest c.same_slot (record {
             counted = λ v. c.kept member v;
             asked = λ command is. (
-              let who : member ≡ mail.to = sym (ap (λ (x : Mail). x.to) is) in
-              Answered (subst (λ (s : ℕ). IsAnswered more base member node.me ballot s) c.same_slot (subst (λ (w : ℕ). IsAnswered more base w node.me ballot c.was.slot) (sym who)
-              (own_asked base t.among ballot c.was.slot command (is ∙ ap (λ (w : ℕ). mail_between node.me w (Accept base.core.id ballot c.was.slot command)) who)))));
+                let who : member ≡ mail.to = sym (ap (λ (x : Mail). x.to) is) in
+                Answered (subst (λ (s : ℕ). IsAnswered more base member node.me ballot s) c.same_slot (subst (λ (w : ℕ). IsAnswered more base w node.me ballot c.was.slot) (sym who)
+                (own_asked base t.among ballot c.was.slot command (is ∙ ap (λ (w : ℕ). mail_between node.me w (Accept base.core.id ballot c.was.slot command)) who)))));
             accepted = λ is. (let counts : Counts member (Accepted base.core.id ballot c.was.slot) ballot flight = subst (λ (x : Mail). Counts x.from x.body ballot flight) is c.counts in Counted (counts refl c.same_slot));
             refused = λ promised low is. absurd (true≢false (sym on ∙ (ap (λ (x : Mail). (mailed x.from x.body (t.replica, [])).0.0.running) is ∙ nack_mails member base.core.id promised t.replica (runs c.was c.among) low)));
             installed = λ last sent sets up near is. (
-              let body : IsFixedBody base member t.replica.me (Install base.core.id last sent sets) = subst (λ (x : Mail). IsFixedBody base x.from t.replica.me x.body) is says in
-              let open_ = (in_open base f.free f.stands t.replica here t.fixed takes_slots c.was c.among).0 in
-              absurd (true≢false (sym on ∙ (ap (λ (x : Mail). (mailed x.from x.body (t.replica, [])).0.0.running) is ∙ install_mails base member base.core.id last sent sets t.replica t.fixed body near (omega (arith, open_, up))))));
+                let body : IsFixedBody base member t.replica.me (Install base.core.id last sent sets) = subst (λ (x : Mail). IsFixedBody base x.from t.replica.me x.body) is says in
+                let open_ = (in_open base f.free f.stands t.replica here t.fixed takes_slots c.was c.among).0 in
+                absurd (true≢false (sym on ∙ (ap (λ (x : Mail). (mailed x.from x.body (t.replica, [])).0.0.running) is ∙ install_mails base member base.core.id last sent sets t.replica t.fixed body near (omega (arith, open_, up))))));
           }) (votes base t.among t.replica t.found c.was c.among member in_ lives)
 
       -- the replica after the mail

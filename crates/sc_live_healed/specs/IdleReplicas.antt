@@ -1,8 +1,8 @@
 -- Replicas that run and have nothing to do.
-use Rattle.std.specs.Prelude.{◌≡◌, ℕ, ◌*◌, ◌<◌, Bool, true, List, [], length, count_by, ◌≤◌}
+use Rattle.std.specs.Prelude.{◌≡◌, ℕ, ◌*◌, ◌<◌, Bool, List, [], length, count_by}
 use Rattle.sc_base.specs.Definitions.{Each}
 use Rattle.sc_node_table.specs.Values.{Command, Report}
-use Rattle.sc_node_table.specs.Definitions.{ReplicaState, next, settled}
+use Rattle.sc_node_table.specs.Definitions.{ReplicaState, next}
 
 -- more than half of these members are alive
 abbrev pub LivingMajority : (ℕ → Bool) → List ℕ → Type 0
