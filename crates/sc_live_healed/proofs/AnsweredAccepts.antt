@@ -8,7 +8,7 @@ use Rattle.sc_words.specs.paxos.Definitions.{below, AcceptorState, after_accept,
 use Rattle.sc_group_table.specs.machine.Definitions.{base_of}
 use Rattle.sc_node_table.specs.Definitions.{stopped, ended, saw, install_to, sent, ReplicaState, Place, name_of, next, accepted_to, took, accept_row}
 use Rattle.sc_law_walks.proofs.Lemmas.{either_way}
-use Rattle.sc_live_plain.proofs.RepeatedMail.{last_among}
+use Rattle.sc_live_plain.proofs.Lemmas.{last_among}
 use Rattle.sc_live_healed.specs.Definitions.{mail_between, IsAnswered, Accepts, Refuses, Installs, IsInBounds}
 
 -- a ballot that is seen leaves what answers an Accept

@@ -16,10 +16,7 @@ use Rattle.sc_node_table.specs.Definitions.{stopped, entered, answer_of, answere
 use Rattle.sc_law_walks.proofs.Lemmas.{either_way, cleared, entered_next}
 use Rattle.sc_paxos_law.proofs.Lemmas.{among-member}
 use Rattle.sc_live_plain.specs.Definitions.{takers}
-use Rattle.sc_live_plain.proofs.Lemmas.{in_range, range_behind, one_if, one_no, out_each}
-use Rattle.sc_live_plain.proofs.SlotCounts.{one_if_most, entries_at, out_none, out_here, out_other, standing}
-use Rattle.sc_live_plain.proofs.LeadingReplicas.{range_before, range_less, flights_at}
-use Rattle.sc_live_plain.proofs.RepeatedMail.{among_push, others_kept}
+use Rattle.sc_live_plain.proofs.Lemmas.{one_if_most, entries_at, out_none, out_here, out_other, standing, range_before, range_less, flights_at, among_push, others_kept, in_range, range_behind, one_if, one_no, out_each}
 use Rattle.sc_live_healed.specs.Definitions.{IsFixedCommand, IsFixedRequest}
 use Rattle.sc_live_healed.proofs.ServingReplicas.{Grows, IsServing, IsUnderWay, grown}
 use Rattle.sc_live_healed.proofs.OfferedQueues.{requeued}

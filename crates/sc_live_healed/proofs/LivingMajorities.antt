@@ -2,8 +2,7 @@
 use Rattle.std.proofs.Common.{◌≡◌, ℕ, ◌*◌, ◌≤◌, Bool, true, List, [], ◌∷◌, length, count_by, inl, inr, refl, arith}
 use Rattle.std.proofs.lemmas.Bool.{cases_Bool, lt-ltb}
 use Rattle.sc_base.specs.Definitions.{Among, votes_of, is_majority, is_member}
-use Rattle.sc_live_plain.proofs.Lemmas.{one_yes, one_no}
-use Rattle.sc_live_plain.proofs.SlotCounts.{count-cons}
+use Rattle.sc_live_plain.proofs.Lemmas.{count-cons, one_yes, one_no}
 use Rattle.sc_live_healed.specs.Definitions.{LivingMajority}
 
 -- what passes another test too counts no more

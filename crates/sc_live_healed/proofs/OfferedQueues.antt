@@ -12,11 +12,7 @@ use Rattle.sc_words.specs.paxos.Definitions.{must, must_without, choice, names_a
 use Rattle.sc_words.proofs.PaxosProofs.Lemmas.{Each-push, Each-among, Each-from, choice_among, choice_best}
 use Rattle.sc_node_table.specs.Definitions.{sent_all, is_act, next_queued, from_backlog, from_acts, from_queues, found_by, found_for, offered, pumped_from, pumped, ReplicaState, Place, name_of, next, first_set, settled, may_offer, taken_at, under_way, open_slots, is_idle, last_slot, slots_ahead}
 use Rattle.sc_live_plain.specs.Definitions.{takers}
-use Rattle.sc_live_plain.proofs.Lemmas.{mail_of, in_range, range_yes, range_behind, one_if, one_yes, one_no}
-use Rattle.sc_live_plain.proofs.SlotCounts.{count-push}
-use Rattle.sc_live_plain.proofs.LeadingReplicas.{range_more, takes, takes_not}
-use Rattle.sc_live_plain.proofs.RepeatedMail.{all_kept, all_reached}
-use Rattle.sc_live_plain.proofs.Pumps.{call_found, none_found, by_found, by_nothing}
+use Rattle.sc_live_plain.proofs.Lemmas.{count-push, range_more, takes, takes_not, all_kept, all_reached, call_found, none_found, by_found, by_nothing, mail_of, in_range, range_yes, range_behind, one_if, one_yes, one_no}
 use Rattle.sc_live_steps.proofs.FollowingProofs.LeastMembers.{none_decided}
 use Rattle.sc_live_healed.specs.Definitions.{IsFixedCommand, IsFixedRequest, IsUndecided, HasOfferedAll}
 use Rattle.sc_live_healed.proofs.ServingReplicas.{IsServing, IsUnderWay, IsAsked, grown, no_acts}

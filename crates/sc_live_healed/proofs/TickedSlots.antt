@@ -9,11 +9,7 @@ use Rattle.sc_words.specs.paxos.Definitions.{below, flight_at, has_counted, entr
 use Rattle.sc_words.specs.paxos.Votes.{voters_at}
 use Rattle.sc_words.proofs.PaxosProofs.Lemmas.{Each-among, Each-from, Each-weaker, Among-filter}
 use Rattle.sc_node_table.specs.Definitions.{elected, sent_all, wishing, pumped, waited_in, reminders, reminded, ReplicaState, Place, name_of, next, members, settled, may_offer, first_set, flying, taken_at, listed, taken_from, under_way, is_idle, numbers_from, slots_ahead, asked_again, last_entry_sent, uncounted, tick_row}
-use Rattle.sc_live_plain.proofs.Lemmas.{mail_of, in_range, range_behind, one_no}
-use Rattle.sc_live_plain.proofs.SlotCounts.{find_some, one_if_most}
-use Rattle.sc_live_plain.proofs.LeadingReplicas.{flights_at, range_before, takes}
-use Rattle.sc_live_plain.proofs.Flights.{only_flight}
-use Rattle.sc_live_plain.proofs.RepeatedMail.{all_kept, all_reached}
+use Rattle.sc_live_plain.proofs.Lemmas.{find_some, one_if_most, flights_at, range_before, takes, all_kept, all_reached, only_flight, mail_of, in_range, range_behind, one_no}
 use Rattle.sc_live_steps.proofs.FollowingProofs.LeastMembers.{none_decided}
 use Rattle.sc_live_healed.specs.Definitions.{IsFixedCommand, IsFixedReplica, IsUndecided, TakesSlots}
 use Rattle.sc_live_healed.proofs.ServingReplicas.{Grows, IsAsked, IsServing, IsUnderWay}

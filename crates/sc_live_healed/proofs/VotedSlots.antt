@@ -9,10 +9,7 @@ use Rattle.sc_words.specs.paxos.Definitions.{LeaderState, flight_at, without_fli
 use Rattle.sc_words.proofs.PaxosProofs.Lemmas.{find_found, Each-among, Each-from}
 use Rattle.sc_node_table.specs.Definitions.{has_room, executed, ReplicaState, Place, Executed, childless, next, set_at, last_slot, with_slot, slots_ahead, leads, readied, vote_tallied, voted, accepted_row}
 use Rattle.sc_live_plain.specs.Definitions.{takers}
-use Rattle.sc_live_plain.proofs.Lemmas.{in_range, range_behind, one_yes, one_no, with_each}
-use Rattle.sc_live_plain.proofs.SlotCounts.{count-cons, find_some, entries_at, out_here, out_other, with_count, one_if_most}
-use Rattle.sc_live_plain.proofs.LeadingReplicas.{flights_at, range_before}
-use Rattle.sc_live_plain.proofs.Flights.{voted_count, vote_kept, numbered_get, numbered_past}
+use Rattle.sc_live_plain.proofs.Lemmas.{count-cons, find_some, entries_at, out_here, out_other, with_count, one_if_most, flights_at, range_before, voted_count, vote_kept, numbered_get, numbered_past, in_range, range_behind, one_yes, one_no, with_each}
 use Rattle.sc_live_healed.specs.Definitions.{IsFixedCommand, IsFixedReplica, IsUndecided, TakesSlots, IsCarried}
 use Rattle.sc_live_healed.proofs.ServingReplicas.{IsServing, IsUnderWay}
 use Rattle.sc_live_healed.proofs.ReadySlots.{HasServed, executed_serves}

@@ -8,8 +8,7 @@ use Rattle.sc_node_table.specs.Values.{Ballot, Draw, Base, Command, Core, Got, M
 use Rattle.sc_words.specs.paxos.Definitions.{below}
 use Rattle.sc_node_table.specs.Definitions.{NodeState, ReplicaState, Place, name_of, replica_of, with_replica, is_node, may_come, group_of_mail, nack_row, took_over, install_row, mailed, accept_row, node_table, next, last_slot, slots_ahead}
 use Rattle.sc_paxos_law.proofs.Lemmas.{member-among}
-use Rattle.sc_live_plain.proofs.Lemmas.{some_is}
-use Rattle.sc_live_plain.proofs.Replicas.{put_found, put_others}
+use Rattle.sc_live_plain.proofs.Lemmas.{put_found, put_others, some_is}
 use Rattle.sc_live_healed.specs.Definitions.{IsFixedReplica, IsFixedBase, IsFixedBody, IsFixedMail, IsFixedNode, TakesSlots, AllTakeSlots, HasVoted, Counts, IsCarried, mail_between, IsAnswered, Accepts, Refuses, Installs, IsVoteUnderWay, Counted, Asked, Answered, VotesAreUnderWay, IsInBounds}
 use Rattle.sc_live_healed.proofs.FixedNodes.{AreFresh}
 use Rattle.sc_live_healed.proofs.NodeMail.{TakesMail, PassesMail, mail_taken}

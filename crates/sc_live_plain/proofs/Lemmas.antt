@@ -10,15 +10,16 @@ pub use Rattle.sc_live_plain.proofs.RowViews.{Journal, replica_is, replica_none,
 pub use Rattle.sc_live_plain.proofs.AnsweredRequests.{replies_more, first_delivery, many_line}
 pub use Rattle.sc_live_plain.proofs.IdleLeaders.{leader_idle}
 pub use Rattle.sc_live_plain.proofs.WaitingRequestJournals.{client_is}
-pub use Rattle.sc_live_plain.proofs.SlotCounts.{at_found, out_each, with_each, one_if, one_yes, one_no, with_at}
+pub use Rattle.sc_live_plain.proofs.SlotCounts.{at_found, out_each, with_each, one_if, one_yes, one_no, with_at, at_nothing, count-cons, count-push, entries_at, find_some, one_if_most, out_here, out_length, out_none, out_other, standing, with_count}
 pub use Rattle.sc_live_plain.proofs.ExecutedCalls.{IsServed, call_plain}
 pub use Rattle.sc_live_plain.proofs.PlainEntries.{recorded_after, counted_call, learnt_call}
-pub use Rattle.sc_live_plain.proofs.RepeatedMail.{mail_of}
-pub use Rattle.sc_live_plain.proofs.LeadingReplicas.{in_range, range_yes, IsHeld, range_behind}
-pub use Rattle.sc_live_plain.proofs.Pumps.{call_is}
+pub use Rattle.sc_live_plain.proofs.RepeatedMail.{mail_of, all_kept, all_reached, among_push, last_among, others_kept}
+pub use Rattle.sc_live_plain.proofs.LeadingReplicas.{in_range, range_yes, IsHeld, range_behind, flights_at, range_before, range_less, range_more, takes, takes_not}
+pub use Rattle.sc_live_plain.proofs.Pumps.{call_is, by_found, by_nothing, call_found, none_found}
+pub use Rattle.sc_live_plain.proofs.Flights.{numbered_get, numbered_past, only_flight, vote_kept, voted_count}
 pub use Rattle.sc_live_plain.proofs.LeaderExecutions.{IsRun}
 pub use Rattle.sc_live_plain.proofs.AcceptAndLearnRows.{as_voter, learn_is, learnt_plain, learnt_follower, learnt_next}
-pub use Rattle.sc_live_plain.proofs.Replicas.{put_found}
+pub use Rattle.sc_live_plain.proofs.Replicas.{put_found, put_others}
 pub use Rattle.sc_live_plain.proofs.ReplicaRows.{leading_at, replica_row, DidRefuse, DidQueue, DidCount, following_at, none_stops, Does}
 pub use Rattle.sc_live_plain.proofs.NodeRows.{IsFor, for_node, NodeRow, mail_is, others_after}
 pub use Rattle.sc_live_plain.proofs.PlainKnownGroups.{IsBefore, parts_of, chosen_is, among_last}
