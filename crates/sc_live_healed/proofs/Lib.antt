@@ -17,3 +17,4 @@ pub mod MovedReplicas
 pub mod PollAnswers
 pub mod PollRows
 pub mod PollTurns
+pub mod NodeViews
