@@ -10,7 +10,7 @@ use Rattle.sc_node_table.specs.Definitions.{group_of_mail, last_slot, mailed, pr
 use Rattle.sc_live_healed.proofs.FixedWalks.{IsFresh, IsMember, IsSaid, IsFixedPlace}
 use Rattle.sc_live_healed.proofs.MovedReplicas.{HasMoved, mailed_moves}
 use Rattle.sc_live_healed.proofs.PollAnswers.{Answered, polls_are_answered, answers_count, majorities_settle}
-use Rattle.sc_live_healed.proofs.PollRows.{IsAnswerMail, asked_says, asked_next, refused_next, state_next, promised_next}
+use Rattle.sc_live_healed.proofs.PollRows.{IsAnswerMail, asked_says, asked_next, refused_next, state_next, promised_next, requested_next}
 use Rattle.sc_live_healed.specs.Definitions.{IsFixedBody, IsSettledOrStopped, AnswersPoll, IsAnswerKind}
 
 -- the replicas of one group, by node
@@ -35,11 +35,11 @@ module _ (base : Base) (alive : ℕ → Bool) where
     pub others : (who : ℕ) → (who ≡ mail.to → ⊥) → after who ≡ before who
     pub sent : new ≡ filter (λ (m : Mail). alive m.to) (mailed mail.from mail.body (replica, [])).0.1
 
-  -- A mail that is nothing to the group: no replica of the group changes, and no mail of the group is sent.
+  -- A mail that is nothing to the group: no replica of the group changes, and no mail of the group is sent but requests.
   pub record IsPassed (before : Replicas) (mail : Mail) (after : Replicas) (new : List Mail) : Type 0 where
     pub other : IsOfGroup mail → ⊥
     pub same : (who : ℕ) → after who ≡ before who
-    pub sent : Each (λ (m : Mail). IsOfGroup m → ⊥) new
+    pub sent : Each (λ (m : Mail). IsOfGroup m → IsAnswerKind m.body) new
 
   -- What a delivery does to the replicas of the group.
   abbrev pub IsDelivered : Replicas → Mail → Replicas → List Mail → Type 0
@@ -201,7 +201,7 @@ module _ (base : Base) (alive : ℕ → Bool) where
     first_step c mail first second after new k (inl t) = first_taken c mail first second after new k t
     first_step c mail first second after new k (inr p) = record {
       asks = k.asks.1;
-      answers = Each-append AnswersIfOfGroup second new k.answers (Each-weaker (λ (m : Mail). IsOfGroup m → ⊥) AnswersIfOfGroup (λ m none g. absurd (none g)) new p.sent);
+      answers = Each-append AnswersIfOfGroup second new k.answers p.sent;
       floored = λ who r e. k.floored who r (sym (p.same who) ∙ e);
       at = λ r e q. k.at r (sym (p.same n) ∙ e) q;
       each = λ m member lives r e q. elim (k.each m member lives r (sym (p.same n) ∙ e) q) [
@@ -230,6 +230,7 @@ module _ (base : Base) (alive : ℕ → Bool) where
     answer_next from (Promise group promised reports) r kind fresh low on h f on2 = promised_next base n fresh from promised reports group r low on h f
     answer_next from (Nack group promised) r kind fresh low on h f on2 = refused_next promised r
     answer_next from (Install group slot state sets) r kind fresh low on h f on2 = state_next from slot state sets r (ap (λ (core : Core). is_member core.members from) h.2 ∙ h.1.0) on2
+    answer_next from (Request group client seq op) r kind fresh low on h f on2 = requested_next base n fresh from group client seq op r low h f
     answer_next from _ r kind fresh low on h f on2 = absurd kind
 
     module _ (c : Replicas) (mail : Mail) (second : List Mail) (after : Replicas) (new : List Mail) (k : SecondRound c (mail ∷ second)) (t : IsTaken c mail after new) where
