@@ -18,3 +18,4 @@ pub mod PollAnswers
 pub mod PollRows
 pub mod PollTurns
 pub mod NodeViews
+pub mod DeliveredViews
