@@ -19,3 +19,4 @@ pub mod PollRows
 pub mod PollTurns
 pub mod NodeViews
 pub mod DeliveredViews
+pub mod PollsEnd
