@@ -6,7 +6,7 @@ use Rattle.sc_base.proofs.Lemmas.{draw_is}
 use Rattle.sc_words.proofs.PaxosProofs.Lemmas.{Each-among, Each-append, Each-weaker, find_found}
 use Rattle.sc_node_table.specs.Values.{Draw, Base, Core, Input, Got, OrderLine, Mail, MailBody, Request, Answer, Prepare, Promise, Accept, Accepted, Nack, Learn, Ask, Install, TxPrepare, TxVote, TxOutcome, TxElsewhere, TxWatch, TxWatched, Told}
 use Rattle.sc_actor.specs.declared.rows.Input.TheVariants.{Tick, Go, Told as ToldInput}
-use Rattle.sc_node_table.specs.Definitions.{NodeState, ReplicaState, Place, Executed, name_of, replica_of, with_replica, with_children, taken_by, routed, on_mail, on_tick, may_come, group_of_mail, mailed, ticked, tick_row, names_after_tick, node_table}
+use Rattle.sc_node_table.specs.Definitions.{NodeState, ReplicaState, Place, Executed, name_of, replica_of, with_replica, with_children, taken_by, routed, on_mail, on_tick, is_node, may_come, group_of_mail, mailed, ticked, tick_row, names_after_tick, node_table}
 use Rattle.sc_law_walks.proofs.Lemmas.{either_way}
 use Rattle.sc_law_refusal.proofs.RefusalProofs.Joining.{tick_behind}
 use Rattle.sc_live_healed.proofs.FixedWalks.{IsFixedPlace, IsFresh, IsSaid, IsMember}
@@ -19,6 +19,7 @@ pub record AreFresh (bases : List Base) : Type 0 where
   pub apart : (base other : Base) → Among base bases → Among other bases → base.core.id ≡ other.core.id → base ≡ other
   pub least : (base : Base) → Among base bases → IsMember base (least_of base.core.members)
   pub follows : (base : Base) → Among base bases → (other : Base) × Among other bases × (other.core.id ≡ base.core.succ.group) × (other.core.members ≡ base.core.succ.members)
+  pub within : (base : Base) → Among base bases → (node : ℕ) → IsMember base node → is_node node ≡ true
 
 -- what a node may take: a mail of these groups, a tick or its start
 abbrev pub MayTake : List Base → ℕ → Input Mail OrderLine → Type 0
@@ -120,7 +121,7 @@ module _ (bases : List Base) (fresh : AreFresh bases) (me : ℕ) where
 
   -- ---- the replicas of a node
 
-  put : (group : Draw) (new : ReplicaState) (replicas : List ReplicaState) → IsOne new → All replicas → All (with_replica group new replicas)
+  pub put : (group : Draw) (new : ReplicaState) (replicas : List ReplicaState) → IsOne new → All replicas → All (with_replica group new replicas)
   put group new [] n k = tt
   put group new (r ∷ replicas) n k = either_way All (same_draw (name_of r) group) (new ∷ replicas) (r ∷ with_replica group new replicas) (n, k.1) (k.0, put group new replicas n k.1)
 

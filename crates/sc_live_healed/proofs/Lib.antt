@@ -38,3 +38,6 @@ pub mod MovedReplicas
 pub mod PollAnswers
 pub mod PollRows
 pub mod PollTurns
+pub mod NodeViews
+pub mod DeliveredViews
+pub mod PollsEnd

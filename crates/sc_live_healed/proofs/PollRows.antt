@@ -3,19 +3,20 @@ use Rattle.std.proofs.Common.{◌≡◌, ℕ, ◌+◌, ◌-◌, ◌<◌, ◌≤�
 use Rattle.std.proofs.lemmas.Bool.{cond_both, and_parts}
 use Rattle.sc_base.specs.Definitions.{Each, client_actor, is_member}
 use Rattle.sc_words.proofs.PaxosProofs.Lemmas.{Each-append}
-use Rattle.sc_node_table.specs.Values.{Ballot, Draw, Command, Call, Base, AnswerBody, OrderResult, Mail, MailBody, Request, Answer, Prepare, Promise, Accept, Accepted, Nack, Learn, Ask, Install, TxPrepare, TxVote, TxOutcome, TxElsewhere, TxWatch, TxWatched, Told, PrepareAnswer, Report}
+use Rattle.sc_node_table.specs.Values.{Ballot, Draw, Op, Command, Call, Base, AnswerBody, OrderResult, Mail, MailBody, Request, Answer, Prepare, Promise, Accept, Accepted, Nack, Learn, Ask, Install, TxPrepare, TxVote, TxOutcome, TxElsewhere, TxWatch, TxWatched, Told, PrepareAnswer, Report}
 use Rattle.sc_group_table.specs.machine.Definitions.{base_of}
 use Rattle.sc_words.specs.declared.paxos.answers.PrepareAnswer.TheVariants as Prepared
 use Rattle.sc_mail.specs.declared.bodies.AnswerBody.TheVariants as Says
 use Rattle.sc_words.specs.paxos.Definitions.{AcceptorState, below, may_promise, prepared, after_promise, reports_from, promise_counted}
-use Rattle.sc_node_table.specs.Definitions.{ended, stopped, saw, install_to, install_row, took_over, sent, promise_to, promised, prepare_row, promise_row, nack_row, pumped, leads, hinted, last_slot, name_of, next, under_way, answered, answered_all, dismissed, dismissed_all, order_reported, result_sent, group_of_mail, ReplicaState, Place}
+use Rattle.sc_node_table.specs.Definitions.{ended, stopped, saw, install_to, install_row, took_over, sent, promise_to, promised, prepare_row, promise_row, nack_row, pumped, leads, hinted, last_slot, name_of, next, under_way, answered, answered_all, dismissed, dismissed_all, order_reported, result_sent, group_of_mail, queued, requested, request_row, refused_at, queued_number, without_request, ReplicaState, Place}
 use Rattle.sc_group_table.specs.policy.Definitions.{is_reported}
 use Rattle.sc_law_walks.proofs.Lemmas.{either_way}
 use Rattle.sc_live_healed.proofs.FixedWalks.{IsFresh, IsFixedPlace}
-use Rattle.sc_live_healed.proofs.FixedChanges.{polls}
+use Rattle.sc_live_healed.proofs.FixedChanges.{polls, with_backlog}
+use Rattle.sc_live_healed.proofs.FixedParts.{request_taken, without_requests}
 use Rattle.sc_live_healed.proofs.MovedReplicas.{pumped_moves}
 use Rattle.sc_live_healed.proofs.PollAnswers.{seen_keeps, over_stops}
-use Rattle.sc_live_healed.specs.Definitions.{IsFixedBody, IsAnswerKind}
+use Rattle.sc_live_healed.specs.Definitions.{IsFixedBody, IsFixedRequest, IsAnswerKind}
 
 -- ---- what is said
 
@@ -107,3 +108,23 @@ promised_next base me fresh from ballot reports group r low on h f =
     let counted : ReplicaState = record r { leader = (promise_counted from ballot reports r.leader).1 } in
     let f1 : IsFixedPlace base me (counted, []) = polls base me fresh from ballot reports r [] on h.3 f in
     either_way (λ (p : Place). next p.0 ≡ next r) (leads ballot r) (pumped (counted, [])) (r, []) (pumped_moves base me fresh ⊥ counted 0 (Ask base.core.id 0) low f1).2 refl
+
+-- a request is queued, and executes nothing
+queued_next : (base : Base) (me : ℕ) (fresh : IsFresh base me) (o : Option ℕ) (client seq : ℕ) (op : Op) (r : ReplicaState) → r.acceptor.floor < next r → r.running ≡ true → IsFixedRequest base (Call client seq op) → IsFixedPlace base me (r, []) → next (queued o client seq op (r, [])).0 ≡ next r
+unfolding queued
+queued_next base me fresh None client seq op r low on q f =
+    let more : ReplicaState = record r { backlog = r.backlog ++ Call client seq op ∷ [] } in
+    (pumped_moves base me fresh ⊥ more 0 (Ask base.core.id 0) low (with_backlog base me fresh r [] (r.backlog ++ Call client seq op ∷ []) on (Each-append (IsFixedRequest base) r.backlog (Call client seq op ∷ []) f.fixed.backlog (q, tt)) f)).2
+queued_next base me fresh (Some other) client seq op r low on q f =
+    let backlog : List Command = without_request r.backlog client ++ Call client seq op ∷ [] in
+    let more : ReplicaState = record r { backlog = backlog } in
+    either_way (λ (p : Place). next p.0 ≡ next r) (nat_le seq other) (r, []) (pumped (more, [])) refl
+    (pumped_moves base me fresh ⊥ more 0 (Ask base.core.id 0) low (with_backlog base me fresh r [] backlog on (Each-append (IsFixedRequest base) (without_request r.backlog client) (Call client seq op ∷ []) (without_requests base r.backlog client f.fixed.backlog) (q, tt)) f)).2
+
+pub requested_next : (base : Base) (me : ℕ) (fresh : IsFresh base me) (from : ℕ) (group : Draw) (client seq : ℕ) (op : Op) (r : ReplicaState) → r.acceptor.floor < next r → IsFixedBody base from me (Request group client seq op) → IsFixedPlace base me (r, []) → next (request_row client seq op (r, [])).0 ≡ next r
+unfolding request_row requested
+requested_next base me fresh from group client seq op r low h f = by (refused_at r.group.core.gone op r) refl
+  where
+    by : (o : Option AnswerBody) → refused_at r.group.core.gone op r ≡ o → next (requested o client seq op (r, [])).0 ≡ next r
+    by (Some answer) e = refl
+    by None e = (let t = request_taken base me fresh client seq op r f.fixed.group e in queued_next base me fresh (queued_number r.backlog client) client seq op r low t.0 t.1 f)

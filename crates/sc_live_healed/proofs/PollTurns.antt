@@ -10,7 +10,7 @@ use Rattle.sc_node_table.specs.Definitions.{group_of_mail, last_slot, mailed, pr
 use Rattle.sc_live_healed.proofs.FixedWalks.{IsFresh, IsMember, IsSaid, IsFixedPlace}
 use Rattle.sc_live_healed.proofs.MovedReplicas.{HasMoved, mailed_moves}
 use Rattle.sc_live_healed.proofs.PollAnswers.{Answered, polls_are_answered, answers_count, majorities_settle}
-use Rattle.sc_live_healed.proofs.PollRows.{IsAnswerMail, asked_says, asked_next, refused_next, state_next, promised_next}
+use Rattle.sc_live_healed.proofs.PollRows.{IsAnswerMail, asked_says, asked_next, refused_next, state_next, promised_next, requested_next}
 use Rattle.sc_live_healed.specs.Definitions.{IsFixedBody, IsSettledOrStopped, AnswersPoll, IsAnswerKind}
 
 -- the replicas of one group, by node
@@ -35,11 +35,11 @@ module _ (base : Base) (alive : ℕ → Bool) where
     pub others : (who : ℕ) → (who ≡ mail.to → ⊥) → after who ≡ before who
     pub sent : new ≡ filter (λ (m : Mail). alive m.to) (mailed mail.from mail.body (replica, [])).0.1
 
-  -- A mail that is nothing to the group: no replica of the group changes, and no mail of the group is sent.
+  -- A mail that is nothing to the group: no replica of the group changes, and no mail of the group is sent but requests.
   pub record IsPassed (before : Replicas) (mail : Mail) (after : Replicas) (new : List Mail) : Type 0 where
     pub other : IsOfGroup mail → ⊥
     pub same : (who : ℕ) → after who ≡ before who
-    pub sent : Each (λ (m : Mail). IsOfGroup m → ⊥) new
+    pub sent : Each (λ (m : Mail). IsOfGroup m → IsAnswerKind m.body) new
 
   -- What a delivery does to the replicas of the group.
   abbrev pub IsDelivered : Replicas → Mail → Replicas → List Mail → Type 0
@@ -51,23 +51,23 @@ module _ (base : Base) (alive : ℕ → Bool) where
     Polls r = (r.running ≡ true) × (r.leader.ballot ≡ ballot)
 
     -- a mail of the poll
-    abbrev IsAsked : Mail → Type 0
+    abbrev pub IsAsked : Mail → Type 0
     IsAsked mail = (mail.from ≡ n) × (mail.body ≡ Prepare base.core.id ballot from_slot)
 
     -- each acceptor has forgotten executed slots alone
-    abbrev AreFloored : Replicas → Type 0
+    abbrev pub AreFloored : Replicas → Type 0
     AreFloored c = (who : ℕ) (r : ReplicaState) → c who ≡ Some r → r.acceptor.floor < next r
 
     -- who polls has executed nothing since
-    abbrev IsAt : Replicas → Type 0
+    abbrev pub IsAt : Replicas → Type 0
     IsAt c = (r : ReplicaState) → c n ≡ Some r → Polls r → next r ≡ from_slot
 
     -- a question to this member is pending, whose ballot it has not promised
-    abbrev IsPending : Replicas → List Mail → ℕ → Type 0
+    abbrev pub IsPending : Replicas → List Mail → ℕ → Type 0
     IsPending c first m = (mail : Mail) × Among mail first × (mail.to ≡ m) × IsAsked mail × ((r : ReplicaState) → c m ≡ Some r → r.acceptor.promised ≡ ballot → ⊥)
 
     -- an answer of this member is pending
-    abbrev IsAnswering : List Mail → ℕ → Type 0
+    abbrev pub IsAnswering : List Mail → ℕ → Type 0
     IsAnswering second m = (mail : Mail) × Among mail second × (mail.from ≡ m) × (mail.to ≡ n) × IsOfGroup mail × AnswersPoll ballot from_slot mail.body
 
     -- The first round: the mail of the poll, and behind it what its deliveries have sent.
@@ -95,17 +95,17 @@ module _ (base : Base) (alive : ℕ → Bool) where
     answer_of_group from to _ a h = absurd a
 
     -- the replica of a node is the one that it is
-    one_replica : (c : Replicas) (who : ℕ) (r x : ReplicaState) → c who ≡ Some r → c who ≡ Some x → r ≡ x
+    pub one_replica : (c : Replicas) (who : ℕ) (r x : ReplicaState) → c who ≡ Some r → c who ≡ Some x → r ≡ x
     one_replica c who r x e f = (let same : Some r ≡ Some x = sym e ∙ f in cc)
 
     module _ (c : Replicas) (mail : Mail) (after : Replicas) (new : List Mail) (t : IsTaken c mail after new) (low : AreFloored c) where
-      abbrev place : Place
+      abbrev pub place : Place
       place = (mailed mail.from mail.body (t.replica, [])).0
 
-      moves : IsFixedPlace base mail.to place × HasMoved ⊥ t.replica mail.body place
+      pub moves : IsFixedPlace base mail.to place × HasMoved ⊥ t.replica mail.body place
       moves = mailed_moves base mail.to t.fresh ⊥ t.replica mail.from mail.body (low mail.to t.replica t.was) t.heard t.fixed
 
-      floored_after : AreFloored after
+      pub floored_after : AreFloored after
       floored_after who r e =
           elim (cases_Bool (eqb who mail.to)) [
             | inl y ↦ (let is : place.0 ≡ r = one_replica after mail.to place.0 r t.is (ap after (sym (eqb-true who mail.to y)) ∙ e) in subst (λ (x : ReplicaState). x.acceptor.floor < next x) is moves.1.floored)
@@ -113,7 +113,7 @@ module _ (base : Base) (alive : ℕ → Bool) where
           ]
 
       -- who polls now polled before
-      polled_before : (r : ReplicaState) → mail.to ≡ n → after n ≡ Some r → Polls r → (place.0 ≡ r) × Polls t.replica × ((m : ℕ) → is_member t.replica.leader.promisers m ≡ true → is_member r.leader.promisers m ≡ true)
+      pub polled_before : (r : ReplicaState) → mail.to ≡ n → after n ≡ Some r → Polls r → (place.0 ≡ r) × Polls t.replica × ((m : ℕ) → is_member t.replica.leader.promisers m ≡ true → is_member r.leader.promisers m ≡ true)
       polled_before r is_n e p =
           let same : place.0 ≡ r = one_replica after mail.to place.0 r t.is (ap after is_n ∙ e) in
           (let b = by same (moves.1.leads (ap (λ (x : ReplicaState). x.running) same ∙ p.0)) in (same, b.0, b.1))
@@ -130,7 +130,7 @@ module _ (base : Base) (alive : ℕ → Bool) where
     row_is from body r e = ap (λ (b : MailBody). (mailed from b (r, [])).0) e
 
     -- who takes the mail, or another
-    is_or_not : (who to : ℕ) → (who ≡ to) ⊎ (who ≡ to → ⊥)
+    pub is_or_not : (who to : ℕ) → (who ≡ to) ⊎ (who ≡ to → ⊥)
     is_or_not who to = elim (cases_Bool (eqb who to)) [ inl y ↦ inl (eqb-true who to y) | inr f ↦ inr (λ same. true≢false (sym (eq-eqb who to same) ∙ f)) ]
 
     -- a mail answers, if it is of the group
@@ -201,7 +201,7 @@ module _ (base : Base) (alive : ℕ → Bool) where
     first_step c mail first second after new k (inl t) = first_taken c mail first second after new k t
     first_step c mail first second after new k (inr p) = record {
       asks = k.asks.1;
-      answers = Each-append AnswersIfOfGroup second new k.answers (Each-weaker (λ (m : Mail). IsOfGroup m → ⊥) AnswersIfOfGroup (λ m none g. absurd (none g)) new p.sent);
+      answers = Each-append AnswersIfOfGroup second new k.answers p.sent;
       floored = λ who r e. k.floored who r (sym (p.same who) ∙ e);
       at = λ r e q. k.at r (sym (p.same n) ∙ e) q;
       each = λ m member lives r e q. elim (k.each m member lives r (sym (p.same n) ∙ e) q) [
@@ -230,6 +230,7 @@ module _ (base : Base) (alive : ℕ → Bool) where
     answer_next from (Promise group promised reports) r kind fresh low on h f on2 = promised_next base n fresh from promised reports group r low on h f
     answer_next from (Nack group promised) r kind fresh low on h f on2 = refused_next promised r
     answer_next from (Install group slot state sets) r kind fresh low on h f on2 = state_next from slot state sets r (ap (λ (core : Core). is_member core.members from) h.2 ∙ h.1.0) on2
+    answer_next from (Request group client seq op) r kind fresh low on h f on2 = requested_next base n fresh from group client seq op r low h f
     answer_next from _ r kind fresh low on h f on2 = absurd kind
 
     module _ (c : Replicas) (mail : Mail) (second : List Mail) (after : Replicas) (new : List Mail) (k : SecondRound c (mail ∷ second)) (t : IsTaken c mail after new) where
