@@ -1,12 +1,13 @@
 -- The groups of a bounded scenario are free at their birth, have names of their own, and follow one another.
-use Rattle.std.proofs.Common.{◌≡◌, ℕ, zero, suc, ◌+◌, ◌<◌, ◌≤◌, eqb, true, List, [], ◌∷◌, length, ◌⊎◌, inl, inr, refl, sym, ◌∙◌, ap, subst, arith}
-use Rattle.std.proofs.lemmas.Bool.{cond_both, cases_lt, or_left, eq-eqb, eqb-false}
-use Rattle.sc_base.specs.Definitions.{Among, is_member, least_of}
+use Rattle.std.proofs.Common.{◌≡◌, ℕ, zero, suc, ◌+◌, ◌<◌, ◌≤◌, ◌&&◌, nat_le, eqb, Bool, true, false, List, [], ◌∷◌, length, ◌⊎◌, inl, inr, refl, sym, ◌∙◌, ap, subst, arith}
+use Rattle.std.proofs.lemmas.Bool.{cond_both, cases_lt, or_left, eq-eqb, eqb-false, le-leb}
+use Rattle.sc_base.specs.Definitions.{Among, is_member, least_of, most_nodes}
 use Rattle.sc_node_table.specs.Values.{Draw, Base}
+use Rattle.sc_words.proofs.PaxosProofs.Lemmas.{Each-among, Each-from_All}
 use Rattle.sc_scenario.specs.declared.scenario.drafts.GroupLine.{GroupLine}
 use Rattle.sc_scenario.specs.declared.scenario.scenarios.Scenario.{Scenario}
-use Rattle.sc_scenario.specs.scenario.Definitions.{IsBounded, base_at, bases_up_to, place_right}
-use Rattle.sc_paxos_law.proofs.Lemmas.{Among-left, Among-right, Among-either}
+use Rattle.sc_scenario.specs.scenario.Definitions.{IsBounded, IsUpTo, base_at, bases_up_to, place_right}
+use Rattle.sc_paxos_law.proofs.Lemmas.{Among-left, Among-right, Among-either, member-among}
 use Rattle.sc_live_healed.proofs.FixedWalks.{IsFresh, IsMember}
 use Rattle.sc_live_healed.proofs.FixedNodes.{AreFresh}
 
@@ -39,8 +40,13 @@ right_in lines k low = cond_both (eqb (k + 1) (length lines)) 0 (k + 1) (λ (n :
     by (inl lt) apart = lt
     by (inr ge) apart = absurd (apart (omega (arith, ge, low)))
 
+both_so : (a b : Bool) → a ≡ true → b ≡ true → (a && b) ≡ true
+both_so true true e f = refl
+both_so false b e f = absurd (cc)
+both_so true false e f = absurd (cc)
+
 module _ (scenario : Scenario) (bounded : IsBounded scenario) where
-  place_of : (base : Base) → Among base scenario.groups → (k : ℕ) × (k < length bounded.starts) × (base_at bounded.starts k ≡ base)
+  pub place_of : (base : Base) → Among base scenario.groups → (k : ℕ) × (k < length bounded.starts) × (base_at bounded.starts k ≡ base)
   place_of base a = at_line bounded.starts (length bounded.starts) base (subst (Among base) bounded.groups a)
 
   some_members : (k : ℕ) → k < length bounded.starts → 1 ≤ length (base_at bounded.starts k).core.members
@@ -61,4 +67,11 @@ module _ (scenario : Scenario) (bounded : IsBounded scenario) where
     let right : ℕ = place_right bounded.starts p.0 in
     subst (λ (b : Base). (other : Base) × Among other scenario.groups × (other.core.id ≡ b.core.succ.group) × (other.core.members ≡ b.core.succ.members)) p.2
     (base_at bounded.starts right, subst (Among (base_at bounded.starts right)) (sym bounded.groups) (of_line bounded.starts (length bounded.starts) right (right_in bounded.starts p.0 p.1)), refl, refl));
+    within = λ base a node m.
+    (let p = place_of base a in
+    let line = bounded.each p.0 (record { lo = 0; members = [] }) p.1 in
+    let up : IsUpTo scenario.nodes node = Each-among (IsUpTo scenario.nodes) (base_at bounded.starts p.0).core.members node (Each-from_All (IsUpTo scenario.nodes) (base_at bounded.starts p.0).core.members line.members_in)
+        (member-among (base_at bounded.starts p.0).core.members node (subst (λ (b : Base). IsMember b node) (sym p.2) m)) in
+    let most = bounded.nodes.1 in
+    both_so (nat_le 1 node) (nat_le node most_nodes) (le-leb 1 node up.0) (le-leb node most_nodes (omega (arith, up, most))));
   }

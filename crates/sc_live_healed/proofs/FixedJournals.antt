@@ -42,7 +42,7 @@ pub record IsFixedJournal (scenario : Scenario) (rows : Rows) : Type 0 where
   pub players : (seat : Seat Player) → IsOf scenario seat → IsFixedPlayer scenario.groups seat.who (value player_table seat rows)
 
 -- what an event may bring to an actor: a mail to it, and no order
-abbrev Brings : List Mail → ℕ → Event OrderLine → Type 0
+abbrev pub Brings : List Mail → ℕ → Event OrderLine → Type 0
 Brings sent who (Deliver number) = (mail : Mail) × (numbered sent number ≡ Some mail) × (mail.to ≡ who)
 Brings sent who (ToldEvent line) = ⊥
 Brings sent who _ = Unit {0}
@@ -51,7 +51,7 @@ module _ (words : ℕ → ℕ → ℕ × ℕ) (scenario : Scenario) (bounded : I
   abbrev bases : List Base
   bases = scenario.groups
 
-  fresh : AreFresh bases
+  pub fresh : AreFresh bases
   fresh = groups_fresh scenario bounded
 
   abbrev IsPlayer : ℕ → Player → Type 0
@@ -119,7 +119,7 @@ module _ (words : ℕ → ℕ → ℕ × ℕ) (scenario : Scenario) (bounded : I
   seats_born : Each IsBornSeat (births as_nodes scenario)
   seats_born = Each-append IsBornSeat (map (node_seat as_nodes bases scenario.policy) (numbers_from 1 scenario.nodes)) (client_seats bases scenario.clients) (nodes_born (numbers_from 1 scenario.nodes)) (clients_born bases (λ base a. a) scenario.clients)
 
-  first_fixed : IsFixedJournal scenario []
+  pub first_fixed : IsFixedJournal scenario []
   first_fixed = record { sent = tt; players = λ seat e. Each-among IsBornSeat (births as_nodes scenario) seat seats_born (find_found (λ (other : Seat Player). eqb other.who seat.who) (births as_nodes scenario) seat e).0 }
 
   -- ---- one row more
@@ -135,7 +135,7 @@ module _ (words : ℕ → ℕ → ℕ × ℕ) (scenario : Scenario) (bounded : I
   takes who (Client client) Go may k = client_fixed bases fresh client Go (λ m e. absurd (cc)) k
   takes who (Client client) (Told line) may k = absurd may
 
-  given : (sent : List Mail) (number : ℕ) (mail : Mail) → Each (IsFixedMail bases) sent → numbered sent number ≡ Some mail → IsFixedMail bases mail
+  pub given : (sent : List Mail) (number : ℕ) (mail : Mail) → Each (IsFixedMail bases) sent → numbered sent number ≡ Some mail → IsFixedMail bases mail
   given sent zero mail s e = absurd (cc)
   given sent (suc place) mail s e = Each-among (IsFixedMail bases) sent mail s (place_among sent place mail e)
 
@@ -168,7 +168,7 @@ module _ (words : ℕ → ℕ → ℕ × ℕ) (scenario : Scenario) (bounded : I
   loosened rows who Crash l = tt
 
   module _ (rows : Rows) (row : Row Mail OrderLine) (untold : is_told row.event ≡ false) (now : IsFixedJournal scenario rows) where
-    brings : (who : ℕ) → row.who ≡ who → IsStep (system_of as_nodes words scenario) rows row → Brings (mails rows) who row.event
+    pub brings : (who : ℕ) → row.who ≡ who → IsStep (system_of as_nodes words scenario) rows row → Brings (mails rows) who row.event
     brings who same (inl step) =
         let event_is : row.event ≡ step.event = ap (λ (r : Row Mail OrderLine). r.event) step.row_is in
         let who_is : step.seat.who ≡ who = sym (ap (λ (r : Row Mail OrderLine). r.who) step.row_is) ∙ same in
@@ -185,7 +185,7 @@ module _ (words : ℕ → ℕ → ℕ × ℕ) (scenario : Scenario) (bounded : I
         (acts (mails rows) step.seat.who (value player_table step.seat rows) step.event now.sent (subst (λ (event : Event OrderLine). Brings (mails rows) step.seat.who event) event_is b) (now.players step.seat step.born)).1
     row_sent (inr step) = subst (Each (IsFixedMail bases)) (sym (ap (λ (r : Row Mail OrderLine). r.sent) step.row_is)) tt
 
-    next_fixed : IsStep (system_of as_nodes words scenario) rows row → IsFixedJournal scenario (rows ++ row ∷ [])
+    pub next_fixed : IsStep (system_of as_nodes words scenario) rows row → IsFixedJournal scenario (rows ++ row ∷ [])
     next_fixed step = record {
       sent = subst (Each (IsFixedMail bases)) (sym (mails-snoc rows row)) (Each-append (IsFixedMail bases) (mails rows) row.sent now.sent (row_sent step));
       players = λ seat is_of. subst (IsPlayer seat.who) (sym (value-snoc player_table seat rows row))

@@ -6,7 +6,7 @@ use Rattle.sc_base.proofs.Lemmas.{draw_is}
 use Rattle.sc_words.proofs.PaxosProofs.Lemmas.{Each-among, Each-append, Each-weaker, find_found}
 use Rattle.sc_node_table.specs.Values.{Draw, Base, Core, Input, Got, OrderLine, Mail, MailBody, Request, Answer, Prepare, Promise, Accept, Accepted, Nack, Learn, Ask, Install, TxPrepare, TxVote, TxOutcome, TxElsewhere, TxWatch, TxWatched, Told}
 use Rattle.sc_actor.specs.declared.rows.Input.TheVariants.{Tick, Go, Told as ToldInput}
-use Rattle.sc_node_table.specs.Definitions.{NodeState, ReplicaState, Place, Executed, name_of, replica_of, with_replica, with_children, taken_by, routed, on_mail, on_tick, may_come, group_of_mail, mailed, ticked, tick_row, names_after_tick, node_table}
+use Rattle.sc_node_table.specs.Definitions.{NodeState, ReplicaState, Place, Executed, name_of, replica_of, with_replica, with_children, taken_by, routed, on_mail, on_tick, is_node, may_come, group_of_mail, mailed, ticked, tick_row, names_after_tick, node_table}
 use Rattle.sc_law_walks.proofs.Lemmas.{either_way}
 use Rattle.sc_law_refusal.proofs.RefusalProofs.Joining.{tick_behind}
 use Rattle.sc_live_healed.proofs.FixedWalks.{IsFixedPlace, IsFresh, IsSaid, IsMember}
@@ -19,6 +19,7 @@ pub record AreFresh (bases : List Base) : Type 0 where
   pub apart : (base other : Base) → Among base bases → Among other bases → base.core.id ≡ other.core.id → base ≡ other
   pub least : (base : Base) → Among base bases → IsMember base (least_of base.core.members)
   pub follows : (base : Base) → Among base bases → (other : Base) × Among other bases × (other.core.id ≡ base.core.succ.group) × (other.core.members ≡ base.core.succ.members)
+  pub within : (base : Base) → Among base bases → (node : ℕ) → IsMember base node → is_node node ≡ true
 
 -- what a node may take: a mail of these groups, a tick or its start
 abbrev pub MayTake : List Base → ℕ → Input Mail OrderLine → Type 0
@@ -68,14 +69,14 @@ module _ (bases : List Base) (fresh : AreFresh bases) (me : ℕ) where
   pub group_said : (base : Base) → Among base bases → (mails : List Mail) → Each (IsSaid base me) mails → Sent mails
   group_said base a mails m = Each-weaker (IsSaid base me) (IsFixedMail bases) (λ mail s. record { base = base; among = a; says = subst (λ (from : ℕ). IsFixedBody base from mail.to mail.body) (sym s.0) s.1 }) mails m
 
-  into : (r : ReplicaState) (k : IsOne r) → IsFixedPlace k.0 me (r, [])
+  pub into : (r : ReplicaState) (k : IsOne r) → IsFixedPlace k.0 me (r, [])
   into r k = record { me_is = k.3; fixed = k.4; ballots = k.5; said = tt }
 
-  out : (base : Base) → Among base bases → IsMember base me → (place : Place) → IsFixedPlace base me place → IsOne place.0
+  pub out : (base : Base) → Among base bases → IsMember base me → (place : Place) → IsFixedPlace base me place → IsOne place.0
   out base a m place k = (base, a, m, k.me_is, k.fixed, k.ballots)
 
   -- the mail of a group names it
-  group_is : (base : Base) (from to : ℕ) (group : Draw) (body : MailBody) → group_of_mail body ≡ Some group → IsFixedBody base from to body → base.core.id ≡ group
+  pub group_is : (base : Base) (from to : ℕ) (group : Draw) (body : MailBody) → group_of_mail body ≡ Some group → IsFixedBody base from to body → base.core.id ≡ group
   group_is base from to group (Request of client seq op) e h = (let same : of ≡ group = cc in sym h.0 ∙ same)
   group_is base from to group (Prepare of ballot from_slot) e h = (let same : of ≡ group = cc in sym h.0 ∙ same)
   group_is base from to group (Promise of ballot reports) e h = (let same : of ≡ group = cc in sym h.0 ∙ same)
@@ -95,7 +96,7 @@ module _ (bases : List Base) (fresh : AreFresh bases) (me : ℕ) where
   group_is base from to group (Told order result) e h = absurd h
 
   -- and it goes to a member
-  to_member : (base : Base) (from to : ℕ) (group : Draw) (body : MailBody) → group_of_mail body ≡ Some group → IsFixedBody base from to body → IsMember base to
+  pub to_member : (base : Base) (from to : ℕ) (group : Draw) (body : MailBody) → group_of_mail body ≡ Some group → IsFixedBody base from to body → IsMember base to
   to_member base from to group (Request of client seq op) e h = h.1
   to_member base from to group (Prepare of ballot from_slot) e h = h.1.1
   to_member base from to group (Promise of ballot reports) e h = h.1.1
@@ -115,17 +116,17 @@ module _ (bases : List Base) (fresh : AreFresh bases) (me : ℕ) where
   to_member base from to group (Told order result) e h = absurd h
 
   -- the name of a replica of one of these groups
-  name_one : (r : ReplicaState) (k : IsOne r) → name_of r ≡ k.0.core.id
+  pub name_one : (r : ReplicaState) (k : IsOne r) → name_of r ≡ k.0.core.id
   name_one r k = ap (λ (core : Core). core.id) k.4.group
 
   -- ---- the replicas of a node
 
-  put : (group : Draw) (new : ReplicaState) (replicas : List ReplicaState) → IsOne new → All replicas → All (with_replica group new replicas)
+  pub put : (group : Draw) (new : ReplicaState) (replicas : List ReplicaState) → IsOne new → All replicas → All (with_replica group new replicas)
   put group new [] n k = tt
   put group new (r ∷ replicas) n k = either_way All (same_draw (name_of r) group) (new ∷ replicas) (r ∷ with_replica group new replicas) (n, k.1) (k.0, put group new replicas n k.1)
 
 module _ (bases : List Base) (fresh : AreFresh bases) (node : NodeState) (k : IsFixedNode bases node) where
-  abbrev One : ReplicaState → Type 0
+  abbrev pub One : ReplicaState → Type 0
   One r = IsOne bases fresh node.me r
 
   -- a step of the node: it keeps its number, its policy and its replicas, and sends mail of these groups
@@ -187,7 +188,7 @@ module _ (bases : List Base) (fresh : AreFresh bases) (node : NodeState) (k : Is
     said : Each (IsFixedMail bases) step.1
 
   -- what stands behind other mail of these groups
-  one_ticks : (drawer : Drawer) (r : ReplicaState) (mails : List Mail) (one : One r) → IsFixedPlace one.0 node.me (tick_row false drawer (r, [])) × (tick_row false drawer (r, mails) ≡ ((tick_row false drawer (r, [])).0, mails ++ (tick_row false drawer (r, [])).1))
+  pub one_ticks : (drawer : Drawer) (r : ReplicaState) (mails : List Mail) (one : One r) → IsFixedPlace one.0 node.me (tick_row false drawer (r, [])) × (tick_row false drawer (r, mails) ≡ ((tick_row false drawer (r, [])).0, mails ++ (tick_row false drawer (r, [])).1))
   one_ticks drawer r mails one = (ticked_fixed one.0 node.me (fresh.each one.0 one.1 node.me one.2) drawer (r, []) (into bases fresh node.me r one), ap (λ (ms : List Mail). tick_row false drawer (r, ms)) (sym (append-nil mails)) ∙ tick_behind mails false drawer r [])
 
   all_tick : (drawer : Drawer) (replicas : List ReplicaState) (mails : List Mail) → Each One replicas → Each (IsFixedMail bases) mails → Ticked replicas (ticked false drawer replicas mails)

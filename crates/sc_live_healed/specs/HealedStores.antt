@@ -44,9 +44,9 @@ pub record AskedACrashedNode (scenario : Scenario) (asks : Asks) (rows : List (R
   pub asked : client.asked ≡ Some (group, node)
   pub crashed : has_crashed rows node ≡ true
 
--- a client's turn counts where the client ticks and has started before, or where it starts there
-abbrev pub Counts : ClientTurn → List (Row Mail OrderLine) → Type 0
-Counts turn rows = (has_started rows (client_actor turn.client) ≡ true) × (turn.kick ≡ Ticks) ⊎ (has_started rows (client_actor turn.client) ≡ false) × (turn.kick ≡ Starts)
+-- a turn kicks its client: the client ticks and has started before, or it starts there
+abbrev pub IsKicked : ClientTurn → List (Row Mail OrderLine) → Type 0
+IsKicked turn rows = (has_started rows (client_actor turn.client) ≡ true) × (turn.kick ≡ Ticks) ⊎ (has_started rows (client_actor turn.client) ≡ false) × (turn.kick ≡ Starts)
 
 -- A prefix of a journal at the end of a line: it is a whole lawful journal of the scenario that ends there.
 pub record IsAtEnd (words : ℕ → ℕ → ℕ × ℕ) (scenario : Scenario) (healed : IsHealed scenario) (done : List ClientTurn) (journal rows : List (Row Mail OrderLine)) : Type 0 where
@@ -62,21 +62,21 @@ StaysIdle words scenario healed journal =
     (done rest : List ClientTurn) → healed.asks ≡ done ++ rest
     → (rows : List (Row Mail OrderLine)) × IsAtEnd words scenario healed done journal rows × IsIdleStore scenario rows
 
--- behind a client's turn that counts, the client has all its replies, or the node that it asked last has crashed
+-- behind a turn that kicks its client, the client has all its replies, or the node that it asked last has crashed
 abbrev pub AnswersTurns : (ℕ → ℕ → ℕ × ℕ) → (scenario : Scenario) → IsHealed scenario → List (Row Mail OrderLine) → Type 0
 AnswersTurns words scenario healed journal =
     (done rest : List ClientTurn) (turn : ClientTurn) (asks : Asks) → healed.asks ≡ done ++ turn ∷ rest → Among asks scenario.clients → asks.client ≡ turn.client
     → (early late : List (Row Mail OrderLine)) × IsAtEnd words scenario healed done journal early × IsAtEnd words scenario healed (done ++ turn ∷ []) journal late
-        × (Counts turn early → HasReplies scenario asks late ⊎ AskedACrashedNode scenario asks late)
+        × (IsKicked turn early → HasReplies scenario asks late ⊎ AskedACrashedNode scenario asks late)
 
--- behind a client's turn that counts, where no line crashes a node, the client has all its replies
+-- behind a turn that kicks its client, where no line crashes a node, the client has all its replies
 abbrev pub AnswersAll : (ℕ → ℕ → ℕ × ℕ) → (scenario : Scenario) → IsHealed scenario → List (Row Mail OrderLine) → Type 0
 AnswersAll words scenario healed journal =
     ((node : ℕ) → list_any (crashes node) scenario.lines ≡ false)
     → (done rest : List ClientTurn) (turn : ClientTurn) (asks : Asks) → healed.asks ≡ done ++ turn ∷ rest → Among asks scenario.clients → asks.client ≡ turn.client
-    → (early late : List (Row Mail OrderLine)) × IsAtEnd words scenario healed done journal early × IsAtEnd words scenario healed (done ++ turn ∷ []) journal late × (Counts turn early → HasReplies scenario asks late)
+    → (early late : List (Row Mail OrderLine)) × IsAtEnd words scenario healed done journal early × IsAtEnd words scenario healed (done ++ turn ∷ []) journal late × (IsKicked turn early → HasReplies scenario asks late)
 
--- A store heals: behind the sweep each replica that runs is settled and idle, and each client whose turn counts is answered, or asked a crashed node.
+-- A store heals: behind the sweep each replica that runs is settled and idle, and each client that a turn kicks is answered, or asked a crashed node.
 pub record Heals (words : ℕ → ℕ → ℕ × ℕ) (scenario : Scenario) (healed : IsHealed scenario) (journal : List (Row Mail OrderLine)) : Type 0 where
   pub idle : StaysIdle words scenario healed journal
   pub answers : AnswersTurns words scenario healed journal

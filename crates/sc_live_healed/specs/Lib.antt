@@ -1,4 +1,7 @@
 pub mod FixedMembers
+pub mod TakenSlots
+pub mod VotesUnderWay
+pub mod IdleReplicas
 pub mod Polls
 pub mod HealedSchedules
 pub mod HealedStores

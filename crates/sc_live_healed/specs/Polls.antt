@@ -14,3 +14,11 @@ AnswersPoll ballot from_slot (Promise group promised reports) = promised ≡ bal
 AnswersPoll ballot from_slot (Nack group promised) = below ballot promised ≡ true
 AnswersPoll ballot from_slot (Install group slot base sets) = from_slot ≤ slot
 AnswersPoll ballot from_slot _ = ⊥
+
+-- a mail is of a kind that answers polls, or a request: none of these is an entry
+abbrev pub IsAnswerKind : MailBody → Type 0
+IsAnswerKind (Promise group promised reports) = Unit {0}
+IsAnswerKind (Nack group promised) = Unit {0}
+IsAnswerKind (Install group slot base sets) = Unit {0}
+IsAnswerKind (Request group client seq op) = Unit {0}
+IsAnswerKind _ = ⊥

@@ -10,15 +10,15 @@ pub use Rattle.sc_live_plain.proofs.RowsProofs.RowViews.{Journal, replica_is, re
 pub use Rattle.sc_live_plain.proofs.PlainProofs.AnsweredRequests.{replies_more, first_delivery, many_line}
 pub use Rattle.sc_live_plain.proofs.LeadersProofs.IdleLeaders.{leader_idle}
 pub use Rattle.sc_live_plain.proofs.PlainProofs.WaitingRequestJournals.{client_is}
-pub use Rattle.sc_live_plain.proofs.RowsProofs.SlotCounts.{at_found, out_each, with_each, one_if, one_yes, one_no, with_at}
+pub use Rattle.sc_live_plain.proofs.RowsProofs.SlotCounts.{at_found, out_each, with_each, one_if, one_yes, one_no, with_at, at_nothing, count-cons, count-push, entries_at, find_some, one_if_most, out_here, out_length, out_none, out_other, standing, with_count}
 pub use Rattle.sc_live_plain.proofs.LeadersProofs.ExecutedCalls.{IsServed, call_plain, entered_frame}
 pub use Rattle.sc_live_plain.proofs.LeadersProofs.PlainEntries.{recorded_after, counted_call, learnt_call}
-pub use Rattle.sc_live_plain.proofs.RowsProofs.RepeatedMail.{mail_of}
-pub use Rattle.sc_live_plain.proofs.LeadersProofs.LeadingReplicas.{in_range, range_yes, IsHeld, range_behind}
-pub use Rattle.sc_live_plain.proofs.LeadersProofs.Pumps.{call_is}
+pub use Rattle.sc_live_plain.proofs.RowsProofs.RepeatedMail.{mail_of, all_kept, all_reached, among_push, last_among, others_kept}
+pub use Rattle.sc_live_plain.proofs.LeadersProofs.LeadingReplicas.{in_range, range_yes, IsHeld, range_behind, flights_at, range_before, range_less, range_more, takes, takes_not}
+pub use Rattle.sc_live_plain.proofs.LeadersProofs.Pumps.{call_is, by_found, by_nothing, call_found, none_found}
 pub use Rattle.sc_live_plain.proofs.LeadersProofs.LeaderExecutions.{IsRun}
 pub use Rattle.sc_live_plain.proofs.RowsProofs.AcceptAndLearnRows.{as_voter, learn_is, learnt_plain, learnt_follower, learnt_next, accept_is}
-pub use Rattle.sc_live_plain.proofs.RowsProofs.Replicas.{put_found}
+pub use Rattle.sc_live_plain.proofs.RowsProofs.Replicas.{put_found, put_others}
 pub use Rattle.sc_live_plain.proofs.RowsProofs.ReplicaRows.{leading_at, replica_row, DidRefuse, DidQueue, DidCount, following_at, none_stops, Does}
 pub use Rattle.sc_live_plain.proofs.RowsProofs.NodeRows.{IsFor, for_node, NodeRow, mail_is, others_after}
 pub use Rattle.sc_live_plain.proofs.PlainProofs.PlainKnownGroups.{IsBefore, parts_of, chosen_is, among_last}
@@ -37,6 +37,7 @@ pub use Rattle.sc_live_plain.proofs.CalmProofs.RequestPhaseClients.{asking_row}
 pub use Rattle.sc_live_plain.proofs.CalmProofs.RequestsAfterQuiet.{quiet_ask}
 pub use Rattle.sc_live_plain.proofs.CalmProofs.CalmWaitingRequests.{AreSought, IsSought, sought_row}
 pub use Rattle.sc_live_plain.proofs.CalmProofs.RequestLines.{lines_answered, asked_node}
+pub use Rattle.sc_live_plain.proofs.LeadersProofs.Flights.{numbered_get, numbered_past, only_flight, vote_kept, voted_count}
 pub use Rattle.sc_live_plain.proofs.Laws.{plain_lines_end_quiet, requests_go_on, quiet_journals_ask}
 pub use Rattle.sc_live_plain.proofs.BudgetProofs.LastLineEnds.{all_plain, last_lines_quiet}
 pub use Rattle.sc_live_plain.proofs.BudgetProofs.QuietLineEnds.{lines_plain}

@@ -27,24 +27,24 @@ served_key : (into : Option Route) (core : Core) (op : Op) → into ≡ None →
 served_key None core op e h = cond-true (holds_key core.arc (key_of op)) None _ h
 served_key (Some into) core op e h = cc
 
-call_found : (me : ℕ) (idle : Bool) (core : Core) (client seq : ℕ) (op : Op) (backlog : List Command) (mails : List Mail) → core.lock ≡ Free → core.gone ≡ None → holds_key core.arc (key_of op) ≡ true
+pub call_found : (me : ℕ) (idle : Bool) (core : Core) (client seq : ℕ) (op : Op) (backlog : List Command) (mails : List Mail) → core.lock ≡ Free → core.gone ≡ None → holds_key core.arc (key_of op) ≡ true
     → next_queued me idle core (Call client seq op ∷ backlog) mails ≡ (Some (Call client seq op), backlog, mails)
 unfolding next_queued
 call_found me idle core client seq op backlog mails f g h =
     cond-false (waits idle core.lock (Call client seq op)) _ _ (ap (λ (lock : Lock). not (admits_requests lock)) f)
     ∙ found_turn (turned_down core (Call client seq op)) me idle core (Call client seq op) backlog mails (served_key core.gone core op g h)
 
-none_found : (me : ℕ) (idle : Bool) (core : Core) (mails : List Mail) → next_queued me idle core [] mails ≡ (None, [], mails)
+pub none_found : (me : ℕ) (idle : Bool) (core : Core) (mails : List Mail) → next_queued me idle core [] mails ≡ (None, [], mails)
 unfolding next_queued
 none_found me idle core mails = refl
 
 -- what is found goes on
-by_found : (P : Place → Type 0) (slot : ℕ) (set : List ℕ) (sets : List (List ℕ)) (found : Found) (command : Command) (place : Place) → found ≡ (Some command, place) → P (pumped_from (slot + 1) sets (offered slot set command place))
+pub by_found : (P : Place → Type 0) (slot : ℕ) (set : List ℕ) (sets : List (List ℕ)) (found : Found) (command : Command) (place : Place) → found ≡ (Some command, place) → P (pumped_from (slot + 1) sets (offered slot set command place))
     → P (elim (found.0) [ None ↦ found.1 | Some c ↦ pumped_from (slot + 1) sets (offered slot set c found.1) ])
 by_found P slot set sets found command place e p =
     subst (λ (f : Found). P (elim (f.0) [ None ↦ f.1 | Some c ↦ pumped_from (slot + 1) sets (offered slot set c f.1) ])) (sym e) p
 
-by_nothing : (P : Place → Type 0) (slot : ℕ) (set : List ℕ) (sets : List (List ℕ)) (found : Found) (place : Place) → found ≡ (None, place) → P place
+pub by_nothing : (P : Place → Type 0) (slot : ℕ) (set : List ℕ) (sets : List (List ℕ)) (found : Found) (place : Place) → found ≡ (None, place) → P place
     → P (elim (found.0) [ None ↦ found.1 | Some c ↦ pumped_from (slot + 1) sets (offered slot set c found.1) ])
 by_nothing P slot set sets found place e p =
     subst (λ (f : Found). P (elim (f.0) [ None ↦ f.1 | Some c ↦ pumped_from (slot + 1) sets (offered slot set c f.1) ])) (sym e) p
