@@ -2,7 +2,7 @@
 use Rattle.std.proofs.Common.{◌≡◌, ℕ, ◌+◌, ◌-◌, ◌<◌, ◌≤◌, nat_le, cond, true, false, List, [], ◌∷◌, ◌++◌, length, Some, None}
 use Rattle.sc_base.specs.Definitions.{Each, is_member}
 use Rattle.sc_node_table.specs.Values.{Ballot, Draw, Op, Command, Noop, Call, Base, Free, AnswerBody, Mail, MailBody, Request, Prepare, Promise, Accept, Accepted, Nack, Learn, Ask, Install, Chosen, NotYet, Report}
-use Rattle.sc_words.specs.declared.paxos.answers.Must.TheVariants.{Value}
+use Rattle.sc_words.specs.declared.paxos.answers.Must.TheVariants.{Value, Gap}
 use Rattle.sc_group_table.specs.machine.Definitions.{base_of}
 use Rattle.sc_words.specs.paxos.Definitions.{IsAtLeast, reports_from, after_promise, after_accept, may_promise, may_accept, promise_counted, entry_at, counted, must, below}
 use Rattle.sc_node_table.specs.Definitions.{stopped, offered, answered, answer_to, turned_down, sent, jumped, hinted, refused_at, ReplicaState, Place, name_of, next, taken_at, at_slot, with_slot, queued_number, without_request, flying, settled}
@@ -39,9 +39,9 @@ module _ (base : Base) (me : ℕ) (x : FixedFacts) where
     -- what is offered at an open slot, and a request that gets no slot
     pub turned : (command : Command) (answer : AnswerBody) (backlog : List Command) (r : ReplicaState) (mails : List Mail) → r.running ≡ true → r.backlog ≡ command ∷ backlog → turned_down r.group.core command ≡ Some answer → F (r, mails) → E (r, mails)
         → E (record r { backlog = backlog }, answered r.me r.group.core.id answer command mails)
-    pub offers_value : (slot : ℕ) (set : List ℕ) (command : Command) (r : ReplicaState) (mails : List Mail) → r.running ≡ true → slot < next r + length r.sets → taken_at r slot ≡ None → must slot r.leader ≡ Value command → Each (IsMember base) set → F (r, mails) → E (r, mails) → E (offered slot set command (r, mails))
-    pub offers_noop : (slot : ℕ) (set : List ℕ) (r : ReplicaState) (mails : List Mail) → r.running ≡ true → slot < next r + length r.sets → taken_at r slot ≡ None → Each (IsMember base) set → F (r, mails) → E (r, mails) → E (offered slot set Noop (r, mails))
-    pub offers_call : (slot : ℕ) (set : List ℕ) (command : Command) (backlog : List Command) (r : ReplicaState) (mails : List Mail) → r.running ≡ true → slot < next r + length r.sets → taken_at r slot ≡ None → r.backlog ≡ command ∷ backlog → Each (IsMember base) set → F (r, mails) → E (r, mails)
+    pub offers_value : (slot : ℕ) (set : List ℕ) (command : Command) (r : ReplicaState) (mails : List Mail) → r.running ≡ true → next r ≤ slot → slot < next r + length r.sets → taken_at r slot ≡ None → must slot r.leader ≡ Value command → Each (IsMember base) set → F (r, mails) → E (r, mails) → E (offered slot set command (r, mails))
+    pub offers_noop : (slot : ℕ) (set : List ℕ) (r : ReplicaState) (mails : List Mail) → r.running ≡ true → next r ≤ slot → slot < next r + length r.sets → taken_at r slot ≡ None → must slot r.leader ≡ Gap → Each (IsMember base) set → F (r, mails) → E (r, mails) → E (offered slot set Noop (r, mails))
+    pub offers_call : (slot : ℕ) (set : List ℕ) (command : Command) (backlog : List Command) (r : ReplicaState) (mails : List Mail) → r.running ≡ true → next r ≤ slot → slot < next r + length r.sets → taken_at r slot ≡ None → r.backlog ≡ command ∷ backlog → Each (IsMember base) set → F (r, mails) → E (r, mails)
         → E (offered slot set command (record r { backlog = backlog }, mails))
     -- entries
     pub counted_entry : (command : Command) (r : ReplicaState) (mails : List Mail) → r.running ≡ true → at_slot r.ready (next r) ≡ Some command → F (r, mails) → E (r, mails) → E (entered_place true command (r, mails))
@@ -61,8 +61,8 @@ module _ (base : Base) (me : ℕ) (x : FixedFacts) where
     pub nacks : (to : ℕ) (r : ReplicaState) (mails : List Mail) → IsMember base to → F (r, mails) → E (r, mails) → E (r, sent r.me to (Nack (name_of r) r.acceptor.promised) mails)
     -- entries and states that are sent
     pub installs : (to : ℕ) (r : ReplicaState) (mails : List Mail) → IsMember base to → F (r, mails) → E (r, mails) → E (r, sent r.me to (Install (name_of r) (next r - 1) (base_of r.group) r.sets) mails)
-    pub recalls : (to slot : ℕ) (command : Command) (r : ReplicaState) (mails : List Mail) → IsMember base to → entry_at slot r.log ≡ Some command → F (r, mails) → E (r, mails) → E (r, sent r.me to (Learn (name_of r) slot command) mails)
-    pub wants : (to slot : ℕ) (r : ReplicaState) (mails : List Mail) → IsMember base to → next r < slot → F (r, mails) → E (r, mails) → E (r, sent r.me to (Ask (name_of r) (next r)) mails)
+    pub recalls : (to from_slot slot : ℕ) (group : Draw) (command : Command) (r : ReplicaState) (mails : List Mail) → Hears to (Ask group from_slot) → IsMember base to → entry_at slot r.log ≡ Some command → F (r, mails) → E (r, mails) → E (r, sent r.me to (Learn (name_of r) slot command) mails)
+    pub wants : (to slot : ℕ) (group : Draw) (command : Command) (r : ReplicaState) (mails : List Mail) → Hears to (Learn group slot command) → IsMember base to → next r < slot → F (r, mails) → E (r, mails) → E (r, sent r.me to (Ask (name_of r) (next r)) mails)
     -- a state that is taken over
     pub stops : (from : ℕ) (r : ReplicaState) (mails : List Mail) → IsMember base from → r.running ≡ true → F (r, mails) → E (r, mails) → E (stopped (Some from) (r, mails))
     pub jumps : (from : ℕ) (group : Draw) (slot : ℕ) (sent : Base) (sets : List (List ℕ)) (r : ReplicaState) (mails : List Mail) → Hears from (Install group slot sent sets) → next r ≤ slot → r.running ≡ false → F (r, mails) → E (r, mails) → E (record (jumped slot sent sets r) { hint = Some from }, mails)
@@ -96,9 +96,9 @@ module _ (base : Base) (me : ℕ) (fresh : IsFresh base me) (x : FixedFacts) (t 
     accept_seen = λ from group ballot slot command h. (w.accept_seen from group ballot slot command h.0, t.accept_seen from group ballot slot command h);
     nack_seen = λ from group promised h. (w.nack_seen from group promised h.0, t.nack_seen from group promised h);
     turned = λ command answer backlog r mails p0 p1 p2 k. (w.turned command answer backlog r mails p0 p1 p2 k.0, t.turned command answer backlog r mails p0 p1 p2 k.0 k.1);
-    offers_value = λ slot set command r mails p0 low p1 p2 p3 p4 k. (w.offers_value slot set command r mails p0 low p1 p2 p3 p4 k.0, t.offers_value slot set command r mails p0 p1 p2 p3 p4 k.0 k.1);
-    offers_noop = λ slot set r mails p0 low p1 p2 p3 k. (w.offers_noop slot set r mails p0 low p1 p2 p3 k.0, t.offers_noop slot set r mails p0 p1 p2 p3 k.0 k.1);
-    offers_call = λ slot set command backlog r mails p0 low p1 p2 p3 p4 k. (w.offers_call slot set command backlog r mails p0 low p1 p2 p3 p4 k.0, t.offers_call slot set command backlog r mails p0 p1 p2 p3 p4 k.0 k.1);
+    offers_value = λ slot set command r mails p0 low p1 p2 p3 p4 k. (w.offers_value slot set command r mails p0 low p1 p2 p3 p4 k.0, t.offers_value slot set command r mails p0 low p1 p2 p3 p4 k.0 k.1);
+    offers_noop = λ slot set r mails p0 low p1 p2 gap p3 k. (w.offers_noop slot set r mails p0 low p1 p2 gap p3 k.0, t.offers_noop slot set r mails p0 low p1 p2 gap p3 k.0 k.1);
+    offers_call = λ slot set command backlog r mails p0 low p1 p2 p3 p4 k. (w.offers_call slot set command backlog r mails p0 low p1 p2 p3 p4 k.0, t.offers_call slot set command backlog r mails p0 low p1 p2 p3 p4 k.0 k.1);
     counted_entry = λ command r mails p0 p1 k. (w.counted_entry command r mails p0 p1 k.0, t.counted_entry command r mails p0 p1 k.0 k.1);
     learnt_entry = λ from group command r mails p0 first k. (w.learnt_entry from group command r mails p0.0 tt k.0, t.learnt_entry from group command r mails p0 k.0 k.1);
     seen = λ ballot r mails p0 p1 p2 k. (w.seen ballot r mails p0.0 p1 p2 k.0, t.seen ballot r mails p0 p1 p2 k.0 k.1);
@@ -110,8 +110,8 @@ module _ (base : Base) (me : ℕ) (fresh : IsFresh base me) (x : FixedFacts) (t 
     accepted = λ from group report r mails p0 p1 p2 p3 k. (w.accepted from group report r mails p0.0 p1 p2 p3 k.0, t.accepted from group report r mails p0 p1 p2 p3 k.0 k.1);
     nacks = λ to r mails p0 k. (w.nacks to r mails p0 k.0, t.nacks to r mails p0 k.0 k.1);
     installs = λ to r mails p0 k. (w.installs to r mails p0 k.0, t.installs to r mails p0 k.0 k.1);
-    recalls = λ to slot command r mails p0 p1 k. (w.recalls to slot command r mails p0 p1 k.0, t.recalls to slot command r mails p0 p1 k.0 k.1);
-    wants = λ to slot r mails p0 p1 k. (w.wants to slot r mails p0 p1 k.0, t.wants to slot r mails p0 p1 k.0 k.1);
+    recalls = λ to from_slot slot group command r mails h p0 p1 k. (w.recalls to from_slot slot group command r mails h.0 p0 p1 k.0, t.recalls to from_slot slot group command r mails h p0 p1 k.0 k.1);
+    wants = λ to slot group command r mails h p0 p1 k. (w.wants to slot group command r mails h.0 p0 p1 k.0, t.wants to slot group command r mails h p0 p1 k.0 k.1);
     stops = λ from r mails p0 p1 k. (w.stops from r mails p0 p1 k.0, t.stops from r mails p0 p1 k.0 k.1);
     jumps = λ from group slot sent sets r mails p0 p1 p2 k. (w.jumps from group slot sent sets r mails p0.0 p1 p2 k.0, t.jumps from group slot sent sets r mails p0 p1 p2 k.0 k.1);
     refuses = λ client seq op answer r mails p0 k. (w.refuses client seq op answer r mails p0 k.0, t.refuses client seq op answer r mails p0 k.0 k.1);

@@ -59,7 +59,7 @@ module _ (base : Base) (me : ℕ) (fresh : IsFresh base me) where
     nack_seen = λ from group promised h. h.2;
     turned = λ command answer backlog r mails on e no k. absurd (parts.never_turned base me fresh command r.group.core answer (changes.head_of base me fresh command backlog r e k.fixed).0 k.fixed.group no);
     offers_value = λ slot set command r mails on low near none e of k. changes.offers base me fresh slot set command r mails on (parts.must_fixed base slot command r.leader e k.fixed.reports) of k;
-    offers_noop = λ slot set r mails on low near none of k. changes.offers base me fresh slot set Noop r mails on (inr refl) of k;
+    offers_noop = λ slot set r mails on low near none gap of k. changes.offers base me fresh slot set Noop r mails on (inr refl) of k;
     offers_call = λ slot set command backlog r mails on low near none e of k. (let head = changes.head_of base me fresh command backlog r e k.fixed in
         changes.offers base me fresh slot set command (record r { backlog = backlog }) mails on (inl head.0) of (changes.with_backlog base me fresh r mails backlog on head.1 k));
     counted_entry = λ command r mails on e k. changes.enters_place base me fresh true command r mails (λ _. on) (parts.ready_fixed base r.ready (next r) command e k.fixed.ready) k;
@@ -78,8 +78,8 @@ module _ (base : Base) (me : ℕ) (fresh : IsFresh base me) where
     accepted = λ from group report r mails h top goes t k. accepts from report r mails h.1.0 h.2 h.3 top goes k;
     nacks = λ to r mails m k. changes.sends base me fresh r to (Nack (name_of r) r.acceptor.promised) mails (changes.name_is base me fresh r k.fixed, (fresh.member, m), k.ballots.asker) k;
     installs = λ to r mails m k. changes.sends base me fresh r to (Install (name_of r) (next r - 1) (base_of r.group) r.sets) mails (changes.name_is base me fresh r k.fixed, (fresh.member, m), k.fixed.group, k.fixed.sets) k;
-    recalls = λ to slot command r mails m e k. changes.sends base me fresh r to (Learn (name_of r) slot command) mails (changes.name_is base me fresh r k.fixed, (fresh.member, m), parts.entry_fixed base slot r.log command e k.fixed.entries) k;
-    wants = λ to slot r mails m low k. changes.sends base me fresh r to (Ask (name_of r) (next r)) mails (changes.name_is base me fresh r k.fixed, (fresh.member, m)) k;
+    recalls = λ to from_slot slot group command r mails h m e k. changes.sends base me fresh r to (Learn (name_of r) slot command) mails (changes.name_is base me fresh r k.fixed, (fresh.member, m), parts.entry_fixed base slot r.log command e k.fixed.entries) k;
+    wants = λ to slot group command r mails h m low k. changes.sends base me fresh r to (Ask (name_of r) (next r)) mails (changes.name_is base me fresh r k.fixed, (fresh.member, m)) k;
     stops = λ from r mails m on k. changes.stops_at base me fresh from r mails m k;
     jumps = λ from group slot sent sets r mails h later off k. changes.jumps base me fresh from slot sent sets r mails h.1.0 h.2 h.3 off k;
     refuses = λ client seq op answer r mails e k. changes.answers_client base me fresh r client seq answer mails (parts.refused_fine base me fresh op r answer k.fixed.group (leader_of r k.ballots) e) k;

@@ -108,7 +108,7 @@ module _ (base : Base) (me : ℕ) (w : FixedWalk base me) where
 
     by_find : (what : Must Command) (place : Place) → must slot place.0.leader ≡ what → At place → Finds (found_by what place)
     by_find (Value command) (r, mails) e k = offered_so command r mails k.0.1 k.0.2 k.0.3 (w.offers_value slot set command r mails k.0.1 k.1 k.2 k.3 e of k.0.0)
-    by_find Gap (r, mails) e k = offered_so _ r mails k.0.1 k.0.2 k.0.3 (w.offers_noop slot set r mails k.0.1 k.1 k.2 k.3 of k.0.0)
+    by_find Gap (r, mails) e k = offered_so _ r mails k.0.1 k.0.2 k.0.3 (w.offers_noop slot set r mails k.0.1 k.1 k.2 k.3 e of k.0.0)
     by_find Open place e k = queues_find place k
 
     slot_finds : (place : Place) → At place → Finds (found_for slot place)

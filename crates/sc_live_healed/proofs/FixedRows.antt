@@ -184,13 +184,13 @@ module _ (base : Base) (me : ℕ) (w : FixedWalk base me) where
       (cond_both (eqb slot (next r)) (executed false command (r, mails)) _ After
       (λ t. execution base me w false command (r, mails) (w.heard from (Learn group slot command) h).2 (w.learnt_entry from group command r mails (subst (λ s. Hears from (Learn group s command)) (eqb-true slot (next r) t) h) first k))
       (λ _. cond_both (nat_lt (next r) slot) (childless (r, sent r.me from (Ask (name_of r) (next r)) mails)) (childless (r, mails)) After
-      (λ t. (w.wants from slot r mails (w.heard from (Learn group slot command) h).1.0 (ltb-true (next r) slot t) k, refl)) (λ _. (k, refl))))
+      (λ t. (w.wants from slot group command r mails h (w.heard from (Learn group slot command) h).1.0 (ltb-true (next r) slot t) k, refl)) (λ _. (k, refl))))
 
-  module _ (from : ℕ) (m : IsMember base from) where
+  module _ (from from_slot : ℕ) (group : Draw) (h : Hears from (Ask group from_slot)) (m : IsMember base from) where
     teaches_by : (count : ℕ) (r : ReplicaState) (slot : ℕ) (mails : List Mail) (o : Option Command) → entry_at slot r.log ≡ o → P (r, mails) → ((more : List Mail) → P (r, more) → P (r, taught count r from (slot + 1) more))
         → P (r, elim o [ None ↦ mails | Some command ↦ taught count r from (slot + 1) (sent r.me from (Learn (name_of r) slot command) mails) ])
     teaches_by count r slot mails None e k more = k
-    teaches_by count r slot mails (Some command) e k more = more (sent r.me from (Learn (name_of r) slot command) mails) (w.recalls from slot command r mails m e k)
+    teaches_by count r slot mails (Some command) e k more = more (sent r.me from (Learn (name_of r) slot command) mails) (w.recalls from from_slot slot group command r mails h m e k)
 
     teaches : (count : ℕ) (r : ReplicaState) (slot : ℕ) (mails : List Mail) → P (r, mails) → P (r, taught count r from slot mails)
     unfolding taught
@@ -200,7 +200,7 @@ module _ (base : Base) (me : ℕ) (w : FixedWalk base me) where
   answers_ask : (from : ℕ) (group : Draw) (slot : ℕ) (place : Place) → Hears from (Ask group slot) → P place → P (ask_row from slot place)
   answers_ask from group slot (r, mails) h k =
       let m = (w.heard from (Ask group slot) h).1.0 in
-      asked_place P from slot (r, mails) k (state_sent from (r, mails) m k) (teaches from m most_taught r slot mails k)
+      asked_place P from slot (r, mails) k (state_sent from (r, mails) m k) (teaches from slot group h m most_taught r slot mails k)
 
   -- the sender is a member, so it is taken for the leader
   follows : (from slot : ℕ) (sent : Base) (sets : List (List ℕ)) (r : ReplicaState) (mails : List Mail) → sent.core ≡ base.core → IsMember base from → P (record (jumped slot sent sets r) { hint = Some from }, mails) → P (looked_up from (jumped slot sent sets r, mails))

@@ -2,7 +2,7 @@
 use Rattle.std.proofs.Common.{◌≡◌, ℕ, ◌+◌, ◌-◌, ◌<◌, ◌≤◌, nat_le, cond, true, false, List, [], ◌∷◌, ◌++◌, length, Some, None}
 use Rattle.sc_base.specs.Definitions.{Each, is_member}
 use Rattle.sc_node_table.specs.Values.{Ballot, Draw, Op, Command, Noop, Call, Base, Free, AnswerBody, Mail, MailBody, Request, Prepare, Promise, Accept, Accepted, Nack, Learn, Ask, Install, Chosen, NotYet, Report}
-use Rattle.sc_words.specs.declared.paxos.answers.Must.TheVariants.{Value}
+use Rattle.sc_words.specs.declared.paxos.answers.Must.TheVariants.{Value, Gap}
 use Rattle.sc_group_table.specs.machine.Definitions.{base_of}
 use Rattle.sc_words.specs.paxos.Definitions.{IsAtLeast, reports_from, after_promise, after_accept, may_promise, may_accept, promise_counted, entry_at, counted, must, below}
 use Rattle.sc_node_table.specs.Definitions.{stopped, offered, answered, answer_to, turned_down, sent, jumped, hinted, refused_at, ReplicaState, Place, name_of, next, taken_at, at_slot, with_slot, queued_number, without_request, flying, settled}
@@ -48,7 +48,7 @@ pub record FixedWalk (base : Base) (me : ℕ) : Type 1 where
   pub turned : (command : Command) (answer : AnswerBody) (backlog : List Command) (r : ReplicaState) (mails : List Mail) → r.running ≡ true → r.backlog ≡ command ∷ backlog → turned_down r.group.core command ≡ Some answer → P (r, mails)
       → P (record r { backlog = backlog }, answered r.me r.group.core.id answer command mails)
   pub offers_value : (slot : ℕ) (set : List ℕ) (command : Command) (r : ReplicaState) (mails : List Mail) → r.running ≡ true → next r ≤ slot → slot < next r + length r.sets → taken_at r slot ≡ None → must slot r.leader ≡ Value command → Each (IsMember base) set → P (r, mails) → P (offered slot set command (r, mails))
-  pub offers_noop : (slot : ℕ) (set : List ℕ) (r : ReplicaState) (mails : List Mail) → r.running ≡ true → next r ≤ slot → slot < next r + length r.sets → taken_at r slot ≡ None → Each (IsMember base) set → P (r, mails) → P (offered slot set Noop (r, mails))
+  pub offers_noop : (slot : ℕ) (set : List ℕ) (r : ReplicaState) (mails : List Mail) → r.running ≡ true → next r ≤ slot → slot < next r + length r.sets → taken_at r slot ≡ None → must slot r.leader ≡ Gap → Each (IsMember base) set → P (r, mails) → P (offered slot set Noop (r, mails))
   pub offers_call : (slot : ℕ) (set : List ℕ) (command : Command) (backlog : List Command) (r : ReplicaState) (mails : List Mail) → r.running ≡ true → next r ≤ slot → slot < next r + length r.sets → taken_at r slot ≡ None → r.backlog ≡ command ∷ backlog → Each (IsMember base) set → P (r, mails)
       → P (offered slot set command (record r { backlog = backlog }, mails))
   -- entries
@@ -69,8 +69,8 @@ pub record FixedWalk (base : Base) (me : ℕ) : Type 1 where
   pub nacks : (to : ℕ) (r : ReplicaState) (mails : List Mail) → IsMember base to → P (r, mails) → P (r, sent r.me to (Nack (name_of r) r.acceptor.promised) mails)
   -- entries and states that are sent
   pub installs : (to : ℕ) (r : ReplicaState) (mails : List Mail) → IsMember base to → P (r, mails) → P (r, sent r.me to (Install (name_of r) (next r - 1) (base_of r.group) r.sets) mails)
-  pub recalls : (to slot : ℕ) (command : Command) (r : ReplicaState) (mails : List Mail) → IsMember base to → entry_at slot r.log ≡ Some command → P (r, mails) → P (r, sent r.me to (Learn (name_of r) slot command) mails)
-  pub wants : (to slot : ℕ) (r : ReplicaState) (mails : List Mail) → IsMember base to → next r < slot → P (r, mails) → P (r, sent r.me to (Ask (name_of r) (next r)) mails)
+  pub recalls : (to from_slot slot : ℕ) (group : Draw) (command : Command) (r : ReplicaState) (mails : List Mail) → Hears to (Ask group from_slot) → IsMember base to → entry_at slot r.log ≡ Some command → P (r, mails) → P (r, sent r.me to (Learn (name_of r) slot command) mails)
+  pub wants : (to slot : ℕ) (group : Draw) (command : Command) (r : ReplicaState) (mails : List Mail) → Hears to (Learn group slot command) → IsMember base to → next r < slot → P (r, mails) → P (r, sent r.me to (Ask (name_of r) (next r)) mails)
   -- a state that is taken over
   pub stops : (from : ℕ) (r : ReplicaState) (mails : List Mail) → IsMember base from → r.running ≡ true → P (r, mails) → P (stopped (Some from) (r, mails))
   pub jumps : (from : ℕ) (group : Draw) (slot : ℕ) (sent : Base) (sets : List (List ℕ)) (r : ReplicaState) (mails : List Mail) → Hears from (Install group slot sent sets) → next r ≤ slot → r.running ≡ false → P (r, mails) → P (record (jumped slot sent sets r) { hint = Some from }, mails)

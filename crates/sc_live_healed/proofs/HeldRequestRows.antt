@@ -325,7 +325,7 @@ module _ (base : Base) (me client seq : ℕ) (Elsewhere : Type 0) (f : FixedWalk
     nack_seen = λ from group promised h. f.nack_seen from group promised h.0;
     turned = λ command answer backlog r mails on e turn k. absurd (never_turned base me f.fresh command r.group.core answer (head_request command backlog r mails e k.0) (f.frame (r, mails) k.0).fixed.group turn);
     offers_value = λ slot set command r mails on low near none e of k. (f.offers_value slot set command r mails on low near none e of k.0, offers_more slot set command r mails low near none k.1);
-    offers_noop = λ slot set r mails on low near none of k. (f.offers_noop slot set r mails on low near none of k.0, offers_more slot set Noop r mails low near none k.1);
+    offers_noop = λ slot set r mails on low near none gap of k. (f.offers_noop slot set r mails on low near none gap of k.0, offers_more slot set Noop r mails low near none k.1);
     offers_call = λ slot set command backlog r mails on low near none e of k. (f.offers_call slot set command backlog r mails on low near none e of k.0, offers_head slot set command backlog r mails low near none e k.1);
     counted_entry = λ command r mails on e k. (f.counted_entry command r mails on e k.0, counts_entry command r mails on e k);
     learnt_entry = λ from group command r mails h first k. (f.learnt_entry from group command r mails h.0 first.0 k.0, learns_entry from group command r mails h.0 h.1 first.0 first.1 k);
@@ -360,8 +360,8 @@ module _ (base : Base) (me client seq : ℕ) (Elsewhere : Type 0) (f : FixedWalk
     );
     nacks = λ to r mails m k. (f.nacks to r mails m k.0, pushed r mails to _ k.1);
     installs = λ to r mails m k. (f.installs to r mails m k.0, pushed r mails to _ k.1);
-    recalls = λ to slot command r mails m e k. (f.recalls to slot command r mails m e k.0, pushed r mails to _ k.1);
-    wants = λ to slot r mails m low k. (f.wants to slot r mails m low k.0, pushed r mails to _ k.1);
+    recalls = λ to from_slot slot group command r mails h m e k. (f.recalls to from_slot slot group command r mails h.0 m e k.0, pushed r mails to _ k.1);
+    wants = λ to slot group command r mails h m low k. (f.wants to slot group command r mails h.0 m low k.0, pushed r mails to _ k.1);
     stops = λ from r mails m on k. (f.stops from r mails m on k.0, stops_so from r mails (f.frame (r, mails) k.0).me_is (name_is (r, mails) k.0) k.1);
     jumps = λ from group slot sent_ sets r mails h later off k. (f.jumps from group slot sent_ sets r mails h.0 later off k.0, jumps_so from slot sent_ sets r mails off k.0 k.1);
     refuses = λ c s op answer r mails e k. (f.refuses c s op answer r mails e k.0, pushed r mails (client_actor c) _ k.1);

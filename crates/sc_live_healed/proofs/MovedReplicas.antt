@@ -232,9 +232,9 @@ module _ (base : Base) (me : ℕ) (fresh : IsFresh base me) (Elects : Type 0) (s
     accept_seen = λ from group ballot slot command h. tt;
     nack_seen = λ from group promised h. tt;
     turned = λ command answer backlog r mails on e turn f k. record { rises = k.rises; asks = one_answered r.me (Within r.top.round) (talk r.top.round r.me) r.group.core.id answer command mails k.asks; promise = k.promise; leads = k.leads; floored = k.floored };
-    offers_value = λ slot set command r mails on near none e of f k. offers slot set command r mails on f k;
-    offers_noop = λ slot set r mails on near none of f k. offers slot set Noop r mails on f k;
-    offers_call = λ slot set command backlog r mails on near none e of f k. (let low = own_round r mails on f in offers_low slot set command (record r { backlog = backlog }) mails low k);
+    offers_value = λ slot set command r mails on low near none e of f k. offers slot set command r mails on f k;
+    offers_noop = λ slot set r mails on low near none gap of f k. offers slot set Noop r mails on f k;
+    offers_call = λ slot set command backlog r mails on above near none e of f k. (let low = own_round r mails on f in offers_low slot set command (record r { backlog = backlog }) mails low k);
     counted_entry = λ command r mails on e f k. enters_moved true command r mails (ready_fixed base r.ready (next r) command e f.fixed.ready) f k;
     learnt_entry = λ from group command r mails h f k. enters_moved false command r mails h.0.2 f k;
     seen = λ ballot r mails s t goes f k. higher ballot r mails t k;
@@ -248,8 +248,8 @@ module _ (base : Base) (me : ℕ) (fresh : IsFresh base me) (Elects : Type 0) (s
         (promises report.ballot (after_accept report r.acceptor) r _ (subst (λ (body : MailBody). Brings body report.ballot) h.1 refl) refl (says r from (Accepted (name_of r) report.ballot report.slot) mails tt k));
     nacks = λ to r mails m f k. says r to (Nack (name_of r) r.acceptor.promised) mails tt k;
     installs = λ to r mails m f k. says r to (Install (name_of r) (next r - 1) (base_of r.group) r.sets) mails tt k;
-    recalls = λ to slot command r mails m e f k. says r to (Learn (name_of r) slot command) mails tt k;
-    wants = λ to slot r mails m low f k. says r to (Ask (name_of r) (next r)) mails tt k;
+    recalls = λ to from_slot slot group command r mails h m e f k. says r to (Learn (name_of r) slot command) mails tt k;
+    wants = λ to slot group command r mails h m low f k. says r to (Ask (name_of r) (next r)) mails tt k;
     stops = λ from r mails m on f k. stops (Some from) _ r mails k;
     jumps = λ from group slot sent sets r mails h later off f k. jumps slot sent sets from r mails later k;
     refuses = λ client seq op answer r mails e f k. says r (client_actor client) (Answer (name_of r) seq answer) mails tt k;

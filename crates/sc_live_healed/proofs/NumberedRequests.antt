@@ -215,9 +215,9 @@ module _ (client bound : ℕ) where
       accept_seen = λ from group ballot slot command h. tt;
       nack_seen = λ from group promised h. tt;
       turned = λ command answer backlog r mails on e turn f k. turned_few command answer backlog r mails on e k;
-      offers_value = λ slot set command r mails on near none e of f k. offers_few slot set command r mails (held.must_held C slot r.leader command e (k.held.2, k.held.3)) k;
-      offers_noop = λ slot set r mails on near none of f k. offers_few slot set Noop r mails tt k;
-      offers_call = λ slot set command backlog r mails on near none e of f k. (let head = head_few command backlog r e k.held in
+      offers_value = λ slot set command r mails on low near none e of f k. offers_few slot set command r mails (held.must_held C slot r.leader command e (k.held.2, k.held.3)) k;
+      offers_noop = λ slot set r mails on low near none gap of f k. offers_few slot set Noop r mails tt k;
+      offers_call = λ slot set command backlog r mails on low near none e of f k. (let head = head_few command backlog r e k.held in
           offers_few slot set command (record r { backlog = backlog }) mails head.0 (held_few r mails backlog r.acts r.leader r.ready (head.1, k.held.1, k.held.2, k.held.3, k.held.4) k));
       counted_entry = λ command r mails on e f k. enters_few true command r mails (ready_fixed base r.ready (next r) command e f.fixed.ready) (opt_some C (at_slot r.ready (next r)) command e (opt_slot C r.ready (next r) k.held.4)) f.fixed.group k;
       learnt_entry = λ from group command r mails h f k. enters_few false command r mails h.0.2 h.1 f.fixed.group k;
@@ -239,8 +239,8 @@ module _ (client bound : ℕ) where
           (record { held = k.held; accepted = report_with C report r.acceptor.accepted h.1 k.accepted; entries = k.entries; noted = k.noted; said = k.said }));
       nacks = λ to r mails m f k. said_few r mails to _ tt k;
       installs = λ to r mails m f k. said_few r mails to (Install (name_of r) (next r - 1) (base_of r.group) r.sets) (subst HasNoted (sym (group_again r.group)) k.noted) k;
-      recalls = λ to slot command r mails m e f k. said_few r mails to (Learn (name_of r) slot command) (entry_few slot r.log command e k.entries) k;
-      wants = λ to slot r mails m low f k. said_few r mails to _ tt k;
+      recalls = λ to from_slot slot group command r mails h m e f k. said_few r mails to (Learn (name_of r) slot command) (entry_few slot r.log command e k.entries) k;
+      wants = λ to slot group command r mails h m low f k. said_few r mails to _ tt k;
       stops = λ from r mails m on f k. stops_few (Some from) r mails k;
       jumps = λ from group slot sent_ sets r mails h later off f k. jumps_few slot sent_ sets r mails (Some from) h.1 k;
       refuses = λ who seq op answer r mails e f k. said_few r mails (client_actor who) (Answer (name_of r) seq answer) tt k;
