@@ -20,3 +20,4 @@ pub mod PollTurns
 pub mod NodeViews
 pub mod DeliveredViews
 pub mod PollsEnd
+pub mod SettledTicks

@@ -168,9 +168,9 @@ module _ (words : ℕ → ℕ → ℕ × ℕ) (scenario : Scenario) (bounded : I
         ap (λ (x : Bool). cond x (m ∷ filter (λ (y : Mail). a y.to) sent) (filter (λ (y : Mail). a y.to) sent)) (same m.to) ∙ ap (λ (xs : List Mail). cond (b m.to) (m ∷ xs) xs) (filters_agree a b same sent)
 
     as_begun : (a : ℕ → Bool) → ((who : ℕ) → a who ≡ a0 who) → (c : Replicas) (mail : Mail) (after : Replicas) (new : List Mail) → IsDelivered base a c mail after new → IsDelivered base a0 c mail after new
-    as_begun a same c mail after new (inl t) =
+    as_begun a same c mail next_view new (inl t) =
         inl record { of_group = t.of_group; fresh = t.fresh; replica = t.replica; was = t.was; fixed = t.fixed; heard = t.heard; room = t.room; is = t.is; others = t.others; sent = t.sent ∙ filters_agree a a0 same (mailed mail.from mail.body (t.replica, [])).0.1 }
-    as_begun a same c mail after new (inr p) = inr record { other = p.other; same = p.same; sent = p.sent }
+    as_begun a same c mail next_view new (inr p) = inr record { other = p.other; same = p.same; sent = p.sent }
 
     given : (sent : List Mail) (number : ℕ) (mail : Mail) → Each (λ (m : Mail). FitsSlots m.body) sent → numbered sent number ≡ Some mail → FitsSlots mail.body
     given sent zero mail f e = absurd (cc)
