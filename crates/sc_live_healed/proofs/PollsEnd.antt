@@ -1,30 +1,28 @@
 -- Polls end: in the quiet prefix after the turn of a node that was elected in it, the node's replica is settled or does not run, where more than half of the members may get mail.
-use Rattle.std.proofs.Common.{◌≡◌, ℕ, zero, suc, ◌*◌, ◌<◌, ◌≤◌, ◌&&◌, ◌||◌, not, eqb, Bool, true, false, true≢false, cond, List, [], ◌∷◌, ◌++◌, count_by, length, filter, find, Option, Some, None, ◌⊎◌, inl, inr, refl, sym, ◌∙◌, ap, subst, append_assoc, append-nil}
+use Rattle.std.proofs.Common.{◌≡◌, ℕ, zero, suc, ◌*◌, ◌<◌, ◌≤◌, ◌&&◌, ◌||◌, not, eqb, Bool, true, false, cond, List, [], ◌∷◌, ◌++◌, count_by, length, filter, find, Option, Some, None, ◌⊎◌, inl, inr, refl, sym, ◌∙◌, ap, subst, append_assoc, append-nil}
 use Rattle.std.specs.List.{list_any}
 use Rattle.std.proofs.lemmas.List.Folds.{list_any-append}
-use Rattle.std.proofs.lemmas.Bool.{cases_Bool, eqb-true, eq-eqb}
-use Rattle.sc_base.specs.Definitions.{Among, Each, same_draw, is_member}
+use Rattle.sc_base.specs.Definitions.{Among, Each, same_draw}
 use Rattle.sc_base.proofs.Lemmas.{draw_is}
 use Rattle.sc_words.proofs.PaxosProofs.Lemmas.{Each-among, find_found}
 use Rattle.sc_paxos_law.proofs.Lemmas.{place_among}
 use Rattle.sc_node_table.specs.Values.{Ballot, Draw, Seat, Row, Event, Deliver, Base, OrderLine, Mail, MailBody, Install, Node, Client}
 use Rattle.sc_actor.specs.Definitions.{mails, numbered, numbers_of, has_crashed, is_crash, lowest, value}
 use Rattle.sc_actor.proofs.Lemmas.{find-who}
-use Rattle.sc_node_table.specs.Definitions.{NodeState, ReplicaState, Place, name_of, replica_of, last_slot, mailed, next}
+use Rattle.sc_node_table.specs.Definitions.{ReplicaState, Place, name_of, last_slot, mailed, next}
 use Rattle.sc_scenario.specs.declared.scenario.scenarios.Scenario.{Scenario}
 use Rattle.sc_scenario.specs.scenario.Definitions.{IsBounded}
 use Rattle.sc_meaning.specs.sound.Definitions.{Player, as_nodes, births, player_table}
 use Rattle.sc_live_orderly.specs.Turns.{pending_mail, AreDelivered, TakesLowest}
 use Rattle.sc_live_orderly.proofs.PendingMail.{takes_lowest, none_pending}
-use Rattle.sc_live_healed.proofs.FixedWalks.{IsFresh, IsMember, IsFixedPlace}
+use Rattle.sc_live_healed.proofs.FixedWalks.{IsMember, IsFixedPlace}
 use Rattle.sc_live_healed.proofs.FixedNodes.{AreFresh, IsOne, into, name_one}
 use Rattle.sc_live_healed.proofs.FixedBirths.{groups_fresh}
-use Rattle.sc_live_healed.proofs.FixedJournals.{Rows, IsOf, IsFixedPlayer, IsFixedJournal}
-use Rattle.sc_live_healed.proofs.MovedReplicas.{mailed_moves}
+use Rattle.sc_live_healed.proofs.FixedJournals.{Rows, IsFixedPlayer, IsFixedJournal}
 use Rattle.sc_live_healed.proofs.PollAnswers.{mail_keeps_settled}
-use Rattle.sc_live_healed.proofs.PollTurns.{Replicas, IsTaken, IsPassed, IsDelivered, Polls, FirstRound, SecondRound, AreFloored, is_or_not, one_replica, floored_after, polled_before, moves, first_step, second_begins, second_step, polls_end_settled}
+use Rattle.sc_live_healed.proofs.PollTurns.{Replicas, IsTaken, IsDelivered, FirstRound, SecondRound, is_or_not, one_replica, floored_after, moves, first_step, second_begins, second_step, polls_end_settled}
 use Rattle.sc_live_healed.proofs.DeliveredViews.{s, view, seat_view, player_view, alive, delivered_view}
-use Rattle.sc_live_healed.specs.Definitions.{IsFixedNode, IsSettledOrStopped}
+use Rattle.sc_live_healed.specs.Definitions.{IsSettledOrStopped}
 
 -- a state that is sent is not beyond the last slot
 abbrev pub FitsSlots : MailBody → Type 0

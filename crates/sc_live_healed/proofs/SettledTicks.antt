@@ -1,9 +1,9 @@
 -- A settled replica is settled after its tick, where its node has no policy and its group is free.
-use Rattle.std.proofs.Common.{◌≡◌, ◌-◌, ◌&&◌, ◌||◌, not, nat_le, Bool, true, false, List, refl, sym, ◌∙◌, ap, cond, true≢false}
+use Rattle.std.proofs.Common.{◌≡◌, ◌-◌, ◌&&◌, ◌||◌, not, nat_le, true, false, List, refl, sym, ◌∙◌, ap, true≢false}
 use Rattle.std.specs.Prelude.{is_some}
 use Rattle.std.proofs.lemmas.Bool.{cond_both}
 use Rattle.sc_base.specs.Definitions.{Drawer, is_member}
-use Rattle.sc_node_table.specs.Values.{Lock, Free, Mail}
+use Rattle.sc_node_table.specs.Values.{Free, Mail}
 use Rattle.sc_words.specs.paxos.Definitions.{entry_at}
 use Rattle.sc_node_table.specs.Definitions.{elected, pumped, pumped_from, wishing, reminded, ReplicaState, Place, next, members, settled, is_idle, last_slot, tick_row, asked_again, last_entry_sent}
 use Rattle.sc_node_table.proofs.Frames.{pumped_from-settled}
