@@ -12,6 +12,7 @@ pub use Rattle.sc_live_healed.proofs.MovedReplicas.{AsksWithin, Brings, Moves, H
 pub use Rattle.sc_live_healed.proofs.PollAnswers.{Answered, polls_are_answered, refusals_stop, states_stop, mail_keeps_settled, majorities_settle, answers_count}
 pub use Rattle.sc_live_healed.proofs.SettledTicks.{tick_keeps_settled}
 pub use Rattle.sc_live_healed.proofs.NodeViews.{TakesMail, PassesMail, mail_view}
-pub use Rattle.sc_live_healed.proofs.PollTurns.{Replicas, IsOfGroup, IsTaken, IsPassed, IsDelivered, Polls, FirstRound, SecondRound, first_step, second_begins, second_step, polls_end_settled}
+pub use Rattle.sc_live_healed.proofs.PollTurns.{Replicas, IsOfGroup, IsTaken, IsPassed, IsDelivered, Polls, FirstRound, SecondRound, first_begins, first_step, second_begins, second_step, polls_end_settled}
 pub use Rattle.sc_live_healed.proofs.DeliveredViews.{view, alive, delivered_view}
 pub use Rattle.sc_live_healed.proofs.PollsEnd.{FitsSlots, Progress, Course, polls_end}
+pub use Rattle.sc_live_healed.proofs.PollBegins.{next_ballot, elected_at_tick, members_are_asked}

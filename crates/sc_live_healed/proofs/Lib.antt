@@ -21,3 +21,4 @@ pub mod NodeViews
 pub mod DeliveredViews
 pub mod PollsEnd
 pub mod SettledTicks
+pub mod PollBegins

@@ -213,6 +213,17 @@ module _ (base : Base) (alive : ℕ → Bool) where
       ];
     }
 
+    -- the first round begins where each member is asked, and none has promised the ballot
+    pub first_begins : (c : Replicas) (first : List Mail) → Each (λ (mail : Mail). IsOfGroup mail → IsAsked mail) first → AreFloored c → IsAt c → ((m : ℕ) → IsMember base m → alive m ≡ true → Among (record { from = n; to = m; body = Prepare base.core.id ballot from_slot }) first)
+        → ((m : ℕ) (r : ReplicaState) → c m ≡ Some r → r.acceptor.promised ≡ ballot → ⊥) → FirstRound c first []
+    first_begins c first asks floored at each unpromised = record {
+      asks = asks;
+      answers = tt;
+      floored = floored;
+      at = at;
+      each = λ m member lives r e p. inl (record { from = n; to = m; body = Prepare base.core.id ballot from_slot }, each m member lives, refl, (refl, refl), unpromised m);
+    }
+
     -- the second round begins where the mail of the poll is delivered
     pub second_begins : (c : Replicas) (second : List Mail) → FirstRound c [] second → SecondRound c second
     second_begins c second k = record {
