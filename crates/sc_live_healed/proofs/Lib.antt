@@ -50,3 +50,5 @@ pub mod HeldRequests
 pub mod HeldRequestRows
 pub mod AskingJournals
 pub mod NumberedRequests
+pub mod SettledTicks
+pub mod PollBegins
