@@ -41,3 +41,4 @@ pub mod PollTurns
 pub mod NodeViews
 pub mod DeliveredViews
 pub mod PollsEnd
+pub mod NearSlots
