@@ -42,3 +42,4 @@ pub mod NodeViews
 pub mod DeliveredViews
 pub mod PollsEnd
 pub mod NearSlots
+pub mod NearJournals
