@@ -47,13 +47,14 @@ names_brings bound _ n = tt
 near_more : (low high : ℕ) (r : ReplicaState) → low ≤ high → StaysNear low (r, []) → StaysNear high (r, [])
 near_more low high r up k = record {
   reached = (let most = k.reached in omega (arith, most, up));
+  floored = k.floored;
   ready = Each-weaker (λ (entry : ℕ × Command). entry.0 < low) (λ (entry : ℕ × Command). entry.0 < high) (λ entry e. omega (arith, e, up)) r.ready k.ready;
   flights = Each-weaker (λ (flight : Flight Command). flight.slot < low + slots_ahead) (λ (flight : Flight Command). flight.slot < high + slots_ahead) (λ flight e. omega (arith, e, up)) r.leader.flights k.flights;
   says = tt;
 }
 
 alone : (bound : ℕ) (place : Place) → StaysNear bound place → StaysNear bound (place.0, [])
-alone bound place k = record { reached = k.reached; ready = k.ready; flights = k.flights; says = tt }
+alone bound place k = record { reached = k.reached; floored = k.floored; ready = k.ready; flights = k.flights; says = tt }
 
 module _ (bases : List Base) (fresh : AreFresh bases) (node : NodeState) (k : IsFixedNode bases node) (bound : ℕ) where
   abbrev Before : ReplicaState → Type 0
@@ -126,7 +127,7 @@ module _ (words : ℕ → ℕ → ℕ × ℕ) (scenario : Scenario) (bounded : I
   born_all me (base ∷ some) =
       cond_both (is_member base.core.members me) (base ∷ filter (λ (b : Base). is_member b.core.members me) some) (filter (λ (b : Base). is_member b.core.members me) some)
       (λ (bs : List Base). Each (λ (r : ReplicaState). StaysNear 1 (r, [])) (map (λ (b : Base). born_replica slots_ahead me b) bs))
-      (λ _. (record { reached = omega arith; ready = tt; flights = tt; says = tt }, born_all me some)) (λ _. born_all me some)
+      (λ _. (record { reached = omega arith; floored = omega arith; ready = tt; flights = tt; says = tt }, born_all me some)) (λ _. born_all me some)
 
   abbrev IsBornSeat : Seat Player → Type 0
   IsBornSeat seat = PlayerNear 1 seat.actor

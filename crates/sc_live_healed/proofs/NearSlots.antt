@@ -37,16 +37,17 @@ BringsNear bound (Learn group slot command) = slot < bound
 BringsNear bound (Install group slot base sets) = slot < bound
 BringsNear bound _ = Unit {0}
 
--- What a replica has executed, holds ready and in flight, and says, is below a slot, or open then.
-pub record IsNear (bound next_slot : ℕ) (entries : List (ℕ × Command)) (flying : List (Flight Command)) (mails : List Mail) : Type 0 where
+-- What a replica has executed, holds ready and in flight, and says, is below a slot, or open then; and its acceptor has forgotten no slot that is not executed.
+pub record IsNear (bound next_slot floor : ℕ) (entries : List (ℕ × Command)) (flying : List (Flight Command)) (mails : List Mail) : Type 0 where
   pub reached : next_slot ≤ bound
+  pub floored : floor < next_slot
   pub ready : Each (λ (entry : ℕ × Command). entry.0 < bound) entries
   pub flights : Each (λ (flight : Flight Command). flight.slot < bound + slots_ahead) flying
   pub says : Each (λ (mail : Mail). NamesNear bound mail.body) mails
 
 -- of a replica with its mails
 abbrev pub StaysNear : ℕ → Place → Type 0
-StaysNear bound (r, mails) = IsNear bound (next r) r.ready r.leader.flights mails
+StaysNear bound (r, mails) = IsNear bound (next r) r.acceptor.floor r.ready r.leader.flights mails
 
 -- an entry of a log is below the next slot
 entry_low : (slot : ℕ) (log : LogState Command) (command : Command) → entry_at slot log ≡ Some command → slot < log.base + length log.entries + 1
@@ -89,12 +90,12 @@ module _ (base : Base) (me : ℕ) (fresh : IsFresh base me) (bound : ℕ) where
   near_facts = record { E = λ place. StaysNear bound place; HeardSo = λ from body. BringsNear bound body; SeenSo = λ ballot. Unit {0} }
 
   says : (r : ReplicaState) (to : ℕ) (body : MailBody) (mails : List Mail) → NamesNear bound body → E (r, mails) → E (r, sent r.me to body mails)
-  says r to body mails a k = record { reached = k.reached; ready = k.ready; flights = k.flights; says = pushed bound r.me to body mails a k.says }
+  says r to body mails a k = record { reached = k.reached; floored = k.floored; ready = k.ready; flights = k.flights; says = pushed bound r.me to body mails a k.says }
 
   offers : (slot : ℕ) (set : List ℕ) (command : Command) (r : ReplicaState) (mails : List Mail) → slot < bound + slots_ahead → E (r, mails) → E (offered slot set command (r, mails))
   unfolding offered
   offers slot set command r mails low k = record {
-    reached = k.reached;
+    reached = k.reached; floored = k.floored;
     ready = k.ready;
     flights = Each-push (λ (flight : Flight Command). flight.slot < bound + slots_ahead) r.leader.flights (record { slot = slot; value = command; voters = None }) k.flights low;
     says = all_sent r.me (Within bound) (Accept (name_of r) r.leader.ballot slot command) (λ to ms m. pushed bound r.me to (Accept (name_of r) r.leader.ballot slot command) ms low m) set mails k.says;
@@ -107,7 +108,7 @@ module _ (base : Base) (me : ℕ) (fresh : IsFresh base me) (bound : ℕ) where
   stops : (hint : Option ℕ) (answer : AnswerBody) (r : ReplicaState) (mails : List Mail) → E (r, mails) → E (ended hint answer (r, mails))
   unfolding ended
   stops hint answer r mails k = record {
-    reached = k.reached;
+    reached = k.reached; floored = k.floored;
     ready = tt;
     flights = tt;
     says = all_dismissed r.me (Within bound) (talk bound r.me) (name_of r) hint answer r.backlog (answered_all r.me (name_of r) answer (under_way r) mails) (all_answered r.me (Within bound) (talk bound r.me) (name_of r) answer (under_way r) mails k.says);
@@ -126,7 +127,7 @@ module _ (base : Base) (me : ℕ) (fresh : IsFresh base me) (bound : ℕ) where
 
     enters_by : (mails : List Mail) → next (entered command r) ≡ next r + 1 → E (r, mails) → E (entered command r, mails)
     unfolding entered forgotten
-    enters_by mails longer k = record { reached = omega (arith, longer, low); ready = k.ready; flights = k.flights; says = k.says }
+    enters_by mails longer k = (let cut = floor_under (next r) (omega arith) in let was = k.floored in record { reached = omega (arith, longer, low); floored = omega (arith, longer, cut, was); ready = k.ready; flights = k.flights; says = k.says })
 
     core_after : (entered command r).group.core ≡ r.group.core
     unfolding entered forgotten
@@ -142,7 +143,7 @@ module _ (base : Base) (me : ℕ) (fresh : IsFresh base me) (bound : ℕ) where
 
     clears : (place : Place) → Q place → Q (cleared (next r) place)
     clears (x, mails) k = (record {
-      reached = k.0.reached;
+      reached = k.0.reached; floored = k.0.floored;
       ready = out_each (λ (entry : ℕ × Command). entry.0) (λ s es. without_slot es s) (λ s. refl) (λ s y es. refl) (λ (entry : ℕ × Command). entry.0 < bound) (next r) x.ready k.0.ready;
       flights = out_each (λ (f : Flight Command). f.slot) (λ s fs. without_flight s fs) (λ s. refl) (λ s f fs. refl) (λ (flight : Flight Command). flight.slot < bound + slots_ahead) (next r) x.leader.flights k.0.flights;
       says = k.0.says;
@@ -192,14 +193,14 @@ module _ (base : Base) (me : ℕ) (fresh : IsFresh base me) (bound : ℕ) where
       let cut = floor_under slot (omega (arith, later)) in
       let log : LogState Command = installed slot in
       let same = cut_next (floor_of slot) log (omega (arith, cut)) in
-      record { reached = omega (arith, same, low); ready = k.ready; flights = k.flights; says = k.says }
+      let was = k.floored in record { reached = omega (arith, same, low); floored = omega (arith, was, later, cut, same); ready = k.ready; flights = k.flights; says = k.says }
 
   pub near_states : FixedStates base me near_facts
   near_states = record {
     prepare_seen = λ from group ballot from_slot h. tt;
     accept_seen = λ from group ballot slot command h. tt;
     nack_seen = λ from group promised h. tt;
-    turned = λ command answer backlog r mails on e turn f k. record { reached = k.reached; ready = k.ready; flights = k.flights; says = one_answered r.me (Within bound) (talk bound r.me) r.group.core.id answer command mails k.says };
+    turned = λ command answer backlog r mails on e turn f k. record { reached = k.reached; floored = k.floored; ready = k.ready; flights = k.flights; says = one_answered r.me (Within bound) (talk bound r.me) r.group.core.id answer command mails k.says };
     offers_value = λ slot set command r mails on near none e of f k. offers slot set command r mails (open_low slot r mails near f k) k;
     offers_noop = λ slot set r mails on near none of f k. offers slot set Noop r mails (open_low slot r mails near f k) k;
     offers_call = λ slot set command backlog r mails on near none e of f k. (let low = open_low slot r mails near f k in offers slot set command (record r { backlog = backlog }) mails low k);
@@ -208,8 +209,8 @@ module _ (base : Base) (me : ℕ) (fresh : IsFresh base me) (bound : ℕ) where
     seen = λ ballot r mails s t goes f k. k;
     overtaken = λ ballot r mails s on t f k. cond_both (below r.top ballot) (record r { top = ballot }) r (λ (x : ReplicaState). E (stopped (Some ballot.node) (x, mails))) (λ up. stops (Some ballot.node) _ (record r { top = ballot }) mails k) (λ _. stops (Some ballot.node) _ r mails k);
     polled = λ from group ballot reports r mails on h f k. polls from ballot reports r mails k;
-    counts = λ from group ballot slot set count r mails on h e f k. record { reached = k.reached; ready = k.ready; flights = votes_low from ballot slot set r.leader k.flights; says = k.says };
-    chosen = λ from group ballot slot set command r mails on h e f k. record { reached = k.reached; ready = with_each slot command (λ (entry : ℕ × Command). entry.0 < bound) r.ready h.1 k.ready; flights = votes_low from ballot slot set r.leader k.flights; says = k.says };
+    counts = λ from group ballot slot set count r mails on h e f k. record { reached = k.reached; floored = k.floored; ready = k.ready; flights = votes_low from ballot slot set r.leader k.flights; says = k.says };
+    chosen = λ from group ballot slot set command r mails on h e f k. record { reached = k.reached; floored = k.floored; ready = with_each slot command (λ (entry : ℕ × Command). entry.0 < bound) r.ready h.1 k.ready; flights = votes_low from ballot slot set r.leader k.flights; says = k.says };
     promised = λ from group ballot from_slot r mails h top goes t f k. hints ballot (record r { acceptor = after_promise ballot r.acceptor }) _ (says r from (Promise (name_of r) ballot (reports_from from_slot r.acceptor.accepted)) mails tt k);
     accepted = λ from group report r mails h top goes t f k. hints report.ballot (record r { acceptor = after_accept report r.acceptor }) _ (says r from (Accepted (name_of r) report.ballot report.slot) mails h.1 k);
     nacks = λ to r mails m f k. says r to (Nack (name_of r) r.acceptor.promised) mails tt k;
@@ -231,7 +232,7 @@ module _ (base : Base) (me : ℕ) (fresh : IsFresh base me) (bound : ℕ) where
   near_ticks : FixedTickStates base me near_facts
   near_ticks = record {
     elected = λ r mails off f k. record {
-      reached = k.reached;
+      reached = k.reached; floored = k.floored;
       ready = tt;
       flights = tt;
       says = all_sent r.me (Within bound) (Prepare (name_of r) (record { round = r.top.round + 1; node = r.me }) (next r)) (λ to ms m. pushed bound r.me to (Prepare (name_of r) (record { round = r.top.round + 1; node = r.me }) (next r)) ms tt m) (open_nodes r.sets) mails k.says;
