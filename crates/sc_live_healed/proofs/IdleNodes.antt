@@ -6,13 +6,13 @@ use Rattle.sc_node_table.specs.Values.{Seat, Base, Mail, Node}
 use Rattle.sc_actor.specs.Definitions.{value, is_quiet, may_get, numbers_of}
 use Rattle.sc_actor.proofs.Lemmas.{lawful-prefix}
 use Rattle.sc_node_table.specs.Definitions.{NodeState, ReplicaState, name_of, replica_of, is_node, settled, last_slot}
-use Rattle.sc_words.proofs.PaxosProofs.Lemmas.{Each-among, Each-weaker, find_found}
+use Rattle.sc_words.proofs.PaxosProofs.Lemmas.{Each-among, find_found}
 use Rattle.sc_scenario.specs.declared.scenario.scenarios.Scenario.{Scenario}
 use Rattle.sc_scenario.specs.scenario.Definitions.{IsBounded}
 use Rattle.sc_meaning.specs.sound.Definitions.{Player, Lawful, as_nodes, player_table, schedule, system_of}
 use Rattle.sc_live_orderly.specs.Definitions.{Turn, HasTurns}
 use Rattle.sc_live_orderly.proofs.PendingMail.{none_pending}
-use Rattle.sc_live_healed.specs.Definitions.{IsFixedReplica, VotesAreUnderWay, IsInBounds, LivingMajority, IsIdle, IsSettledOrStopped}
+use Rattle.sc_live_healed.specs.Definitions.{IsFixedReplica, VotesAreUnderWay, LivingMajority, IsIdle, IsSettledOrStopped}
 use Rattle.sc_live_healed.proofs.FixedNodes.{IsOne, name_one}
 use Rattle.sc_live_healed.proofs.FixedJournals.{Rows, IsOf, fresh, AreUntold}
 use Rattle.sc_live_healed.proofs.LivingActors.{seats_stay_nodes, turns_kind, turns_get}
@@ -93,9 +93,9 @@ module _ (words : ℕ → ℕ → ℕ × ℕ) (scenario : Scenario) (bounded : I
       let s = S words scenario bounded off alive in
       let lets : (more later : Rows) → after ≡ (rows ++ more) ++ later → Lets (rows ++ more) =
       λ more later is. (
-        let both = taken_prefix (rows ++ more) later (subst (AreUntold words scenario bounded off) is untold) (subst (Lawful as_nodes words scenario) is lawful) in
-        let parts = ap length is ∙ length-append (rows ++ more) later in
-        lets_vote (rows ++ more) both.0 (λ who l. turns_get s who rows turns after more later t is (gets who l)) (1 + 4 * length (rows ++ more)) both.1 (omega (arith, few, parts)) (rounds (rows ++ more) later is)) in
+      let both = taken_prefix (rows ++ more) later (subst (AreUntold words scenario bounded off) is untold) (subst (Lawful as_nodes words scenario) is lawful) in
+      let parts = ap length is ∙ length-append (rows ++ more) later in
+      lets_vote (rows ++ more) both.0 (λ who l. turns_get s who rows turns after more later t is (gets who l)) (1 + 4 * length (rows ++ more)) both.1 (omega (arith, few, parts)) (rounds (rows ++ more) later is)) in
       let all = turns_kind s rows turns after t in
       let whole : after ≡ (rows ++ all.0) ++ [] = all.1 ∙ sym (append-nil (rows ++ all.0)) in
       turns_leave_idle rows turns after t lets (subst Lets (sym all.1) (lets all.0 [] whole)) ticked node e base a most r found (settles on)

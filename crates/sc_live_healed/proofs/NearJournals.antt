@@ -1,14 +1,14 @@
 -- In each lawful journal without orders and policy no slot is above four times the number of rows.
-use Rattle.std.proofs.Common.{◌≡◌, ℕ, zero, suc, ◌+◌, ◌*◌, ◌≤◌, ◌<◌, eqb, Bool, true, false, List, [], ◌∷◌, ◌++◌, length, map, filter, find, Option, Some, refl, sym, ◌∙◌, ap, subst, arith, inl, inr, ◌⊎◌, append-nil}
+use Rattle.std.proofs.Common.{◌≡◌, ℕ, zero, suc, ◌+◌, ◌*◌, ◌≤◌, ◌<◌, eqb, Bool, false, List, [], ◌∷◌, ◌++◌, length, map, filter, Option, Some, refl, sym, ◌∙◌, ap, subst, arith, inl, inr, ◌⊎◌}
 use Rattle.std.specs.Option.{option_map}
 use Rattle.std.proofs.lemmas.Bool.{cond_both, eqb-true}
 use Rattle.std.proofs.lemmas.List.{length_push}
-use Rattle.sc_base.specs.Definitions.{Among, Each, Drawer, same_draw, is_member}
-use Rattle.sc_node_table.specs.Values.{Draw, Seat, Row, Event, Deliver, Drop, Again, Crash, Input, Got, Base, OrderLine, Mail, MailBody, Request, Answer, Prepare, Promise, Accept, Accepted, Nack, Learn, Ask, Install, TxPrepare, TxVote, TxOutcome, TxElsewhere, TxWatch, TxWatched, Told, Node, Client, Flight, Command}
+use Rattle.sc_base.specs.Definitions.{Each, Drawer, same_draw, is_member}
+use Rattle.sc_node_table.specs.Values.{Draw, Seat, Row, Event, Deliver, Drop, Again, Crash, Input, Got, Base, OrderLine, Mail, MailBody, Accept, Accepted, Learn, Install, Node, Client, Flight, Command}
 use Rattle.sc_actor.specs.declared.rows.Event.TheVariants.{Tick as TickEvent, Go as GoEvent, Told as ToldEvent}
 use Rattle.sc_actor.specs.declared.rows.Input.TheVariants.{Tick, Go, Told as ToldInput}
 use Rattle.sc_words.proofs.PaxosProofs.Lemmas.{Each-among, Each-append, Each-weaker, find_found}
-use Rattle.sc_node_table.specs.Definitions.{NodeState, ReplicaState, Place, Executed, name_of, replica_of, with_replica, mailed, ticked, on_tick, tick_row, names_after_tick, node_table, slots_ahead}
+use Rattle.sc_node_table.specs.Definitions.{NodeState, ReplicaState, Place, name_of, with_replica, mailed, ticked, tick_row, names_after_tick, node_table, slots_ahead}
 use Rattle.sc_law_walks.proofs.Lemmas.{either_way}
 use Rattle.sc_actor.specs.Definitions.{mails, numbered, acted, input_of, value, IsStep}
 use Rattle.sc_actor.proofs.Lemmas.{lawful-induction, value-snoc, mails-snoc}
@@ -23,10 +23,9 @@ use Rattle.sc_meaning.specs.sound.Definitions.{Lawful, Player, as_nodes, births,
 use Rattle.sc_live_orderly.specs.Definitions.{is_told}
 use Rattle.sc_live_healed.proofs.FixedJournals.{Rows, IsFixedPlayer, IsOf, IsFixedJournal, Brings, fresh, given, first_fixed, brings, next_fixed, AreUntold}
 use Rattle.sc_live_healed.specs.Definitions.{IsFixedMail, IsFixedNode}
-use Rattle.sc_live_healed.proofs.FixedWalks.{IsFixedPlace}
-use Rattle.sc_live_healed.proofs.FixedNodes.{AreFresh, MayTake, IsOne, One, into, one_ticks}
+use Rattle.sc_live_healed.proofs.FixedNodes.{AreFresh, MayTake, One, into, one_ticks}
 use Rattle.sc_live_healed.proofs.NodeMail.{TakesMail, PassesMail, mail_taken}
-use Rattle.sc_live_healed.proofs.NearSlots.{NamesNear, BringsNear, IsNear, StaysNear, mailed_near, ticked_near}
+use Rattle.sc_live_healed.proofs.NearSlots.{NamesNear, BringsNear, StaysNear, mailed_near, ticked_near}
 
 -- what is near a slot is near a later one
 names_more : (low high : ℕ) (body : MailBody) → low ≤ high → NamesNear low body → NamesNear high body
@@ -82,7 +81,7 @@ module _ (bases : List Base) (fresh : AreFresh bases) (node : NodeState) (k : Is
       let was : Before t.replica = Each-among Before node.replicas t.replica n (find_found (λ (x : ReplicaState). same_draw (name_of x) t.base.core.id) node.replicas t.replica t.found).0 in
       let place : Place = (mailed mail.from mail.body (t.replica, [])).0 in
       let now : StaysNear (bound + slots_ahead) place = mailed_near t.base node.me (fresh.each t.base t.among node.me t.member) (bound + slots_ahead) mail.from mail.body t.replica t.says (names_brings bound mail.body names)
-          (record { me_is = t.me_is; fixed = t.fixed; ballots = t.ballots; said = tt }) (near_more bound (bound + slots_ahead) t.replica (omega arith) was) in
+      (record { me_is = t.me_is; fixed = t.fixed; ballots = t.ballots; said = tt }) (near_more bound (bound + slots_ahead) t.replica (omega arith) was) in
       subst NodeAfter (sym t.step) (put_near t.base.core.id place.0 node.replicas (alone (bound + slots_ahead) place now) (later node.replicas n), now.says)
 
   tick_near : (drawer : Drawer) (replicas : List ReplicaState) (mails : List Mail) → Each (One bases fresh node k) replicas → Each Before replicas → Said mails → Each After (ticked false drawer replicas mails).0 × Said (ticked false drawer replicas mails).1

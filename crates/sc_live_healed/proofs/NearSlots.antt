@@ -1,19 +1,19 @@
 -- No slot that a replica of a group that is not reshaped has executed, holds or names in a row is far above those of the mail that it takes.
 use Rattle.std.specs.Prelude.{nat_lt, slice_get}
 use Rattle.std.specs.Option.{option_map}
-use Rattle.std.proofs.Common.{◌≡◌, ℕ, zero, suc, ◌+◌, ◌-◌, ◌<◌, ◌≤◌, ◌&&◌, not, eqb, Bool, true, false, cond, List, [], ◌∷◌, ◌++◌, length, Option, Some, None, ◌⊎◌, inl, inr, refl, sym, ◌∙◌, ap, subst, arith, length-drop}
+use Rattle.std.proofs.Common.{◌≡◌, ℕ, zero, suc, ◌+◌, ◌-◌, ◌<◌, ◌≤◌, ◌&&◌, not, eqb, Bool, true, false, List, [], ◌∷◌, length, Option, Some, None, refl, ◌∙◌, ap, arith}
 use Rattle.std.proofs.lemmas.Bool.{cond_both, eqb-true, ltb-true}
-use Rattle.sc_base.specs.Definitions.{Among, Each, Drawer, same_ballot, is_majority, is_member, client_actor}
+use Rattle.sc_base.specs.Definitions.{Each, Drawer, same_ballot, is_majority, is_member, client_actor}
 use Rattle.sc_words.proofs.PaxosProofs.Lemmas.{Each-append, Each-among, Each-push, find_found}
-use Rattle.sc_node_table.specs.Values.{Ballot, Draw, Op, Command, Noop, Call, Base, Core, AnswerBody, Counted, Mail, MailBody, Request, Answer, Prepare, Promise, Accept, Accepted, Nack, Learn, Ask, Install, Flight, TxPrepare, TxVote, TxOutcome, TxElsewhere, TxWatch, TxWatched, Told, Report}
+use Rattle.sc_node_table.specs.Values.{Ballot, Command, Noop, Base, AnswerBody, Counted, Mail, MailBody, Answer, Prepare, Promise, Accept, Accepted, Nack, Learn, Ask, Install, Flight, TxPrepare, TxVote, TxOutcome, TxElsewhere, TxWatch, TxWatched, Told, Report}
 use Rattle.sc_group_table.specs.machine.Definitions.{base_of}
 use Rattle.sc_words.specs.paxos.Definitions.{below, LeaderState, LogState, installed, entry_at, after_promise, after_accept, reports_from, kept_voters, voters_after, promise_counted, counted, vote_at, flight_at, without_flight}
-use Rattle.sc_node_table.specs.Definitions.{ended, stopped, entered, forgotten, floor_of, jumped, offered, put_back, answered_all, sent, sent_all, under_way, hinted, mailed, tick_row, open_nodes, without_slot, ReplicaState, Place, name_of, next, slots_ahead}
+use Rattle.sc_node_table.specs.Definitions.{ended, stopped, entered, forgotten, floor_of, jumped, offered, put_back, answered_all, sent, under_way, hinted, mailed, tick_row, open_nodes, without_slot, ReplicaState, Place, name_of, next, slots_ahead}
 use Rattle.sc_law_walks.proofs.Talks.{all_sent, all_answered, all_dismissed, one_answered}
 use Rattle.sc_law_walks.proofs.Lemmas.{either_way, Talk, floor_under, cut_next, cleared, entered_next, entered_place}
 use Rattle.sc_live_plain.proofs.Lemmas.{at_found, out_each, with_each}
 use Rattle.sc_live_plain.proofs.Flights.{voted_each}
-use Rattle.sc_live_healed.proofs.FixedWalks.{IsFresh, IsMember, IsFixedPlace, FixedWalk}
+use Rattle.sc_live_healed.proofs.FixedWalks.{IsFresh, IsFixedPlace}
 use Rattle.sc_live_healed.proofs.FixedEntries.{FixedEntry, entry_keeps}
 use Rattle.sc_live_healed.proofs.FixedParts.{ready_fixed, applied_core}
 use Rattle.sc_live_healed.proofs.FixedRows.{takes_mail}
@@ -95,7 +95,8 @@ module _ (base : Base) (me : ℕ) (fresh : IsFresh base me) (bound : ℕ) where
   offers : (slot : ℕ) (set : List ℕ) (command : Command) (r : ReplicaState) (mails : List Mail) → slot < bound + slots_ahead → E (r, mails) → E (offered slot set command (r, mails))
   unfolding offered
   offers slot set command r mails low k = record {
-    reached = k.reached; floored = k.floored;
+    reached = k.reached;
+    floored = k.floored;
     ready = k.ready;
     flights = Each-push (λ (flight : Flight Command). flight.slot < bound + slots_ahead) r.leader.flights (record { slot = slot; value = command; voters = None }) k.flights low;
     says = all_sent r.me (Within bound) (Accept (name_of r) r.leader.ballot slot command) (λ to ms m. pushed bound r.me to (Accept (name_of r) r.leader.ballot slot command) ms low m) set mails k.says;
@@ -108,7 +109,8 @@ module _ (base : Base) (me : ℕ) (fresh : IsFresh base me) (bound : ℕ) where
   stops : (hint : Option ℕ) (answer : AnswerBody) (r : ReplicaState) (mails : List Mail) → E (r, mails) → E (ended hint answer (r, mails))
   unfolding ended
   stops hint answer r mails k = record {
-    reached = k.reached; floored = k.floored;
+    reached = k.reached;
+    floored = k.floored;
     ready = tt;
     flights = tt;
     says = all_dismissed r.me (Within bound) (talk bound r.me) (name_of r) hint answer r.backlog (answered_all r.me (name_of r) answer (under_way r) mails) (all_answered r.me (Within bound) (talk bound r.me) (name_of r) answer (under_way r) mails k.says);
@@ -142,12 +144,16 @@ module _ (base : Base) (me : ℕ) (fresh : IsFresh base me) (bound : ℕ) where
     back_core _ x e = e
 
     clears : (place : Place) → Q place → Q (cleared (next r) place)
-    clears (x, mails) k = (record {
-      reached = k.0.reached; floored = k.0.floored;
-      ready = out_each (λ (entry : ℕ × Command). entry.0) (λ s es. without_slot es s) (λ s. refl) (λ s y es. refl) (λ (entry : ℕ × Command). entry.0 < bound) (next r) x.ready k.0.ready;
-      flights = out_each (λ (f : Flight Command). f.slot) (λ s fs. without_flight s fs) (λ s. refl) (λ s f fs. refl) (λ (flight : Flight Command). flight.slot < bound + slots_ahead) (next r) x.leader.flights k.0.flights;
-      says = k.0.says;
-    }, k.1)
+    clears (x, mails) k = (
+      record {
+        reached = k.0.reached;
+        floored = k.0.floored;
+        ready = out_each (λ (entry : ℕ × Command). entry.0) (λ s es. without_slot es s) (λ s. refl) (λ s y es. refl) (λ (entry : ℕ × Command). entry.0 < bound) (next r) x.ready k.0.ready;
+        flights = out_each (λ (f : Flight Command). f.slot) (λ s fs. without_flight s fs) (λ s. refl) (λ s f fs. refl) (λ (flight : Flight Command). flight.slot < bound + slots_ahead) (next r) x.leader.flights k.0.flights;
+        says = k.0.says;
+      },
+      k.1,
+    )
 
     entry_of : (counted : Bool) → FixedEntry base counted command r Q
     entry_of counted = record {
@@ -232,7 +238,8 @@ module _ (base : Base) (me : ℕ) (fresh : IsFresh base me) (bound : ℕ) where
   near_ticks : FixedTickStates base me near_facts
   near_ticks = record {
     elected = λ r mails off f k. record {
-      reached = k.reached; floored = k.floored;
+      reached = k.reached;
+      floored = k.floored;
       ready = tt;
       flights = tt;
       says = all_sent r.me (Within bound) (Prepare (name_of r) (record { round = r.top.round + 1; node = r.me }) (next r)) (λ to ms m. pushed bound r.me to (Prepare (name_of r) (record { round = r.top.round + 1; node = r.me }) (next r)) ms tt m) (open_nodes r.sets) mails k.says;
