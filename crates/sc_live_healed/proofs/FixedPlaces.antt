@@ -1,24 +1,19 @@
 -- A replica of a group that is not reshaped stays one, and each mail that it sends says what such a replica may say: an instance of the walk of such replicas.
-use Rattle.std.proofs.Common.{◌≡◌, ℕ, ◌+◌, ◌-◌, ◌&&◌, not, nat_le, nat_lt, Bool, true, false, true≢false, List, [], ◌∷◌, ◌++◌, replicate, Some, None, refl, sym, ◌∙◌, ap, subst, inl, inr, arith}
-use Rattle.std.specs.Option.{option_map}
+use Rattle.std.proofs.Common.{◌≡◌, ℕ, ◌-◌, nat_le, true, false, true≢false, List, [], ◌∷◌, ◌++◌, Some, refl, sym, ◌∙◌, ap, subst, inl, inr}
 use Rattle.std.proofs.lemmas.Bool.{cond_both}
-use Rattle.sc_base.specs.Definitions.{Each, Drawer, is_member, client_actor, same_ballot}
-use Rattle.sc_words.proofs.PaxosProofs.Lemmas.{Each-append, Each-filter, at_least_itself, at_least_trans, at_least_from_below, below_from}
-use Rattle.sc_node_table.specs.Values.{Ballot, Draw, Command, Noop, Call, Base, Core, Lock, AnswerBody, Mail, MailBody, Answer, Prepare, Promise, Accept, Accepted, Nack, Learn, Ask, Install, Flight, Report}
-use Rattle.sc_mail.specs.declared.bodies.AnswerBody.TheVariants as Says
-use Rattle.sc_group_table.specs.machine.Definitions.{base_of, applied}
-use Rattle.sc_words.specs.paxos.Definitions.{IsAtLeast, AcceptorState, LeaderState, below, reports_from, after_promise, after_accept, promise_counted, counted, with_flight_at, without_flight, flight_at}
-use Rattle.sc_node_table.specs.Definitions.{ended, stopped, entered, forgotten, floor_of, jumped, offered, put_back, request_before, queued_number, answered, answered_all, dismissed, dismissed_all, sent, sent_all, under_way, with_slot, without_slot, without_request, hinted, name_of, next, rest_of, ReplicaState, Place, answer_of, waits_in, mailed, tick_row, open_nodes, flying, slots_ahead, with_entry}
-use Rattle.sc_law_entries.proofs.NamesProofs.Lists.{Each-drop, slot_with, slot_without, flight_without, report_with}
-use Rattle.sc_law_walks.proofs.Places.{cleared}
-use Rattle.sc_law_walks.proofs.Lemmas.{either_way, elected_place, entered_place}
+use Rattle.sc_base.specs.Definitions.{Each, Drawer, is_member}
+use Rattle.sc_words.proofs.PaxosProofs.Lemmas.{Each-append, Each-filter}
+use Rattle.sc_node_table.specs.Values.{Ballot, Command, Noop, Call, Base, Mail, MailBody, Promise, Accept, Accepted, Nack, Learn, Ask, Install, Report}
+use Rattle.sc_group_table.specs.machine.Definitions.{base_of}
+use Rattle.sc_words.specs.paxos.Definitions.{IsAtLeast, below, reports_from, after_promise, after_accept, counted}
+use Rattle.sc_node_table.specs.Definitions.{stopped, sent, with_slot, without_request, hinted, name_of, next, ReplicaState, Place, mailed, tick_row}
+use Rattle.sc_law_entries.proofs.NamesProofs.Lists.{slot_with, report_with}
 use Rattle.sc_law_walks.specs.Definitions.{GoesOn}
-use Rattle.sc_live_healed.proofs.FixedWalks.{FixedWalk, FixedTickParts, IsFixedPlace, IsSaid, IsMember, IsFresh}
-use Rattle.sc_live_healed.proofs.FixedEntries.{FixedEntry, entry_keeps}
-use Rattle.sc_live_healed.proofs.FixedTicks.{all_told, ticks}
+use Rattle.sc_live_healed.proofs.FixedWalks.{FixedWalk, FixedTickParts, IsFixedPlace, IsMember, IsFresh}
+use Rattle.sc_live_healed.proofs.FixedTicks.{ticks}
 use Rattle.sc_live_healed.proofs.FixedRows.{takes_mail}
 use Rattle.sc_live_healed.proofs.FixedParts as parts
-use Rattle.sc_live_healed.specs.Definitions.{IsFixedRequest, IsFixedCommand, IsFixedReplica, KeepsBallots, IsFixedBody, IsFixedAnswer}
+use Rattle.sc_live_healed.specs.Definitions.{IsFixedRequest, IsFixedCommand, KeepsBallots, IsFixedBody}
 
 use Rattle.sc_live_healed.proofs.FixedChanges as changes
 

@@ -43,3 +43,5 @@ pub mod DeliveredViews
 pub mod PollsEnd
 pub mod NearSlots
 pub mod NearJournals
+pub mod SettledTicks
+pub mod PollBegins

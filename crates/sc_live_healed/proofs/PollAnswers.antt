@@ -1,20 +1,20 @@
 -- A replica of a group that is not reshaped answers a poll; and the replica that polls counts the answer, or stops.
-use Rattle.std.proofs.Common.{◌≡◌, ℕ, ◌+◌, ◌-◌, ◌*◌, ◌<◌, ◌≤◌, ◌&&◌, ◌||◌, not, nat_le, nat_lt, eqb, Bool, true, false, true≢false, cond, List, [], ◌∷◌, ◌++◌, count_by, length, replicate, Option, Some, None, ◌⊎◌, inl, inr, refl, sym, ◌∙◌, ap, subst, arith}
-use Rattle.std.proofs.lemmas.Bool.{cond_both, cond-true, and_parts, leb-true, ltb-true, lt-ltb, eq-eqb}
-use Rattle.sc_base.specs.Definitions.{Among, Each, same_ballot, is_member, is_majority, votes_of}
+use Rattle.std.proofs.Common.{◌≡◌, ℕ, ◌-◌, ◌*◌, ◌<◌, ◌≤◌, ◌&&◌, ◌||◌, not, nat_le, nat_lt, eqb, Bool, true, false, true≢false, cond, List, [], ◌∷◌, ◌++◌, length, Some, ◌⊎◌, inl, inr, refl, sym, ◌∙◌, ap, subst, arith}
+use Rattle.std.proofs.lemmas.Bool.{cond_both, cond-true, leb-true, ltb-true, lt-ltb, eq-eqb}
+use Rattle.sc_base.specs.Definitions.{Among, same_ballot, is_member, is_majority, votes_of}
 use Rattle.sc_base.proofs.Lemmas.{ballot_itself}
 use Rattle.sc_words.proofs.PaxosProofs.Lemmas.{same_from_at_least, cases_below}
 use Rattle.sc_paxos_law.proofs.Lemmas.{Among-right, among-member}
 use Rattle.sc_paxos_law.proofs.Among.{count_by-le}
-use Rattle.sc_node_table.specs.Values.{Ballot, Draw, Command, Base, Core, Mail, MailBody, Prepare, Promise, Nack, Ask, Install, PrepareAnswer, Report}
+use Rattle.sc_node_table.specs.Values.{Ballot, Draw, Command, Base, Core, Mail, MailBody, Promise, Nack, Ask, Install, PrepareAnswer, Report}
 use Rattle.sc_group_table.specs.machine.Definitions.{base_of}
 use Rattle.sc_words.specs.declared.paxos.answers.PrepareAnswer.TheVariants as Prepared
-use Rattle.sc_words.specs.paxos.Definitions.{IsAtLeast, AcceptorState, LeaderState, below, may_promise, prepared, after_promise, reports_from, promise_counted}
-use Rattle.sc_node_table.specs.Definitions.{ended, stopped, saw, install_to, install_row, took_over, looked_up, looked, jumped, forgotten, sent, hinted, promise_to, promised, prepare_row, promise_row, nack_row, pumped, leads, mailed, settled, may_offer, first_set, last_slot, members, name_of, next, slots_ahead, ReplicaState, Place}
+use Rattle.sc_words.specs.paxos.Definitions.{AcceptorState, LeaderState, below, may_promise, prepared, after_promise, reports_from, promise_counted}
+use Rattle.sc_node_table.specs.Definitions.{ended, stopped, saw, install_to, install_row, took_over, looked_up, looked, jumped, forgotten, sent, promise_to, promised, prepare_row, promise_row, nack_row, pumped, leads, mailed, settled, first_set, last_slot, members, name_of, next, ReplicaState, Place}
 use Rattle.sc_law_walks.proofs.Lemmas.{either_way}
-use Rattle.sc_live_healed.proofs.FixedWalks.{IsFresh, IsMember, IsFixedPlace}
+use Rattle.sc_live_healed.proofs.FixedWalks.{IsFresh, IsFixedPlace}
 use Rattle.sc_live_healed.proofs.FixedChanges.{polls}
-use Rattle.sc_live_healed.proofs.MovedReplicas.{Moves, HasMoved, mailed_moves, pumped_moves}
+use Rattle.sc_live_healed.proofs.MovedReplicas.{HasMoved, mailed_moves, pumped_moves}
 use Rattle.sc_live_healed.specs.Definitions.{IsFixedBody, IsFixedReplica, KeepsBallots, IsSettledOrStopped, AnswersPoll}
 
 -- ---- what is seen

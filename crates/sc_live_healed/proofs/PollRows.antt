@@ -1,9 +1,9 @@
 -- What the rows of a poll leave: who is asked says nothing to nodes but its answer, and who polls executes nothing while it runs.
-use Rattle.std.proofs.Common.{◌≡◌, ℕ, ◌+◌, ◌-◌, ◌<◌, ◌≤◌, ◌&&◌, ◌||◌, not, nat_le, nat_lt, eqb, Bool, true, false, true≢false, cond, List, [], ◌∷◌, ◌++◌, length, Option, Some, None, ◌⊎◌, inl, inr, refl, sym, ◌∙◌, ap, subst}
-use Rattle.std.proofs.lemmas.Bool.{cond_both, and_parts}
+use Rattle.std.proofs.Common.{◌≡◌, ℕ, ◌-◌, ◌<◌, ◌&&◌, ◌||◌, not, nat_le, nat_lt, eqb, true, true≢false, cond, List, [], ◌∷◌, ◌++◌, length, Option, Some, None, ◌⊎◌, inl, inr, refl, sym, ◌∙◌}
+use Rattle.std.proofs.lemmas.Bool.{cond_both}
 use Rattle.sc_base.specs.Definitions.{Each, client_actor, is_member}
 use Rattle.sc_words.proofs.PaxosProofs.Lemmas.{Each-append}
-use Rattle.sc_node_table.specs.Values.{Ballot, Draw, Op, Command, Call, Base, AnswerBody, OrderResult, Mail, MailBody, Request, Answer, Prepare, Promise, Accept, Accepted, Nack, Learn, Ask, Install, TxPrepare, TxVote, TxOutcome, TxElsewhere, TxWatch, TxWatched, Told, PrepareAnswer, Report}
+use Rattle.sc_node_table.specs.Values.{Ballot, Draw, Op, Command, Call, Base, AnswerBody, OrderResult, Mail, MailBody, Request, Answer, Promise, Nack, Ask, Install, Told, PrepareAnswer, Report}
 use Rattle.sc_group_table.specs.machine.Definitions.{base_of}
 use Rattle.sc_words.specs.declared.paxos.answers.PrepareAnswer.TheVariants as Prepared
 use Rattle.sc_mail.specs.declared.bodies.AnswerBody.TheVariants as Says

@@ -1,11 +1,11 @@
 -- A poll ends with two rounds of mail: first all members that may get mail answer, and then who polls has counted them all, or has stopped.
-use Rattle.std.proofs.Common.{◌≡◌, ℕ, ◌+◌, ◌<◌, ◌≤◌, ◌||◌, eqb, Bool, true, false, true≢false, List, [], ◌∷◌, ◌++◌, filter, Option, Some, None, ◌⊎◌, inl, inr, refl, sym, ◌∙◌, ap, subst, ◌*◌, length, count_by, cond, arith}
+use Rattle.std.proofs.Common.{◌≡◌, ℕ, ◌<◌, ◌≤◌, eqb, Bool, true, true≢false, List, [], ◌∷◌, ◌++◌, filter, Option, Some, ◌⊎◌, inl, inr, refl, sym, ◌∙◌, ap, subst, ◌*◌, length, count_by, cond, arith}
 use Rattle.std.proofs.lemmas.Bool.{cases_Bool, cond_both, cond-true, lt-ltb, eqb-true, eq-eqb}
 use Rattle.std.proofs.lemmas.List.Sums.{sum_by-cons}
 use Rattle.sc_base.specs.Definitions.{Among, Each, is_member, votes_of}
 use Rattle.sc_words.proofs.PaxosProofs.Lemmas.{Each-among, Each-append, Each-filter, Each-weaker, Among-filter}
 use Rattle.sc_paxos_law.proofs.Lemmas.{Among-left, Among-right, among-member}
-use Rattle.sc_node_table.specs.Values.{Ballot, Draw, Base, Core, Mail, MailBody, Prepare, Promise, Nack, Install, Request, Answer, Accept, Accepted, Learn, Ask, TxPrepare, TxVote, TxOutcome, TxElsewhere, TxWatch, TxWatched, Told}
+use Rattle.sc_node_table.specs.Values.{Ballot, Draw, Base, Core, Mail, MailBody, Prepare, Promise, Nack, Install, Request}
 use Rattle.sc_node_table.specs.Definitions.{group_of_mail, last_slot, mailed, prepare_row, next, ReplicaState, Place}
 use Rattle.sc_live_healed.proofs.FixedWalks.{IsFresh, IsMember, IsSaid, IsFixedPlace}
 use Rattle.sc_live_healed.proofs.MovedReplicas.{HasMoved, mailed_moves}
@@ -211,6 +211,17 @@ module _ (base : Base) (alive : ℕ → Bool) where
         ]
         | inr a ↦ inr (a.0, Among-left a.0 second new a.1, a.2, a.3, a.4, a.5)
       ];
+    }
+
+    -- the first round begins where each member is asked, and none has promised the ballot
+    pub first_begins : (c : Replicas) (first : List Mail) → Each (λ (mail : Mail). IsOfGroup mail → IsAsked mail) first → AreFloored c → IsAt c → ((m : ℕ) → IsMember base m → alive m ≡ true → Among (record { from = n; to = m; body = Prepare base.core.id ballot from_slot }) first)
+        → ((m : ℕ) (r : ReplicaState) → c m ≡ Some r → r.acceptor.promised ≡ ballot → ⊥) → FirstRound c first []
+    first_begins c first asks floored at each unpromised = record {
+      asks = asks;
+      answers = tt;
+      floored = floored;
+      at = at;
+      each = λ m member lives r e p. inl (record { from = n; to = m; body = Prepare base.core.id ballot from_slot }, each m member lives, refl, (refl, refl), unpromised m);
     }
 
     -- the second round begins where the mail of the poll is delivered

@@ -1,29 +1,28 @@
 -- Polls end: in the quiet prefix after the turn of a node that was elected in it, the node's replica is settled or does not run, where more than half of the members may get mail.
-use Rattle.std.proofs.Common.{◌≡◌, ℕ, ◌*◌, ◌<◌, ◌≤◌, ◌&&◌, ◌||◌, not, eqb, Bool, true, false, true≢false, List, [], ◌∷◌, ◌++◌, count_by, length, filter, find, Option, Some, None, ◌⊎◌, inl, inr, refl, sym, ◌∙◌, ap, subst, append_assoc, append-nil}
+use Rattle.std.proofs.Common.{◌≡◌, ℕ, zero, suc, ◌*◌, ◌<◌, ◌≤◌, ◌&&◌, ◌||◌, not, eqb, Bool, true, false, cond, List, [], ◌∷◌, ◌++◌, count_by, length, filter, find, Option, Some, None, ◌⊎◌, inl, inr, refl, sym, ◌∙◌, ap, subst, append_assoc, append-nil}
 use Rattle.std.specs.List.{list_any}
-use Rattle.std.proofs.lemmas.Bool.{cases_Bool, eqb-true, eq-eqb}
-use Rattle.sc_base.specs.Definitions.{Among, Each, same_draw, is_member}
+use Rattle.std.proofs.lemmas.List.Folds.{list_any-append}
+use Rattle.sc_base.specs.Definitions.{Among, Each, same_draw}
 use Rattle.sc_base.proofs.Lemmas.{draw_is}
 use Rattle.sc_words.proofs.PaxosProofs.Lemmas.{Each-among, find_found}
 use Rattle.sc_paxos_law.proofs.Lemmas.{place_among}
 use Rattle.sc_node_table.specs.Values.{Ballot, Draw, Seat, Row, Event, Deliver, Base, OrderLine, Mail, MailBody, Install, Node, Client}
-use Rattle.sc_actor.specs.Definitions.{mails, has_crashed, is_crash, is_quiet, lowest, value}
+use Rattle.sc_actor.specs.Definitions.{mails, numbered, numbers_of, has_crashed, is_crash, lowest, value}
 use Rattle.sc_actor.proofs.Lemmas.{find-who}
-use Rattle.sc_node_table.specs.Definitions.{NodeState, ReplicaState, Place, name_of, replica_of, last_slot, mailed, next}
+use Rattle.sc_node_table.specs.Definitions.{ReplicaState, Place, name_of, last_slot, mailed, next}
 use Rattle.sc_scenario.specs.declared.scenario.scenarios.Scenario.{Scenario}
 use Rattle.sc_scenario.specs.scenario.Definitions.{IsBounded}
 use Rattle.sc_meaning.specs.sound.Definitions.{Player, as_nodes, births, player_table}
 use Rattle.sc_live_orderly.specs.Turns.{pending_mail, AreDelivered, TakesLowest}
-use Rattle.sc_live_orderly.proofs.PendingMail.{takes_lowest}
-use Rattle.sc_live_healed.proofs.FixedWalks.{IsFresh, IsMember, IsFixedPlace}
+use Rattle.sc_live_orderly.proofs.PendingMail.{takes_lowest, none_pending}
+use Rattle.sc_live_healed.proofs.FixedWalks.{IsMember, IsFixedPlace}
 use Rattle.sc_live_healed.proofs.FixedNodes.{AreFresh, IsOne, into, name_one}
 use Rattle.sc_live_healed.proofs.FixedBirths.{groups_fresh}
-use Rattle.sc_live_healed.proofs.FixedJournals.{Rows, IsOf, IsFixedPlayer, IsFixedJournal}
-use Rattle.sc_live_healed.proofs.MovedReplicas.{mailed_moves}
+use Rattle.sc_live_healed.proofs.FixedJournals.{Rows, IsFixedPlayer, IsFixedJournal}
 use Rattle.sc_live_healed.proofs.PollAnswers.{mail_keeps_settled}
-use Rattle.sc_live_healed.proofs.PollTurns.{Replicas, IsTaken, IsPassed, IsDelivered, Polls, FirstRound, SecondRound, AreFloored, is_or_not, one_replica, floored_after, polled_before, moves, first_step, second_begins, second_step, polls_end_settled}
+use Rattle.sc_live_healed.proofs.PollTurns.{Replicas, IsTaken, IsDelivered, FirstRound, SecondRound, is_or_not, one_replica, floored_after, moves, first_step, second_begins, second_step, polls_end_settled}
 use Rattle.sc_live_healed.proofs.DeliveredViews.{s, view, seat_view, player_view, alive, delivered_view}
-use Rattle.sc_live_healed.specs.Definitions.{IsFixedNode, IsSettledOrStopped}
+use Rattle.sc_live_healed.specs.Definitions.{IsSettledOrStopped}
 
 -- a state that is sent is not beyond the last slot
 abbrev pub FitsSlots : MailBody → Type 0
@@ -159,17 +158,57 @@ module _ (words : ℕ → ℕ → ℕ × ℕ) (scenario : Scenario) (bounded : I
     ends rows now course pending none (inr (inl (x ∷ second, later, e, k))) = absurd (cc)
     ends rows now course pending none (inr (inr k)) = k
 
-    module _ (full : Rows) (journals : (xs ys : Rows) → full ≡ xs ++ ys → IsFixedJournal scenario xs)
-        (delivers : (xs : Rows) (row : Row Mail OrderLine) (ys : Rows) → full ≡ (xs ++ row ∷ []) ++ ys → lowest (s words scenario bounded base among) xs ≡ Some row → (mail : Mail) × (others : List Mail) × Delivers xs row mail others)
-        (last : pending_mail (s words scenario bounded base among) full ≡ []) where
-      drive : (deliveries rows : Rows) → full ≡ rows ++ deliveries → AreDelivered (s words scenario bounded base among) rows deliveries → Course rows → Progress rows (pending_mail (s words scenario bounded base among) rows) → IsSettled full
-      drive [] rows e quiet course k =
+    -- ---- a delivery of the lowest number
+
+    filters_agree : (a b : ℕ → Bool) → ((who : ℕ) → a who ≡ b who) → (sent : List Mail) → filter (λ (m : Mail). a m.to) sent ≡ filter (λ (m : Mail). b m.to) sent
+    filters_agree a b same [] = refl
+    filters_agree a b same (m ∷ sent) =
+        ap (λ (x : Bool). cond x (m ∷ filter (λ (y : Mail). a y.to) sent) (filter (λ (y : Mail). a y.to) sent)) (same m.to) ∙ ap (λ (xs : List Mail). cond (b m.to) (m ∷ xs) xs) (filters_agree a b same sent)
+
+    as_begun : (a : ℕ → Bool) → ((who : ℕ) → a who ≡ a0 who) → (c : Replicas) (mail : Mail) (after : Replicas) (new : List Mail) → IsDelivered base a c mail after new → IsDelivered base a0 c mail after new
+    as_begun a same c mail next_view new (inl t) =
+        inl record { of_group = t.of_group; fresh = t.fresh; replica = t.replica; was = t.was; fixed = t.fixed; heard = t.heard; room = t.room; is = t.is; others = t.others; sent = t.sent ∙ filters_agree a a0 same (mailed mail.from mail.body (t.replica, [])).0.1 }
+    as_begun a same c mail next_view new (inr p) = inr record { other = p.other; same = p.same; sent = p.sent }
+
+    given : (sent : List Mail) (number : ℕ) (mail : Mail) → Each (λ (m : Mail). FitsSlots m.body) sent → numbered sent number ≡ Some mail → FitsSlots mail.body
+    given sent zero mail f e = absurd (cc)
+    given sent (suc place) mail f e = Each-among (λ (m : Mail). FitsSlots m.body) sent mail f (place_among sent place mail e)
+
+    abbrev lives_in : Rows → ℕ → Bool
+    lives_in rows who = alive words scenario bounded base among rows who
+
+    -- nobody crashes in a delivery
+    lives_on : (rows : Rows) (row : Row Mail OrderLine) (number : ℕ) → row.event ≡ Deliver number → (who : ℕ) → lives_in (rows ++ row ∷ []) who ≡ lives_in rows who
+    lives_on rows row number event who =
+        ap (λ (b : Bool). list_any (λ actor. eqb actor who) (numbers_of (s words scenario bounded base among).births) && not b)
+        (list_any-append (λ (r : Row Mail OrderLine). eqb r.who who && is_crash r.event) rows (row ∷ [])
+        ∙ (ap (λ (e : Event OrderLine). has_crashed rows who || ((eqb row.who who && is_crash e) || false)) event ∙ by (eqb row.who who) (has_crashed rows who)))
+      where
+        by : (a b : Bool) → (b || ((a && false) || false)) ≡ b
+        by true true = refl
+        by true false = refl
+        by false true = refl
+        by false false = refl
+
+    delivers_at : (rows : Rows) (row : Row Mail OrderLine) → IsFixedJournal scenario rows → ((who : ℕ) → lives_in rows who ≡ a0 who) → Each (λ (m : Mail). FitsSlots m.body) (mails rows) → lowest (s words scenario bounded base among) rows ≡ Some row
+        → (mail : Mail) × (others : List Mail) × Delivers rows row mail others × ((who : ℕ) → lives_in (rows ++ row ∷ []) who ≡ a0 who)
+    delivers_at rows row now lives room low =
+        let t : TakesLowest (s words scenario bounded base among) rows row = takes_lowest (s words scenario bounded base among) rows row low in
+        let event : row.event ≡ Deliver t.number = ap (λ (r : Row Mail OrderLine). r.event) t.row_is in
+        let new : List Mail = filter (λ (m : Mail). lives_in rows m.to) row.sent in
+        let d : IsDelivered base (alive words scenario bounded base among rows) (seen_at rows) t.mail (seen_at (rows ++ row ∷ [])) new = delivered_view words scenario bounded base among rows row now t (fits t.mail.body (given (mails rows) t.number t.mail room t.sent)) in
+        (t.mail, t.others, (t.first, (new, t.then_, as_begun (alive words scenario bounded base among rows) lives (seen_at rows) t.mail (seen_at (rows ++ row ∷ [])) new d)), λ who. lives_on rows row t.number event who ∙ lives who)
+
+    module _ (full : Rows) (journals : (xs ys : Rows) → full ≡ xs ++ ys → IsFixedJournal scenario xs × Each (λ (m : Mail). FitsSlots m.body) (mails xs)) where
+      -- Polls end: where the poll has begun, and mail is delivered until none is pending, the node's replica is settled or does not run.
+      pub polls_end : (deliveries rows : Rows) → full ≡ rows ++ deliveries → AreDelivered (s words scenario bounded base among) rows deliveries → ((who : ℕ) → lives_in rows who ≡ a0 who) → Course rows → Progress rows (pending_mail (s words scenario bounded base among) rows) → IsSettled full
+      polls_end [] rows e quiet lives course k =
           let same : full ≡ rows = e ∙ append-nil rows in
-          subst IsSettled (sym same) (ends rows (journals rows [] e) course (pending_mail (s words scenario bounded base among) rows) (ap (λ (xs : Rows). pending_mail (s words scenario bounded base among) xs) (sym same) ∙ last) k)
-      drive (row ∷ deliveries) rows e go course k =
+          subst IsSettled (sym same) (ends rows (journals rows [] e).0 course (pending_mail (s words scenario bounded base among) rows) (none_pending (s words scenario bounded base among) rows quiet) k)
+      polls_end (row ∷ deliveries) rows e go lives course k =
           let longer : full ≡ (rows ++ row ∷ []) ++ deliveries = e ∙ sym (append_assoc rows (row ∷ []) deliveries) in
-          let now = journals rows (row ∷ deliveries) e in
-          let d = delivers rows row deliveries longer go.0 in
+          let now = (journals rows (row ∷ deliveries) e).0 in
+          let d = delivers_at rows row now lives (journals rows (row ∷ deliveries) e).1 go.0 in
           let course1 = course_after rows row now d.0 d.2.1.0 d.2.1.2 course in
           let k1 = progress_after rows row now d.0 d.2.1.0 d.2.1.2 course (pending_mail (s words scenario bounded base among) rows) d.1 d.2.0 k in
-          drive deliveries (rows ++ row ∷ []) longer go.1 course1 (subst (Progress (rows ++ row ∷ [])) (sym d.2.1.1) k1)
+          polls_end deliveries (rows ++ row ∷ []) longer go.1 d.3 course1 (subst (Progress (rows ++ row ∷ [])) (sym d.2.1.1) k1)

@@ -1,6 +1,6 @@
 -- Polls: a replica that is elected asks the members of its group to promise its ballot, and is settled once a majority has.
 use Rattle.std.specs.Prelude.{◌≡◌, ◌≤◌, ℕ, true}
-use Rattle.sc_node_table.specs.Values.{Ballot, MailBody, Request, Answer, Prepare, Promise, Accept, Accepted, Nack, Learn, Ask, Install, TxPrepare, TxVote, TxOutcome, TxElsewhere, TxWatch, TxWatched, Told}
+use Rattle.sc_node_table.specs.Values.{Ballot, MailBody, Request, Promise, Nack, Install}
 use Rattle.sc_words.specs.paxos.Definitions.{below}
 use Rattle.sc_node_table.specs.Definitions.{ReplicaState, settled}
 
