@@ -1,31 +1,32 @@
 -- Behind turns of which one is the tick of a node that is alive, each settled replica of the node is idle, where more than half of its group's members are alive.
-use Rattle.std.proofs.Common.{◌≡◌, ℕ, ◌-◌, ◌^◌, Bool, true, List, [], ◌∷◌, ◌++◌, Some, false, sym, ◌∙◌, subst, inr, append-nil}
+use Rattle.std.proofs.Common.{◌≡◌, ℕ, ◌+◌, ◌*◌, ◌-◌, ◌^◌, ◌≤◌, length, arith, length-append, ap, Bool, true, List, [], ◌∷◌, ◌++◌, Some, false, sym, ◌∙◌, subst, inr, append-nil}
 use Rattle.sc_base.specs.Definitions.{Among, Each, same_draw}
 use Rattle.sc_base.proofs.Lemmas.{draw_is}
 use Rattle.sc_node_table.specs.Values.{Seat, Base, Mail, Node}
 use Rattle.sc_actor.specs.Definitions.{value, is_quiet, may_get, numbers_of}
 use Rattle.sc_actor.proofs.Lemmas.{lawful-prefix}
-use Rattle.sc_node_table.specs.Definitions.{NodeState, ReplicaState, name_of, replica_of, is_node, settled}
-use Rattle.sc_words.proofs.PaxosProofs.Lemmas.{Each-among, Each-weaker, find_found}
+use Rattle.sc_node_table.specs.Definitions.{NodeState, ReplicaState, name_of, replica_of, is_node, settled, last_slot}
+use Rattle.sc_words.proofs.PaxosProofs.Lemmas.{Each-among, find_found}
 use Rattle.sc_scenario.specs.declared.scenario.scenarios.Scenario.{Scenario}
 use Rattle.sc_scenario.specs.scenario.Definitions.{IsBounded}
 use Rattle.sc_meaning.specs.sound.Definitions.{Player, Lawful, as_nodes, player_table, schedule, system_of}
 use Rattle.sc_live_orderly.specs.Definitions.{Turn, HasTurns}
 use Rattle.sc_live_orderly.proofs.PendingMail.{none_pending}
-use Rattle.sc_live_healed.specs.Definitions.{IsFixedReplica, VotesAreUnderWay, IsInBounds, LivingMajority, IsIdle, IsSettledOrStopped}
+use Rattle.sc_live_healed.specs.Definitions.{IsFixedReplica, VotesAreUnderWay, LivingMajority, IsIdle, IsSettledOrStopped}
 use Rattle.sc_live_healed.proofs.FixedNodes.{IsOne, name_one}
 use Rattle.sc_live_healed.proofs.FixedJournals.{Rows, IsOf, fresh, AreUntold}
 use Rattle.sc_live_healed.proofs.LivingActors.{seats_stay_nodes, turns_kind, turns_get}
 use Rattle.sc_live_healed.proofs.NodeSlots.{found_takes}
 use Rattle.sc_live_healed.proofs.TakenJournals.{groups_rosters, IsTakenJournal, journal_taken}
+use Rattle.sc_live_healed.proofs.NearSlots.{StaysNear}
+use Rattle.sc_live_healed.proofs.NearJournals.{PlayerNear, IsNearJournal, journal_near}
 use Rattle.sc_live_healed.proofs.VotesInTurns.{S, LetsVote, VotesAt, node_fixed, node_takes}
 use Rattle.sc_live_healed.proofs.VotesOfTurns.{IsTicked, turns_votes}
 use Rattle.sc_live_healed.proofs.IdleReplicas.{quiet_replicas_idle}
 
--- After these rows no replica has forgotten a slot that it has not executed, is behind the last slot, or has seen the last round.
-abbrev pub AreInBounds : Scenario → Rows → Type 0
-AreInBounds scenario rows =
-    (seat : Seat Player) → IsOf scenario seat → (node : NodeState) → value player_table seat rows ≡ Node node → Each (λ (r : ReplicaState). IsInBounds r × (r.top.round ≡ 2 ^ 32 - 1 → ⊥)) node.replicas
+-- After these rows no replica has seen the last round.
+abbrev pub HaveRounds : Scenario → Rows → Type 0
+HaveRounds scenario rows = (seat : Seat Player) → IsOf scenario seat → (node : NodeState) → value player_table seat rows ≡ Node node → Each (λ (r : ReplicaState). r.top.round ≡ 2 ^ 32 - 1 → ⊥) node.replicas
 
 module _ (words : ℕ → ℕ → ℕ × ℕ) (scenario : Scenario) (bounded : IsBounded scenario) (off : scenario.policy ≡ false) (lives : ℕ → Bool) (are_nodes : (who : ℕ) → lives who ≡ true → is_node who ≡ true) (seat : Seat Player) (is_of : IsOf scenario seat) (living : lives seat.who ≡ true) where
   abbrev alive : ℕ → Type 0
@@ -61,19 +62,23 @@ module _ (words : ℕ → ℕ → ℕ × ℕ) (scenario : Scenario) (bounded : I
 
   -- ---- from what holds of each prefix
 
-  lets_vote : (rows : Rows) → IsTakenJournal scenario rows → ((who : ℕ) → alive who → may_get (numbers_of (S words scenario bounded off alive).births) rows who ≡ true) → AreInBounds scenario rows → Lets rows
-  lets_vote rows taken gets bounds = record {
+  lets_vote : (rows : Rows) → IsTakenJournal scenario rows → ((who : ℕ) → alive who → may_get (numbers_of (S words scenario bounded off alive).births) rows who ≡ true) → (bound : ℕ) → IsNearJournal scenario bound rows → bound ≤ last_slot → HaveRounds scenario rows → Lets rows
+  lets_vote rows taken gets bound near low rounds = record {
     taken = taken;
     gets = gets;
     nodes = λ other of lives_. seats_stay_nodes scenario bounded other of (are_nodes other.who lives_) rows;
     bounds = λ other of node e base r a found.
-        (Each-among (λ (x : ReplicaState). IsInBounds x × (x.top.round ≡ 2 ^ 32 - 1 → ⊥)) node.replicas r (bounds other of node e) (find_found (λ (x : ReplicaState). same_draw (name_of x) base.core.id) node.replicas r found).0).0;
-    rounds = λ other of node e. Each-weaker (λ (x : ReplicaState). IsInBounds x × (x.top.round ≡ 2 ^ 32 - 1 → ⊥)) (λ (x : ReplicaState). x.top.round ≡ 2 ^ 32 - 1 → ⊥) (λ x k. k.1) node.replicas (bounds other of node e);
+        (let at = find_found (λ (x : ReplicaState). same_draw (name_of x) base.core.id) node.replicas r found in
+        let is = Each-among (λ (x : ReplicaState). StaysNear bound (x, [])) node.replicas r (subst (PlayerNear bound) e (near.players other of)) at.0 in
+        record { floor = is.floored; near = (let reached = is.reached in omega (arith, reached, low)) });
+    rounds = rounds;
   }
 
   -- a first part of a lawful journal without orders
-  taken_prefix : (rows later : Rows) → AreUntold words scenario bounded off (rows ++ later) → Lawful as_nodes words scenario (rows ++ later) → IsTakenJournal scenario rows
-  taken_prefix rows later untold lawful = journal_taken words scenario bounded off rows (first_untold rows untold) (lawful-prefix (system_of as_nodes words scenario) (schedule scenario) rows later lawful)
+  taken_prefix : (rows later : Rows) → AreUntold words scenario bounded off (rows ++ later) → Lawful as_nodes words scenario (rows ++ later) → IsTakenJournal scenario rows × IsNearJournal scenario (1 + 4 * length rows) rows
+  taken_prefix rows later untold lawful =
+      let first = lawful-prefix (system_of as_nodes words scenario) (schedule scenario) rows later lawful in
+      (journal_taken words scenario bounded off rows (first_untold rows untold) first, journal_near words scenario bounded off rows (first_untold rows untold) first)
     where
       first_untold : (xs : Rows) → AreUntold words scenario bounded off (xs ++ later) → AreUntold words scenario bounded off xs
       first_untold [] u = tt
@@ -81,14 +86,16 @@ module _ (words : ℕ → ℕ → ℕ × ℕ) (scenario : Scenario) (bounded : I
 
   -- Behind turns of a lawful journal without orders, of which one is the tick of a node that is alive, each replica of the node that runs, and is settled where it runs, is idle.
   pub living_replicas_idle : (rows : Rows) (turns : List Turn) (after : Rows) → Has rows turns after → Lawful as_nodes words scenario after → AreUntold words scenario bounded off after
-      → ((who : ℕ) → alive who → may_get (numbers_of (S words scenario bounded off alive).births) rows who ≡ true) → ((first later : Rows) → after ≡ first ++ later → AreInBounds scenario first)
+      → ((who : ℕ) → alive who → may_get (numbers_of (S words scenario bounded off alive).births) rows who ≡ true) → 1 + 4 * length after ≤ last_slot → ((first later : Rows) → after ≡ first ++ later → HaveRounds scenario first)
       → IsTicked words scenario bounded off alive are_nodes seat is_of living turns → (node : NodeState) → value player_table seat after ≡ Node node
       → (base : Base) → Among base scenario.groups → LivingMajority lives base.core.members → (r : ReplicaState) → replica_of base.core.id node.replicas ≡ Some r → IsSettledOrStopped r → r.running ≡ true → IsIdle r
-  living_replicas_idle rows turns after t lawful untold gets bounds ticked node e base a most r found settles on =
+  living_replicas_idle rows turns after t lawful untold gets few rounds ticked node e base a most r found settles on =
       let s = S words scenario bounded off alive in
       let lets : (more later : Rows) → after ≡ (rows ++ more) ++ later → Lets (rows ++ more) =
-      λ more later is. lets_vote (rows ++ more) (taken_prefix (rows ++ more) later (subst (AreUntold words scenario bounded off) is untold) (subst (Lawful as_nodes words scenario) is lawful))
-      (λ who l. turns_get s who rows turns after more later t is (gets who l)) (bounds (rows ++ more) later is) in
+      λ more later is. (
+      let both = taken_prefix (rows ++ more) later (subst (AreUntold words scenario bounded off) is untold) (subst (Lawful as_nodes words scenario) is lawful) in
+      let parts = ap length is ∙ length-append (rows ++ more) later in
+      lets_vote (rows ++ more) both.0 (λ who l. turns_get s who rows turns after more later t is (gets who l)) (1 + 4 * length (rows ++ more)) both.1 (omega (arith, few, parts)) (rounds (rows ++ more) later is)) in
       let all = turns_kind s rows turns after t in
       let whole : after ≡ (rows ++ all.0) ++ [] = all.1 ∙ sym (append-nil (rows ++ all.0)) in
       turns_leave_idle rows turns after t lets (subst Lets (sym all.1) (lets all.0 [] whole)) ticked node e base a most r found (settles on)

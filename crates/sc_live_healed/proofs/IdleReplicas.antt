@@ -59,7 +59,7 @@ module _ (base : Base) (r : ReplicaState) (fixed : IsFixedReplica base r) (takes
       let none = ap (λ t. one_if (in_range (next r) t entry.0)) none_taken ∙ range_none (next r) entry.0 in
       absurd (omega (arith, c, here, flights, same, once, none))
 
-  pub idle_where_decided : settled r ≡ true → next r ≤ last_slot → IsIdle r
+  idle_where_decided : settled r ≡ true → next r ≤ last_slot → IsIdle r
   idle_where_decided on near =
       let none = none_taken in
       elim (takes.offered on near) [

@@ -50,5 +50,8 @@ pub mod HeldRequests
 pub mod HeldRequestRows
 pub mod AskingJournals
 pub mod NumberedRequests
+pub mod NearSlots
+pub mod NearJournals
 pub mod SettledTicks
 pub mod PollBegins
+pub mod LoneRequests

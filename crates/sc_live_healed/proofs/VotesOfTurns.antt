@@ -129,7 +129,7 @@ module _ (words : ℕ → ℕ → ℕ × ℕ) (scenario : Scenario) (bounded : I
         by Ticks k false e = elsewhere rows turn.kick turn.who t.first here t.quiet t.first_is (λ _ same. true≢false (sym (eq-eqb turn.who seat.who same) ∙ e)) votes
         by Starts k b e = elsewhere rows turn.kick turn.who t.first here t.quiet t.first_is (λ ticks _. (let other : Starts ≡ Ticks = sym k ∙ ticks in cc)) votes
 
-    pub turn_votes : Turns rows turn → Votes after
+    turn_votes : Turns rows turn → Votes after
     turn_votes v =
         subst Votes (sym t.after_is)
         (votes_all_delivered words scenario bounded off alive are_nodes seat is_of living (rows ++ as_list t.first) t.deliveries
