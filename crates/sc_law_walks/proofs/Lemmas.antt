@@ -22,3 +22,4 @@ pub use Rattle.sc_law_walks.proofs.TableRows.{leads_on, ended_off}
 pub use Rattle.sc_law_walks.proofs.CommandWalks.{VoteWalk, vote_step, decided_walk, WatchWalk, watch_step, FinishWalk, finish_step}
 pub use Rattle.sc_law_walks.proofs.Routes.{takes_by}
 pub use Rattle.sc_law_walks.proofs.AscendingMembers.{none_below}
+pub use Rattle.sc_law_walks.proofs.ReplicaNodes.{FoundOne, found_one, EachReplica, ReplicaRows, node_step}

@@ -34,3 +34,4 @@ pub mod CoreWalks
 pub mod EnteredReplicas
 pub mod Routes
 pub mod AscendingMembers
+pub mod ReplicaNodes

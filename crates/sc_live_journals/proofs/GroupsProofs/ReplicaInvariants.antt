@@ -12,7 +12,8 @@ use Rattle.sc_meaning.specs.sound.Definitions.{Player, player_table, births, as_
 use Rattle.sc_live_journals.specs.rows.Definitions.{replicas_of, replica_in}
 use Rattle.sc_live_journals.specs.groups.Definitions.{IsKeptPlayer, ScenariosAreKeptBorn, ReplicasAreKept, KeptLeadersRest, IsSlotKept, IsTopKept}
 use Rattle.sc_live_journals.proofs.GroupsProofs.QuietLeaders.{quiet_leaders_rest}
-use Rattle.sc_live_journals.proofs.GroupsProofs.SlotNodes.{nodes_born as slots_born, Plays as SlotPlays, Found as SlotFound, found_well as slot_found, replay_well as slots_replay}
+use Rattle.sc_live_journals.proofs.GroupsProofs.SlotNodes.{nodes_born as slots_born, Plays as SlotPlays, replay_well as slots_replay}
+use Rattle.sc_law_walks.proofs.Lemmas.{FoundOne, found_one}
 use Rattle.sc_live_journals.proofs.GroupsProofs.GreatestBallots.{nodes_born as tops_born, Plays as TopPlays, Found as TopFound, found_well as top_found, replay_well as tops_replay}
 
 -- ---- at birth
@@ -48,7 +49,7 @@ top_of who name (Node node) r k e = subst (TopFound who) e (top_found who name n
 top_of who name (Client client) r k e = cc
 
 slot_of : (who : ℕ) (name : Draw) (player : Player) (r : ReplicaState) → SlotPlays who player → replica_of name (replicas_of player) ≡ Some r → IsSlotKept r
-slot_of who name (Node node) r k e = subst (SlotFound who) e (slot_found who name node.replicas k.1)
+slot_of who name (Node node) r k e = subst (FoundOne IsSlotKept) e (found_one IsSlotKept name node.replicas k.1)
 slot_of who name (Client client) r k e = cc
 
 pub top_plays : (who : ℕ) (player : Player) → IsKeptPlayer who player → TopPlays who player
