@@ -102,7 +102,6 @@ module _ (words : ℕ → ℕ → ℕ × ℕ) (births : List (Seat Player)) (qui
         node_leaves words births rows seat event d.seated d.timely node is step (Some (Got mail)) (ap (option_map Got) at) (ap (λ (x : NodeState × List Mail). (Node x.0, x.1)) e) name same silent
 
     module _ (group : Draw) (t : IsTaking words births rows seat number mail group node) where
-
       named_so : (name : Draw) → name ≡ group → group_of_mail mail.body ≡ Some name
       named_so name i = t.named ∙ ap Some (sym i)
 

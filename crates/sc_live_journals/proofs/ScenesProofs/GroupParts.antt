@@ -61,7 +61,6 @@ same_part one other nodes same =
 -- one more replica, at a node that had none, free, and without work
 module _ (one other : Nodes) (nodes : List ℕ) (who : ℕ) (born : ReplicaState) (all : AreAll one nodes) (among : Among who nodes) (none : one who ≡ None) (makes : other who ≡ Some born)
     (same : (node : ℕ) → (node ≡ who → ⊥) → other node ≡ one node) (free : bond_of born.group.core ≡ Unbound) (idle : works born ≡ []) (newest : AreBound one Unbound) where
-
   all_after : AreAll other nodes
   all_after node r has = elim (cases_eq node who) [
     | inl e ↦ subst (λ n. Among n nodes) (sym e) among

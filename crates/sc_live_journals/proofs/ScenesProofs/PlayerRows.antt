@@ -101,7 +101,6 @@ module _ (words : ℕ → ℕ → ℕ × ℕ) (births : List (Seat Player)) (row
     abbrev other : ℕ → Option ReplicaState
     other = view_at births (with_event rows seat event) name
 
-
     creates_part : IsSeat births seat → Creates births rows seat event name → SamePart one other (numbers_of births)
     creates_part born b =
         let r = born_replica slots_ahead seat.who b.base in

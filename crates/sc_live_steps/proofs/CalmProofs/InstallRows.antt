@@ -15,7 +15,6 @@ unfolding jumped forgotten
 jumped_owes most slot base sets r = (refl, refl)
 
 module _ (ways : Ways) where
-
   pub looks_up : (from : ℕ) (r : ReplicaState) (mails : List Mail) → r.running ≡ false → place_owes ways (looked_up from (r, mails)) ≤ replica_owes ways.most r + election + sum_by (mail_owes ways) mails
   unfolding looked_up
   looks_up from r mails off = by (is_member (members r) from) (looked_owes ways r mails off)

@@ -95,7 +95,6 @@ module _ (ways : Ways) where
   unfolding looked
   looked_owes r mails stopped = by r.running r.group.core.gone refl stopped
     where
-
       same : (hint : Option ℕ) → place_owes ways (record r { hint = hint }, mails) ≤ replica_owes ways.most r + election + sum_by (mail_owes ways) mails
       same hint = let low = idle_low r.running r.group.core.gone in omega (arith, low)
 
