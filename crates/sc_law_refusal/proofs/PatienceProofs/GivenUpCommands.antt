@@ -7,7 +7,7 @@ use Rattle.sc_words.proofs.PaxosProofs.Lemmas.{Each-append, Each-filter}
 use Rattle.sc_words.specs.paxos.Definitions.{AcceptorState, LeaderState, flight_at, promise_counted, entry_at, kept_voters, voters_after, tallied, vote_at, counted, choice, chosen_value, names_above, must, must_without, without_flight_at}
 use Rattle.sc_node_table.specs.Definitions.{ReplicaState, floor_of, forgotten, flying, with_slot, without_slot, queued_number, is_request_of, without_request, request_before, put_back}
 use Rattle.sc_law_entries.specs.names.Definitions.{Opt}
-use Rattle.sc_law_entries.proofs.NamesProofs.Lists.{opt_find, opt_map, opt_get, opt_choice, Each-drop, slot_with, slot_without, flight_without, voters_with}
+use Rattle.sc_law_entries.proofs.NamesProofs.EachFound.{opt_find, opt_map, opt_get, opt_choice, Each-drop, slot_with, slot_without, flight_without, voters_with}
 use Rattle.sc_law_walks.proofs.Lemmas.{either_way}
 use Rattle.sc_law_walks.specs.Definitions.{IsFiledOnMail, IsOrder}
 

@@ -21,13 +21,13 @@ use Rattle.sc_live_steps.specs.calm.Definitions.{players, Rows}
 use Rattle.sc_live_steps.proofs.CalmProofs.Lemmas.{put_others}
 use Rattle.sc_live_steps.proofs.OrdersProofs.Lemmas.{cases-draw}
 use Rattle.sc_live_journals.specs.rows.Definitions.{view_at, with_event}
-use Rattle.sc_live_journals.proofs.ScenesProofs.NewestReplicas.{lead_runs}
+use Rattle.sc_live_journals.proofs.ScenesProofs.NewestLeaders.{lead_runs}
 use Rattle.sc_live_journals.proofs.ScenesProofs.RowPremises.{IsQuestion, leader_asked, found_step}
 use Rattle.sc_live_journals.proofs.ScenesProofs.OrderRows.{taken_on, row_of_comes}
 use Rattle.sc_live_journals.proofs.ScenesProofs.UntakenMail.{takes_one}
-use Rattle.sc_live_journals.proofs.ScenesProofs.ErrandReceivers.{errand_among}
-use Rattle.sc_live_journals.proofs.ScenesProofs.MailReceivers.{errand_unknown, OneOf, all_children, each_is}
-use Rattle.sc_live_journals.proofs.ScenesProofs.PlayerRows.{calm_is}
+use Rattle.sc_live_journals.proofs.ScenesProofs.ErrandLeaders.{errand_among}
+use Rattle.sc_live_journals.proofs.ScenesProofs.SceneReceivers.{errand_unknown, OneOf, all_children, each_is}
+use Rattle.sc_live_journals.proofs.ScenesProofs.SceneRows.{calm_is}
 use Rattle.sc_live_journals.proofs.ScenesProofs.UntouchedBySteps.{taken_back, step_back, step_there, begun_other, begun_there, fresh_errand, asked_fresh, sent_on_fresh}
 use Rattle.sc_live_journals.proofs.ScenesProofs.UntouchedGroups.{Leaves, left_view, left_mail, client_leaves, node_leaves, is_asked, asks_it, aside_is, unknown_apart}
 
