@@ -6,13 +6,8 @@ use Rattle.sc_words.proofs.PaxosProofs.Lemmas.{Each-filter}
 use Rattle.sc_words.specs.paxos.Definitions.{AcceptorState, LeaderState, promise_counted, entry_at, counted, without_flight_at}
 use Rattle.sc_node_table.specs.Definitions.{ReplicaState, floor_of, forgotten, with_slot, without_slot, put_back}
 use Rattle.sc_law_entries.specs.names.Definitions.{Opt}
-<<<<<<< HEAD
 use Rattle.sc_law_entries.proofs.NamesProofs.EachFound.{opt_get, Each-drop, slot_with, slot_without, flight_without}
 use Rattle.sc_law_walks.proofs.Lemmas.{either_way, back_any}
-=======
-use Rattle.sc_law_entries.proofs.NamesProofs.EachFound.{opt_find, opt_map, opt_get, opt_choice, Each-drop, slot_with, slot_without, flight_without, voters_with}
-use Rattle.sc_law_walks.proofs.Lemmas.{either_way}
->>>>>>> origin/h-66b
 use Rattle.sc_law_walks.specs.Definitions.{IsFiledOnMail, IsOrder}
 use Rattle.sc_law_refusal.proofs.HeldCommands as held
 
