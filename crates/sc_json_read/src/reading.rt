@@ -1,9 +1,8 @@
 //! Members, items and variants, read from JSON.
-ghost use Rattle.std.specs.Prelude.{◌≡◌, Ok, Err, IsOk, IsSomeAnd, IfOk, IfSome, [], ◌∷◌};
+ghost use Rattle.std.specs.Prelude.{◌≡◌, Ok, IsOk, IsSomeAnd, IfOk, IfSome, [], ◌∷◌};
 ghost use Rattle.serde_json.specs.Data.{Data, Items, Members, array, object, item, member, no_items, no_members};
 ghost use Rattle.serde_json.specs.View.{view, items_view, members_view};
 ghost use Rattle.sc_json_read.specs.Reading.{Finds, IsWord, MayBeVariant, Shows, Spells, content_of};
-ghost use Rattle.sc_json_read.specs.declared.errors.RowError.TheVariants.{OutOfMemory};
 ghost use Rattle.sc_json_text.specs.rows.Shapes.{fields, pair_json, variant_name};
 
 use crate::errors::RowError;
@@ -209,7 +208,6 @@ fn six_next<
 fn members_of(json: &Json) -> Result<Iter<String, Json>, RowError>
     ensures finds { (ms : Members) → view json.now ≡ object ms → IsOk result }
     ensures exact { IfOk result (λ members. view json.now ≡ object (members_view members)) }
-    ensures none { result ≡ Err OutOfMemory → ⊥ }
 {
     match json {
         Json::Object(members) => Ok(members.iter()),
@@ -222,7 +220,6 @@ fn at_end<T: Drop>(members: &mut Iter<String, Json>, value: T) -> Result<T, RowE
     ensures finds { members_view members.old ≡ no_members → result ≡ Ok value }
     ensures exact { IfOk result (λ found. (found ≡ value)
         × (members_view members.old ≡ no_members)) }
-    ensures none { result ≡ Err OutOfMemory → ⊥ }
 {
     match members.next() {
         Some(_) => Err(RowError::NoRow),
@@ -522,7 +519,6 @@ fn first_of<'a, T: FromJson + Drop>(
 fn items_in(json: &Json) -> Result<&[Json], RowError>
     ensures finds { (ds : Items) → view json.now ≡ array ds → IsOk result }
     ensures exact { IfOk result (λ items. view json.now ≡ array (items_view items.now)) }
-    ensures none { result ≡ Err OutOfMemory → ⊥ }
 {
     match json.as_array() {
         Some(list) => Ok(list.as_slice()),
@@ -534,7 +530,6 @@ fn items_in(json: &Json) -> Result<&[Json], RowError>
 fn no_more<T: Drop>(items: &[Json], value: T) -> Result<T, RowError>
     ensures finds { items_view items.now ≡ no_items → result ≡ Ok value }
     ensures exact { IfOk result (λ found. (found ≡ value) × (items_view items.now ≡ no_items)) }
-    ensures none { result ≡ Err OutOfMemory → ⊥ }
 {
     match items.split_first() {
         Some(_) => Err(RowError::NoRow),
@@ -606,7 +601,6 @@ pub fn variant_parts(json: &Json) -> Option<(&str, &Json)>
 pub(crate) fn word<T: Drop>(json: &Json, value: T) -> Result<T, RowError>
     ensures finds { IsWord (view json.now) → result ≡ Ok value }
     ensures exact { IfOk result (λ found. (found ≡ value) × IsWord (view json.now)) }
-    ensures none { result ≡ Err OutOfMemory → ⊥ }
 {
     if json.is_string() {
         Ok(value)

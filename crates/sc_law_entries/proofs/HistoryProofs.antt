@@ -5,7 +5,7 @@ pub mod Disjoint
 pub mod Divisions
 pub mod Elsewhere
 pub mod Ending
-pub mod Entries
+pub mod EntryMoves
 pub mod EntriesExample
 pub mod Finishing
 pub mod Found
@@ -31,5 +31,5 @@ pub mod Serving
 pub mod Shares
 pub mod Staying
 pub mod Tables
-pub mod Told
+pub mod StoreAdditions
 pub mod Lemmas

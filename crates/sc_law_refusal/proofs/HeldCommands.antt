@@ -7,7 +7,7 @@ use Rattle.sc_words.proofs.PaxosProofs.Lemmas.{Each-append}
 use Rattle.sc_words.specs.paxos.Definitions.{LeaderState, flight_at, promise_counted, kept_voters, voters_after, tallied, vote_at, counted, choice, chosen_value, names_above, must, must_without}
 use Rattle.sc_node_table.specs.Definitions.{ReplicaState, flying, queued_number, is_request_of, without_request, request_before, put_back}
 use Rattle.sc_law_entries.specs.names.Definitions.{Opt}
-use Rattle.sc_law_entries.proofs.NamesProofs.Lists.{opt_find, opt_map, opt_choice, flight_without, voters_with}
+use Rattle.sc_law_entries.proofs.NamesProofs.EachFound.{opt_find, opt_map, opt_choice, flight_without, voters_with}
 use Rattle.sc_law_walks.proofs.Lemmas.{either_way}
 
 module _ (P : Command → Type 0) where

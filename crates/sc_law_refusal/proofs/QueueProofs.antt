@@ -1,3 +1,3 @@
-pub mod Lists
+pub mod ClientCalls
 pub mod QueuedCalls
-pub mod Nodes
+pub mod NodeQueues

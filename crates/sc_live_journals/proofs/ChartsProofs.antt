@@ -1,5 +1,5 @@
 pub mod GoneDistances
-pub mod ChartSequence
-pub mod QuietPrefixes
+pub mod FollowingCharts
+pub mod LastQuietPrefixes
 pub mod LedNames
 pub mod Lemmas

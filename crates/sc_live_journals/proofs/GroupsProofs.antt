@@ -1,12 +1,12 @@
-pub mod GroupBeginnings
+pub mod WellLedBeginnings
 pub mod PlayersAtBirth
-pub mod QuietLeaders
-pub mod PrepareSlots
+pub mod LeadersAtRest
+pub mod DatedMarks
 pub mod JournalEvents
 pub mod IdleLeaderRows
 pub mod ReplicaInvariants
 pub mod LeaderEvents
-pub mod LearntEntries
+pub mod LearningReplicas
 pub mod NodeMail
 pub mod IdleEvents
 pub mod QuietGroups
@@ -16,7 +16,7 @@ pub mod SlotLists
 pub mod SlotNodes
 pub mod SlotParts
 pub mod SlotRows
-pub mod EntryLearners
-pub mod WholeJournals
-pub mod GreatestBallots
+pub mod TaughtGroups
+pub mod WellLedJournals
+pub mod OwnGreatestBallots
 pub mod Lemmas

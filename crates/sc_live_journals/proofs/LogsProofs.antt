@@ -1,13 +1,13 @@
 pub mod ReplicasAlongLogs
 pub mod FirstMembers
-pub mod LogChildren
+pub mod LoggedChildren
 pub mod NodeNumbers
 pub mod EntryNodes
 pub mod CountedMajorities
-pub mod Journals
-pub mod Laws
+pub mod JournalPrefixes
+pub mod LawsOfLogs
 pub mod NamedNodes
-pub mod Nodes
+pub mod NodesInGroups
 pub mod Views
 pub mod CombinedLaws
 pub mod Lemmas

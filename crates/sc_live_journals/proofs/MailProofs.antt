@@ -3,7 +3,7 @@ pub mod BoundsInJournals
 pub mod BoundsInLists
 pub mod BoundsInRows
 pub mod RisingReplicas
-pub mod Journals
+pub mod WalkedJournals
 pub mod LastingReplicas
 pub mod EndedGroups
 pub mod MailSenders

@@ -1,11 +1,11 @@
 pub mod StillReplicas
 pub mod NonPaxosMail
-pub mod GroupBeginnings
+pub mod ScenarioGroups
 pub mod Elections
 pub mod EvenGroups
-pub mod UnmarkedMail
+pub mod MailWithoutMarks
 pub mod FollowingRows
-pub mod LeaderRows
+pub mod LeadersInGroups
 pub mod LearntEntries
 pub mod OwnGroupMail
 pub mod GroupNamesInRows
@@ -14,7 +14,7 @@ pub mod MailRows
 pub mod SilentMail
 pub mod UnmovedLeaders
 pub mod ReplicaSteps
-pub mod WholeJournals
+pub mod FollowingJournals
 pub mod PlayerRows
 pub mod ReplicaViews
 pub mod Players

@@ -7,13 +7,13 @@ pub mod UntouchedGroups
 pub mod CreatedReplicas
 pub mod OrderRows
 pub mod UntakenMail
-pub mod NewestReplicas
+pub mod NewestLeaders
 pub mod UnrelatedRows
 pub mod QuietJournals
 pub mod GroupParts
-pub mod ErrandReceivers
-pub mod MailReceivers
-pub mod PlayerRows
+pub mod ErrandLeaders
+pub mod SceneReceivers
+pub mod SceneRows
 pub mod UntouchedBySteps
 pub mod SceneViews
 pub mod Lemmas

@@ -1,4 +1,4 @@
 pub mod OrderEntryVotes
 pub mod EntryMembers
-pub mod LoneEntries
+pub mod CoordinatorQuestions
 pub mod Lemmas

@@ -5,7 +5,7 @@ pub mod ErrandTables
 pub mod QuietStages
 pub mod NamedValues
 pub mod PartyChanges
-pub mod Pumps
+pub mod LoneWorkPumps
 pub mod QuestionRows
 pub mod OrderIntake
 pub mod WorkStages
@@ -14,6 +14,6 @@ pub mod VoteRecords
 pub mod SentErrands
 pub mod OrderTables
 pub mod LoneEntries
-pub mod CountedVotes
+pub mod LoneVotes
 pub mod IdleRows
 pub mod Lemmas

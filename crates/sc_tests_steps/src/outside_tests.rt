@@ -50,7 +50,20 @@ fn only(rt: &impl Abort, mails: Sequence<Mail>) -> Input<Mail, OrderLine> {
     let mut all = mails.into_vec();
     let first = all.pop().expect(rt, "a mail");
     assert!(rt; all.is_empty());
+    forget(all);
     Input::Got(first)
+}
+
+// Hands a mail to the node, and returns the one mail that the node sends then.
+fn handed_on(
+    rt: &impl Abort,
+    alloc: Global,
+    node: &mut NodeCore,
+    mail: Input<Mail, OrderLine>,
+) -> Input<Mail, OrderLine> {
+    let sent = node.step(alloc, &mail).expect(rt, "memory");
+    forget(mail);
+    only(rt, sent)
 }
 
 // Returns whether the client's request is answered. Between the request and its answer are the
@@ -62,11 +75,14 @@ fn is_answered(
     client: &mut ClientCore,
 ) -> bool {
     let request = only(rt, client.step(alloc, &Input::Go).expect(rt, "memory"));
-    let accept = only(rt, node.step(alloc, &request).expect(rt, "memory"));
-    let accepted = only(rt, node.step(alloc, &accept).expect(rt, "memory"));
-    let answer = only(rt, node.step(alloc, &accepted).expect(rt, "memory"));
+    let accept = handed_on(rt, alloc, node, request);
+    let accepted = handed_on(rt, alloc, node, accept);
+    let answer = handed_on(rt, alloc, node, accepted);
     let left = client.step(alloc, &answer).expect(rt, "memory");
-    left.len() == 0 && client.replies().len() == 1
+    let is_last = left.len() == 0;
+    forget(answer);
+    forget(left);
+    is_last && client.replies().len() == 1
 }
 
 #[test]

@@ -1,5 +1,5 @@
 //! What is counted for the summary of a journal.
-ghost use Rattle.std.specs.Prelude.{◌≡◌, ◌<◌, ◌≤◌, ◌^◌, ◌++◌, [], map, length, count_by, IfOk, IsOk, OnOk, slice_get};
+ghost use Rattle.std.specs.Prelude.{◌≡◌, ◌<◌, ◌≤◌, ◌^◌, ◌++◌, map, length, count_by, IfOk, OnOk, slice_get};
 ghost use Rattle.std.specs.List.{flat_map};
 ghost use Rattle.sc_actor.specs.Mail.{is_delivery, mails};
 ghost use Rattle.sc_base.specs.Limits.{most_requests};
@@ -67,8 +67,7 @@ fn add_party(alloc: Global, asked: &mut Sequence<Asked>, party: &Party) -> Resul
 
 /// Returns the requests of all clients, each with how far it came. The only error is out of memory.
 pub(crate) fn all_asked(alloc: Global, parties: &[Party]) -> Result<Sequence<Asked>, OutOfMemory>
-    ensures asked { IfOk result (λ asked. asked ≡ flat_map asked_by parties.now) }
-    ensures none { parties.now ≡ [] → IsOk result }
+    ensures { IfOk result (λ asked. asked ≡ flat_map asked_by parties.now) }
 {
     let mut asked = Sequence::new(alloc);
     for party in parties {
@@ -117,8 +116,7 @@ pub(crate) fn parties_of(
     alloc: Global,
     seats: Vec<Seat<Party>>,
 ) -> Result<Sequence<Party>, OutOfMemory>
-    ensures parties { IfOk result (λ parties. parties ≡ map (λ seat. seat.actor) seats.items) }
-    ensures none { seats.items ≡ [] → IsOk result }
+    ensures { IfOk result (λ parties. parties ≡ map (λ seat. seat.actor) seats.items) }
 {
     let mut parties = Sequence::new(alloc);
     for seat in seats {

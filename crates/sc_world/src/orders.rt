@@ -1,5 +1,5 @@
 //! What the rows of a journal report of the orders.
-ghost use Rattle.std.specs.Prelude.{◌≡◌, ℕ, ◌+◌, ◌<◌, ◌==◌, length, get_or, replicate, count_by, if◌then◌else◌, Some, None, IfOk, IsOk};
+ghost use Rattle.std.specs.Prelude.{◌≡◌, ℕ, ◌+◌, ◌<◌, ◌==◌, length, get_or, replicate, count_by, if◌then◌else◌, Some, None, IfOk};
 ghost use Rattle.sc_actor.specs.Mail.{mails};
 ghost use Rattle.sc_node_table.specs.Replica.{either};
 ghost use Rattle.sc_world.specs.Summary.{is_order, reported_in_mail, reported_of, reported_orders};
@@ -75,8 +75,7 @@ fn note_rows(told: &mut [Option<OrderResult>], rows: &[Row<Mail, OrderLine>])
 
 // Returns a list of `count` orders without a result.
 fn unreported(alloc: Global, count: usize) -> Result<Vec<Option<OrderResult>>, OutOfMemory>
-    ensures told { IfOk result (λ told. told.items ≡ replicate count None) }
-    ensures none { count ≡ 0 → IsOk result }
+    ensures { IfOk result (λ told. told.items ≡ replicate count None) }
 {
     let mut told = Vec::new(alloc);
     for _number in 0..count {
@@ -86,14 +85,13 @@ fn unreported(alloc: Global, count: usize) -> Result<Vec<Option<OrderResult>>, O
 }
 
 /// Returns the result of each order, from 1 to `count`: that of the first mail which reports one.
-/// The only error is out of memory, where there is an order.
+/// The only error is out of memory.
 pub(crate) fn reported_orders(
     alloc: Global,
     count: usize,
     rows: &[Row<Mail, OrderLine>],
 ) -> Result<Sequence<Option<OrderResult>>, OutOfMemory>
-    ensures told { IfOk result (λ told. told ≡ reported_orders count (mails rows.now)) }
-    ensures none { count ≡ 0 → IsOk result }
+    ensures { IfOk result (λ told. told ≡ reported_orders count (mails rows.now)) }
 {
     let mut told = unreported(alloc, count)?;
     note_rows(&mut told, rows);

@@ -1,5 +1,5 @@
 //! Whether a history is legal: it is replayed on one map.
-ghost use Rattle.std.specs.Prelude.{◌≡◌, ◌↔◌, ◌<◌, [], IsTrue, IfOk, IsOk, All, AllPairs};
+ghost use Rattle.std.specs.Prelude.{◌≡◌, ◌↔◌, ◌<◌, IsTrue, IfOk, All, AllPairs};
 ghost use Rattle.std.specs.FinMap.{empty};
 ghost use Rattle.sc_words.specs.ideal.History.{HasStoreReplies, AreApart, Legal};
 
@@ -10,8 +10,7 @@ use std::alloc::Global;
 
 // Returns whether each entry has the reply that the map gives after the entries before it.
 fn has_store_replies(alloc: Global, entries: &[Entry]) -> Result<bool, OutOfMemory>
-    ensures has { IfOk result (λ has. IsTrue has ↔ HasStoreReplies empty entries.now) }
-    ensures none { entries.now ≡ [] → IsOk result }
+    ensures { IfOk result (λ has. IsTrue has ↔ HasStoreReplies empty entries.now) }
 {
     let mut store = Store::new(alloc);
     for entry in entries {
@@ -51,8 +50,7 @@ fn is_once(entries: &[Entry]) -> bool
 /// replies, and no client's number occurs twice (the sequential object of linearizability: Herlihy
 /// and Wing, 1990). The only error is out of memory.
 pub fn legal(alloc: Global, entries: &[Entry]) -> Result<bool, OutOfMemory>
-    ensures legal { IfOk result (λ is_legal. IsTrue is_legal ↔ Legal entries.now) }
-    ensures none { entries.now ≡ [] → IsOk result }
+    ensures { IfOk result (λ is_legal. IsTrue is_legal ↔ Legal entries.now) }
 {
     let replayed = has_store_replies(alloc, entries)?;
     Ok(replayed && is_once(entries))

@@ -1,36 +1,29 @@
 -- Facts are plain JSON, so they have no floats.
-use Rattle.std.proofs.Common.{◌≡◌, ℕ, ◌^◌, ◌<◌, false, List, [], ◌∷◌, Option, Some, None, refl, codes}
-use Rattle.serde_json.specs.Data.{Data}
+use Rattle.std.proofs.Common.{◌≡◌, ℕ, ◌^◌, ◌<◌, false, List, [], ◌∷◌, refl, codes}
 use Rattle.serde_json.specs.Written.{has_float}
 use Rattle.sc_base.specs.Among.{Each}
 use Rattle.sc_base.specs.declared.names.Draw.{Draw}
 use Rattle.sc_words.specs.declared.commands.effects.Effect.{Effect}
 use Rattle.sc_words.specs.declared.commands.effects.Effect.TheVariants as TheEffect
-use Rattle.sc_words.specs.declared.ideal.Entry.{Entry}
 use Rattle.sc_meaning.specs.declared.entries.Cut.{Cut}
-use Rattle.sc_meaning.specs.declared.entries.LogEntry.{LogEntry}
 use Rattle.sc_json_text.specs.plain.Plain.{IsPlain}
 use Rattle.sc_json_text.proofs.PlainProofs.ReadBack.{plain_has_no_float}
-use Rattle.sc_json_text.specs.rows.Commands.{FitsCommand}
-use Rattle.sc_json_text.specs.rows.Held.{FitsArc, FitsMembers, FitsU16, FitsU32, FitsU64, OptionFits}
+use Rattle.sc_json_text.specs.rows.Held.{FitsArc, FitsMembers, OptionFits}
 use Rattle.sc_json_text.specs.rows.Names.{draw_json, FitsDraw}
-use Rattle.sc_json_text.specs.rows.Ops.{FitsOp, FitsReply}
-use Rattle.sc_json_text.specs.rows.Shapes.{fields, list_json, number_json, option_json}
-use Rattle.sc_json_text.proofs.RowsProofs.CommandsPlain.{command_plain}
+use Rattle.sc_json_text.specs.rows.Shapes.{fields, list_json, number_json}
 use Rattle.sc_json_text.proofs.RowsProofs.LinksPlain.{link_plain, route_plain}
 use Rattle.sc_json_text.proofs.RowsProofs.NamesPlain.{draw_plain}
-use Rattle.sc_json_text.proofs.RowsProofs.OpsPlain.{op_plain, reply_plain}
+use Rattle.sc_json_text.proofs.RowsProofs.OpsPlain.{reply_plain}
 use Rattle.sc_json_text.proofs.RowsProofs.OrdersPlain.{order_refusal_plain}
 use Rattle.sc_json_text.proofs.RowsProofs.OutcomesPlain.{outcome_plain}
 use Rattle.sc_json_text.proofs.RowsProofs.SetsPlain.{arc_plain, nodes_plain}
-use Rattle.sc_json_text.proofs.RowsProofs.ShapesPlain.{list_plain, option_plain, u16_plain, u32_plain}
+use Rattle.sc_json_text.proofs.RowsProofs.ShapesPlain.{list_plain, option_plain, u32_plain}
 use Rattle.sc_json_text.proofs.RowsProofs.VotesPlain.{past_plain}
 use Rattle.sc_explain.specs.facts.Effects.{effect_json, FitsEffect}
-use Rattle.sc_explain.specs.facts.Facts.{birth_json, cut_json, entry_json, history_json, hold_json, record_json, ring_group_json, FitsCut, FitsHold}
+use Rattle.sc_explain.specs.facts.Facts.{birth_json, cut_json, hold_json, record_json, FitsCut, FitsHold}
 use Rattle.sc_explain.specs.declared.facts.facts.GroupRecord.{GroupRecord}
 use Rattle.sc_explain.specs.declared.facts.facts.Hold.{Hold}
 use Rattle.sc_explain.specs.declared.facts.facts.Hold.TheVariants as TheHold
-use Rattle.sc_explain.specs.declared.facts.facts.RingGroup.{RingGroup}
 
 effect_plain : (effect : Effect) → FitsEffect effect → IsPlain 20 (effect_json effect)
 unfolding effect_json FitsEffect

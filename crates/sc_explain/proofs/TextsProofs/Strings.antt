@@ -1,10 +1,7 @@
 -- What stands in a JSON string for visible bytes.
-use Rattle.std.proofs.Common.{◌≡◌, ℕ, zero, suc, ◌+◌, ◌<◌, ◌≤◌, ◌==◌, ◌&&◌, ◌⊎◌, inl, inr, true, false, nat_le, List, [], ◌∷◌, ◌++◌, length, get_or, take, refl, sym, subst, ◌∙◌, ap, append-nil, append_assoc, arith}
-use Rattle.std.specs.List.{list_all}
-use Rattle.std.proofs.Math.Seq.{take-suc}
+use Rattle.std.proofs.Common.{◌≡◌, ℕ, ◌≤◌, ◌==◌, ◌&&◌, ◌⊎◌, inl, inr, true, false, nat_le, List, [], ◌∷◌, ◌++◌, length, take, refl, sym, subst, ◌∙◌, ap, append-nil, append_assoc, arith}
 use Rattle.std.proofs.lemmas.Bool.{and_parts, ne_eqb}
 use Rattle.std.proofs.lemmas.Bool.Decides.{nat_tests}
-use Rattle.std.proofs.lemmas.Grind.{flat_map-append}
 use Rattle.std.proofs.lemmas.List.{take_all}
 use Rattle.json.specs.Print.{escape_byte, escape, quoted}
 use Rattle.sc_base.specs.Text.{is_visible}
@@ -29,22 +26,6 @@ bare_byte byte visible quote slash =
 pub plain_byte : (byte : ℕ) → is_visible byte ≡ true → (byte ≡ 34 → ⊥) → (byte ≡ 92 → ⊥) → escape_byte byte ≡ byte ∷ []
 plain_byte byte visible quote slash =
     sym (append-nil (escape_byte byte)) ∙ bare_escape (byte ∷ []) (ap (λ b. b && true) (bare_byte byte visible quote slash))
-
--- each byte of visible ones is visible
-pub visible_at : (bytes : List ℕ) (i byte : ℕ) → list_all is_visible bytes ≡ true → i < length bytes → byte ≡ get_or bytes i byte → is_visible byte ≡ true
-visible_at [] i byte all lt is = absurd (omega (arith, lt))
-visible_at (b ∷ bytes) zero byte all lt is = ap is_visible is ∙ (and_parts (is_visible b) (list_all is_visible bytes) all).0
-visible_at (b ∷ bytes) (suc i) byte all lt is = visible_at bytes i byte (and_parts (is_visible b) (list_all is_visible bytes) all).1 (omega (arith, lt)) is
-
--- with one byte more
-pub escape_next : (bytes : List ℕ) (i byte : ℕ) (old before : List ℕ) → i < length bytes → byte ≡ get_or bytes i byte → before ≡ old ++ escape (take i bytes)
-    → before ++ escape_byte byte ≡ old ++ escape (take (i + 1) bytes)
-escape_next bytes i byte old before lt is so_far =
-    let one : i + 1 ≡ suc i = omega arith in
-    let prefix : take (i + 1) bytes ≡ take i bytes ++ byte ∷ [] = ap (λ (n : ℕ). take n bytes) one ∙ take-suc bytes i byte lt ∙ ap (λ (b : ℕ). take i bytes ++ b ∷ []) (sym is) in
-    let more : escape (take (i + 1) bytes) ≡ escape (take i bytes) ++ escape_byte byte =
-    ap escape prefix ∙ flat_map-append escape_byte (take i bytes) (byte ∷ []) ∙ ap (λ t. escape (take i bytes) ++ t) (append-nil (escape_byte byte)) in
-    ap (λ t. t ++ escape_byte byte) so_far ∙ append_assoc old (escape (take i bytes)) (escape_byte byte) ∙ ap (λ t. old ++ t) (sym more)
 
 -- all bytes, between two quotes
 pub escape_end : (bytes : List ℕ) (i : ℕ) (old first before after : List ℕ) → length bytes ≤ i → first ≡ old ++ 34 ∷ [] → before ≡ first ++ escape (take i bytes) → after ≡ before ++ 34 ∷ []

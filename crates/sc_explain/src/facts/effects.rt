@@ -72,7 +72,7 @@ fn by_json(alloc: Global, text: &mut Vec<u8>, effect: &Effect) -> Result<(), Out
     add_json(alloc, text, &json)
 }
 
-// Appends an effect to a text: that a request was carried out piece by piece, any other by its JSON.
+// Appends an effect: that of a request that is carried out piece by piece, any other by its JSON.
 fn add_known(alloc: Global, text: &mut Vec<u8>, effect: &Effect) -> Result<(), OutOfMemory>
     ensures { OnOk result (text.new.items ≡
         text.old.items ++ compact_text (effect_json effect.now)) }

@@ -19,7 +19,7 @@ use Rattle.sc_group_table.proofs.MachineProofs.Lemmas.{clients_again}
 use Rattle.sc_meaning.specs.declared.entries.Cut.{Cut}
 use Rattle.sc_meaning.specs.entries.Definitions.{Covers, first_cut, StoreWorld, first_world, told, with_result, world_after, world_of}
 use Rattle.sc_law_entries.specs.history.Definitions.{ExampleOfEntries, answers_with, example_log, get_a, get_entry, lone_base, offspring, put_a, put_entry, split_entry, two_requests, AllMayBeApplied, MayBeTold, MayCall, MaySplit, BeginBare, BeginsBare}
-use Rattle.sc_law_entries.proofs.HistoryProofs.Entries.{entries_report}
+use Rattle.sc_law_entries.proofs.HistoryProofs.EntryMoves.{entries_report}
 
 -- ---- the start
 

@@ -9,7 +9,7 @@ use Rattle.sc_law_entries.specs.history.Definitions.{Holding, Holdings, RequestO
 use Rattle.sc_law_entries.proofs.HistoryProofs.Disjoint.{IsGood, SharesOut, shared_disjoint, shared_told}
 use Rattle.sc_law_entries.proofs.HistoryProofs.Shares.{divided, joined_up, given, taken}
 use Rattle.sc_law_entries.proofs.HistoryProofs.Serving.{served_kept}
-use Rattle.sc_law_entries.proofs.HistoryProofs.Told.{entry_later}
+use Rattle.sc_law_entries.proofs.HistoryProofs.StoreAdditions.{entry_later}
 use Rattle.std.proofs.lemmas.Option.{none-some}
 use Rattle.sc_meaning.proofs.EntriesProofs.Lemmas.{part_of_nothing as empty_part}
 

@@ -23,7 +23,7 @@ use Rattle.sc_law_entries.proofs.HistoryProofs.Logs.{OnlyMembers, ordered_either
 use Rattle.sc_law_entries.proofs.HistoryProofs.MovesKept.{move_kept, same_told}
 use Rattle.sc_law_entries.proofs.HistoryProofs.Quiet.{no_birth, same_transactions, same_ring}
 use Rattle.sc_law_entries.proofs.HistoryProofs.Requests.{TakesEffect, request_cases}
-use Rattle.sc_law_entries.proofs.HistoryProofs.Told.{entry_later}
+use Rattle.sc_law_entries.proofs.HistoryProofs.StoreAdditions.{entry_later}
 use Rattle.sc_meaning.proofs.EntriesProofs.Lemmas.{draw_cases}
 
 -- ---- without transactions the effective record is the group's own

@@ -18,7 +18,7 @@ use Rattle.sc_law_entries.specs.history.Definitions.{Holding, Holdings, RequestO
 use Rattle.sc_law_entries.proofs.HistoryProofs.Disjoint.{holding_here, holding_there}
 use Rattle.sc_law_entries.proofs.HistoryProofs.Holdings.{IsOnRing}
 use Rattle.sc_law_entries.proofs.HistoryProofs.Kept.{IsApart, all_pairs, apart_push}
-use Rattle.sc_law_entries.proofs.HistoryProofs.Told.{replay_push, after_push, entry_later}
+use Rattle.sc_law_entries.proofs.HistoryProofs.StoreAdditions.{replay_push, after_push, entry_later}
 use Rattle.sc_meaning.proofs.EntriesProofs.Lemmas.{draw_cases}
 use Rattle.sc_words.proofs.PaxosProofs.Lemmas.{Each-from_All}
 use Rattle.sc_base.proofs.Lemmas.{AllPairs-head, AllPairs-tail}

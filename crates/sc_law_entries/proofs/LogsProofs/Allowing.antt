@@ -13,9 +13,9 @@ use Rattle.sc_law_entries.specs.ring.Definitions.{Sources, IsAllowed, AreAllowed
 use Rattle.sc_law_entries.proofs.RingProofs.Lemmas.{allowed_entries_stay_allowed, entries_keep_the_promises, store_after}
 use Rattle.sc_meaning.specs.sound.Definitions.{entries_by_rows, entries_at}
 use Rattle.sc_law_entries.specs.logs.Definitions.{MakesAllowed, AllowedStaysAllowed, PrefixesAllow, StatesAllow}
-use Rattle.sc_law_entries.proofs.LogsProofs.Births.{recorded_append}
+use Rattle.sc_law_entries.proofs.LogsProofs.BirthsInLogs.{recorded_append}
 use Rattle.sc_law_entries.proofs.LogsProofs.Generations.{group_found}
-use Rattle.sc_law_entries.proofs.LogsProofs.Parts.{entries_parts}
+use Rattle.sc_law_entries.proofs.LogsProofs.RowsInTwoParts.{entries_parts}
 use Rattle.sc_law_entries.proofs.LogsProofs.Findings.{deciding_rows}
 
 -- entries that are allowed one after another, in two parts

@@ -16,10 +16,10 @@ use Rattle.sc_law_entries.proofs.HistoryProofs.Lemmas.{prefixes_answer}
 use Rattle.sc_law_entries.specs.ring.Definitions.{Sources, BeginInPlace}
 use Rattle.sc_law_entries.specs.logs.Definitions.{AllowedEntriesMakeOneMap, Rows, IsFound, DecidesInTurn, DecideInTurn, AreFound, AreOldOrNew, AreItsLogs, MakeOneMapWithNotes, GroupsAreFound, GroupsAreOldOrNew, EntriesAreLogs, EntriesAreAllowed, EntriesMakeOneMap}
 use Rattle.sc_law_entries.proofs.LogsProofs.OneGroup.{for_one}
-use Rattle.sc_law_entries.proofs.LogsProofs.Children.{children_append, log_append, log_of_others}
+use Rattle.sc_law_entries.proofs.LogsProofs.ChildrenInLogs.{children_append, log_append, log_of_others}
 use Rattle.sc_law_entries.proofs.LogsProofs.Generations.{FoundInTurn, group_found, found_group, known_by_name, no_birth_at, no_log_at, no_state_at, birth_found}
-use Rattle.sc_law_entries.proofs.LogsProofs.Births.{none_there}
-use Rattle.sc_law_entries.proofs.LogsProofs.Told.{Told, first_rows, state_there}
+use Rattle.sc_law_entries.proofs.LogsProofs.BirthsInLogs.{none_there}
+use Rattle.sc_law_entries.proofs.LogsProofs.FactsInTurn.{Told, first_rows, state_there}
 use Rattle.sc_law_entries.proofs.LogsProofs.Pushes.{found_next, new_name, push_told}
 use Rattle.sc_law_entries.proofs.RingProofs.Lemmas.{some_none}
 

@@ -20,8 +20,8 @@ use Rattle.sc_group_table.specs.machine.Definitions.{group_of}
 use Rattle.sc_law_entries.specs.ring.Definitions.{Sources, IsAllowed, stories_of}
 use Rattle.sc_law_entries.proofs.RingProofs.Lemmas.{Pairwise}
 use Rattle.sc_law_entries.specs.logs.Definitions.{Rows, Descends, IsFound, added_by, newborn_by, IsFoundByName}
-use Rattle.sc_law_entries.proofs.LogsProofs.Lists.{HaveTwoNames, find_base, find_no_base, births_from, births_still, births_named, births_apart}
-use Rattle.sc_law_entries.proofs.LogsProofs.Children.{children_append}
+use Rattle.sc_law_entries.proofs.LogsProofs.BirthRecords.{HaveTwoNames, find_base, find_no_base, births_from, births_still, births_named, births_apart}
+use Rattle.sc_law_entries.proofs.LogsProofs.ChildrenInLogs.{children_append}
 
 -- two groups that are found under one name are one
 abbrev pub AreOne : Ahead → List Base → Rows → Type 0

@@ -15,9 +15,9 @@ use Rattle.sc_meaning.specs.entries.Definitions.{StoreWorld}
 use Rattle.sc_law_entries.specs.ring.Definitions.{Sources, BeginInPlace}
 use Rattle.sc_law_entries.specs.logs.Definitions.{Rows, IsFound, added_by, DecidesInTurn, DecideInTurn, HistoryIsDecided, DecidingRowsStay}
 use Rattle.sc_law_entries.proofs.LogsProofs.Generations.{log_on, still_descends, group_found, found_group, known_by_name}
-use Rattle.sc_law_entries.proofs.LogsProofs.Told.{Told, first_rows, Decides}
+use Rattle.sc_law_entries.proofs.LogsProofs.FactsInTurn.{Told, first_rows, Decides}
 use Rattle.sc_law_entries.proofs.LogsProofs.Pushes.{d, world_next}
-use Rattle.sc_law_entries.proofs.LogsProofs.Parts.{in_turn_parts, entries_parts, told_stays, get_prefix, get_behind}
+use Rattle.sc_law_entries.proofs.LogsProofs.RowsInTwoParts.{in_turn_parts, entries_parts, told_stays, get_prefix, get_behind}
 use Rattle.sc_law_entries.proofs.LogsProofs.Findings.{found_turn, push_turn, deciding_rows}
 
 -- ---- with more rows

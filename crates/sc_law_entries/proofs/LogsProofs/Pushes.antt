@@ -18,10 +18,10 @@ use Rattle.sc_law_entries.specs.ring.Definitions.{Sources, AreAllowed, first_rec
 use Rattle.sc_law_entries.proofs.RingProofs.Lemmas.{allowed_lists_append, some_none}
 use Rattle.sc_meaning.proofs.SoundProofs.Lemmas.{entries-push, world-push}
 use Rattle.sc_law_entries.specs.logs.Definitions.{Rows, IsFound, added_by}
-use Rattle.sc_law_entries.proofs.LogsProofs.Lists.{flat_map_none, flat_map_one}
-use Rattle.sc_law_entries.proofs.LogsProofs.Children.{log_append, log_of_others, log_of_own, entries_of}
+use Rattle.sc_law_entries.proofs.LogsProofs.BirthRecords.{flat_map_none, flat_map_one}
+use Rattle.sc_law_entries.proofs.LogsProofs.ChildrenInLogs.{log_append, log_of_others, log_of_own, entries_of}
 use Rattle.sc_law_entries.proofs.LogsProofs.Generations.{FoundInTurn, AreOne, AreNear, log_on, still_descends, IsNamedNow, now_descends, old_or_new, near_on, group_found, groups_apart, found_group, known_by_name, no_birth_at, no_log_at}
-use Rattle.sc_law_entries.proofs.LogsProofs.Told.{IsBorn, Told, two_names, state_there, Decides, others_idle, decides}
+use Rattle.sc_law_entries.proofs.LogsProofs.FactsInTurn.{IsBorn, Told, two_names, state_there, Decides, others_idle, decides}
 
 module _ (sources : Sources) (ahead : Ahead) (bases : List Base) (start : BeginInPlace sources bases) (before : Rows) (k : Told sources ahead bases before) (row : Row Mail OrderLine) (turn : FoundInTurn sources ahead bases before row) where
   abbrev next : Rows

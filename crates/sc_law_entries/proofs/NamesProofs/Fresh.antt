@@ -16,12 +16,12 @@ use Rattle.sc_scenario.specs.declared.scenario.scenarios.Asks.{Asks}
 use Rattle.sc_scenario.specs.declared.scenario.scenarios.Scenario.{Scenario}
 use Rattle.sc_law_entries.specs.names.Definitions.{Rows, Owned, drawn_ticking, drawn_at, owner_in, IsUsed, BeginsUndrawn, AllNames, AllDecided, NamesAreDrawn, DrawnNamesAreNew, Opt, LockNames, OutcomeNames, PastNames, CoreNames, MailNames, ReplicaNames, NodeNames, ClientNames, PlayerNames}
 use Rattle.sc_law_entries.proofs.NamesProofs.Counters.{drawn_are_owned, fresh_at}
-use Rattle.sc_law_entries.proofs.NamesProofs.Lists.{opt_get}
+use Rattle.sc_law_entries.proofs.NamesProofs.EachFound.{opt_get}
 use Rattle.sc_law_entries.proofs.NamesProofs.Machine.{Each-map}
 use Rattle.sc_law_entries.proofs.NamesProofs.Sent.{Sent}
-use Rattle.sc_law_entries.proofs.NamesProofs.Held.{born_names}
+use Rattle.sc_law_entries.proofs.NamesProofs.HeldNames.{born_names}
 use Rattle.sc_law_entries.proofs.NamesProofs.Ordered.{it_ticks, it_is_owned}
-use Rattle.sc_law_entries.proofs.NamesProofs.Logs.{decided_names}
+use Rattle.sc_law_entries.proofs.NamesProofs.LoggedNames.{decided_names}
 use Rattle.sc_law_entries.proofs.NamesProofs.Owned.{owned_later}
 use Rattle.sc_law_entries.proofs.NamesProofs.Playing.{Brings, node_names, client_names}
 

@@ -15,11 +15,11 @@ use Rattle.sc_mail.specs.declared.bodies.AnswerBody.TheVariants as Answers
 use Rattle.sc_node_table.specs.Definitions.{NodeState, replica_of, with_replica, is_before, with_new, group_of_mail, absent, with_made, unknown, may_come, with_born, with_children, taken_by, routed, on_mail, group_of_order, ordered_of, ticked, node_table, takes_name, untaken, ordered_row, names_after_tick, ReplicaState, Place, Executed, name_of, born_replica, last_slot, tick_row, made_by, mailed, slots_ahead}
 use Rattle.sc_words.proofs.PaxosProofs.Lemmas.{Each-append}
 use Rattle.sc_law_entries.specs.names.Definitions.{Opt, CoreNames, AnswerNames, BodiesNames, MailNames, ReplicaNames, NodeNames, ClientNames, Owned, waited, wished_at, drawn_wishing, drawn_ticking}
-use Rattle.sc_law_entries.proofs.NamesProofs.Lists.{opt_find, opt_map}
+use Rattle.sc_law_entries.proofs.NamesProofs.EachFound.{opt_find, opt_map}
 use Rattle.sc_law_walks.proofs.Lemmas.{either_way}
 use Rattle.sc_law_entries.proofs.NamesProofs.Sent.{Sent, sent_names}
-use Rattle.sc_law_entries.proofs.NamesProofs.Held.{Fine, born_names}
-use Rattle.sc_law_entries.proofs.NamesProofs.Stepping.{Kids, made_names, tick_names, mailed_names, mailed_kids, ordered_row_names, order_names}
+use Rattle.sc_law_entries.proofs.NamesProofs.HeldNames.{Fine, born_names}
+use Rattle.sc_law_entries.proofs.NamesProofs.NamesInRows.{Kids, made_names, tick_names, mailed_names, mailed_kids, ordered_row_names, order_names}
 
 module _ (K : Draw → Type 0) where
   abbrev Rs : List ReplicaState → Type 0

@@ -6,9 +6,9 @@ use Rattle.sc_words.proofs.PaxosProofs.Lemmas.{Each-append}
 use Rattle.sc_words.specs.paxos.Definitions.{AcceptorState, LeaderState, flight_at, promise_counted, entry_at, kept_voters, voters_after, tallied, vote_at, counted}
 use Rattle.sc_node_table.specs.Definitions.{with_slot, ReplicaState}
 use Rattle.sc_law_entries.specs.names.Definitions.{Opt, CommandNames, ReportsNames}
-use Rattle.sc_law_entries.proofs.NamesProofs.Lists.{Flights, opt_find, opt_get, slot_with, flight_without, voters_with}
+use Rattle.sc_law_entries.proofs.NamesProofs.EachFound.{Flights, opt_find, opt_get, slot_with, flight_without, voters_with}
 use Rattle.sc_law_walks.proofs.Lemmas.{either_way}
-use Rattle.sc_law_entries.proofs.NamesProofs.Held.{Cmd, R}
+use Rattle.sc_law_entries.proofs.NamesProofs.HeldNames.{Cmd, R}
 
 module _ (K : Draw → Type 0) where
   pub with_acceptor : (r : ReplicaState) (acceptor : AcceptorState Command) → ReportsNames K acceptor.accepted → R K r → R K (record r { acceptor = acceptor })

@@ -33,11 +33,11 @@ use Rattle.sc_law_entries.proofs.RingProofs.View.{Ring}
 use Rattle.sc_law_entries.proofs.RingProofs.Cover.{at-same, at-other}
 use Rattle.sc_law_entries.proofs.RingProofs.Ends.{own_story, same_lock, hear_facts, IsDecision, decide_facts, born_facts}
 use Rattle.sc_law_entries.proofs.RingProofs.Effects.{decisions, eff, arc_of, succ_of, pred_of, pairs_of, Good, Like, like_abort, like_at, whole_change, eff_by, living_is}
-use Rattle.sc_law_entries.proofs.RingProofs.Commits.{ring_cut, ring_out, IsDeciding, own_is, New}
+use Rattle.sc_law_entries.proofs.RingProofs.CommittedViews.{ring_cut, ring_out, IsDeciding, own_is, New}
 use Rattle.sc_law_entries.proofs.RingProofs.Reshapes.{Ends, merge_closing, merge_watched}
 use Rattle.sc_law_entries.proofs.RingProofs.Moves.{cut_is, give_commit, take_commit, migrate_commit}
 use Rattle.sc_law_entries.proofs.RingProofs.Splits.{divide_commit}
-use Rattle.sc_law_entries.proofs.RingProofs.Steps.{Kept, idle_told, told_at, outcome_like}
+use Rattle.sc_law_entries.proofs.RingProofs.RequestsAndVotes.{Kept, idle_told, told_at, outcome_like}
 use Rattle.sc_law_entries.proofs.RingProofs.Finds.{some_none}
 use Rattle.sc_law_entries.proofs.RingProofs.Facts.{StayBorn}
 

@@ -19,7 +19,7 @@ use Rattle.sc_law_entries.specs.ring.Definitions.{Story, Stories, put, merge_wat
 use Rattle.sc_meaning.proofs.EntriesProofs.Lemmas.{draw_cases}
 use Rattle.sc_law_entries.proofs.RingProofs.Cover.{at-same, at-is, at-other, from_at}
 use Rattle.sc_law_entries.proofs.RingProofs.Facts.{IsOf, keep_known, keep_there, keep_voter, keep_watcher, keep_frozen, keep_none, facts_quiet, facts_told, StayBorn, StayVoted, SameDecided}
-use Rattle.sc_law_entries.proofs.RingProofs.Rows.{other_calm, no_coord}
+use Rattle.sc_law_entries.proofs.RingProofs.EntryKinds.{other_calm, no_coord}
 use Rattle.sc_law_entries.proofs.RingProofs.Finds.{some_none}
 
 pub own_story : (gs : Groups) (ys : Stories) (owner : Draw → Option Draw) (g : Draw) (s : Group) (tx : Draw) (body : Body) (order : ℕ) (heard : Option Heard) → Facts owner gs ys → gs g ≡ Some s → s.core.lock ≡ Coordinating tx body order heard → IsCoordinating ys g s tx body heard

@@ -33,11 +33,11 @@ use Rattle.sc_law_entries.specs.ring.Definitions.{Sources, IsVoteCast, IsWatchVo
 use Rattle.sc_meaning.proofs.EntriesProofs.Lemmas.{draw_cases}
 use Rattle.sc_law_entries.proofs.RingProofs.View.{Ring}
 use Rattle.sc_law_entries.proofs.RingProofs.Cover.{at-is, at-other}
-use Rattle.sc_law_entries.proofs.RingProofs.Rows.{unheard, not_passed}
+use Rattle.sc_law_entries.proofs.RingProofs.EntryKinds.{unheard, not_passed}
 use Rattle.sc_law_entries.proofs.RingProofs.Ends.{draw_new, own_story, same_lock}
-use Rattle.sc_law_entries.proofs.RingProofs.Steps.{Kept, named_cases}
-use Rattle.sc_law_entries.proofs.RingProofs.Cuts.{arcs_in}
-use Rattle.sc_law_entries.proofs.RingProofs.Told.{groups_in}
+use Rattle.sc_law_entries.proofs.RingProofs.RequestsAndVotes.{Kept, named_cases}
+use Rattle.sc_law_entries.proofs.RingProofs.CutLookups.{arcs_in}
+use Rattle.sc_law_entries.proofs.RingProofs.GroupsInLists.{groups_in}
 use Rattle.sc_law_entries.proofs.RingProofs.Start.{at_start}
 use Rattle.sc_law_entries.proofs.RingProofs.Worlds.{KeptWorld, kept_on, kept_after}
 use Rattle.sc_law_entries.proofs.RingProofs.Finds.{some_none}

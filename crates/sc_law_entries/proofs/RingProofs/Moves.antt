@@ -20,7 +20,7 @@ use Rattle.sc_law_entries.proofs.RingProofs.Links.{IsPair, pair_meets}
 use Rattle.sc_law_entries.proofs.RingProofs.Recut.{IsWhole, left_whole, right_whole}
 use Rattle.sc_law_entries.proofs.RingProofs.Effects.{arc_of, succ_of, pred_of, pairs_of, view_of, Good, whole_agree, Old, alike_same, good_alike}
 use Rattle.sc_law_entries.proofs.RingProofs.Insides.{InsideOf, inside_part, inside_with, outside_joined, outside_next, no_shared, room_of, from_first, before_second, from_second}
-use Rattle.sc_law_entries.proofs.RingProofs.Commits.{ring_move, ring_out, turned, IsDeciding, New, mine_old, part_eff, moved_agrees, moved_inside, apart_of, ring_at, both_are, same_ring}
+use Rattle.sc_law_entries.proofs.RingProofs.CommittedViews.{ring_move, ring_out, turned, IsDeciding, New, mine_old, part_eff, moved_agrees, moved_inside, apart_of, ring_at, both_are, same_ring}
 use Rattle.sc_law_entries.proofs.RingProofs.Reshapes.{Ends, part_is, moved_commit}
 
 -- a place inside an arc

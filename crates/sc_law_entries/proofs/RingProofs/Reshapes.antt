@@ -24,7 +24,7 @@ use Rattle.sc_law_entries.proofs.RingProofs.View.{Ring}
 use Rattle.sc_law_entries.proofs.RingProofs.Links.{not_back}
 use Rattle.sc_law_entries.proofs.RingProofs.Effects.{living, arc_of, succ_of, view_of, Good, Old, living_is}
 use Rattle.sc_law_entries.proofs.RingProofs.Insides.{InsideOf, inside_with, outside_joined}
-use Rattle.sc_law_entries.proofs.RingProofs.Commits.{ring_out, IsDeciding, own_is, New, mine_old, mine_new, other_eff, part_eff, watch_eff, merged_good, IsMoved}
+use Rattle.sc_law_entries.proofs.RingProofs.CommittedViews.{ring_out, IsDeciding, own_is, New, mine_old, mine_new, other_eff, part_eff, watch_eff, merged_good, IsMoved}
 use Rattle.sc_law_entries.proofs.RingProofs.Finds.{some_none}
 
 -- what a story becomes when it is decided

@@ -22,7 +22,7 @@ use Rattle.sc_law_entries.proofs.RingProofs.Cover.{at-same, at-other}
 use Rattle.sc_law_entries.proofs.RingProofs.Recut.{split_whole}
 use Rattle.sc_law_entries.proofs.RingProofs.Effects.{decisions, eff, arc_of, view_of, IsInside, Good, whole_agree, inside_same, Old, eff_free}
 use Rattle.sc_law_entries.proofs.RingProofs.Insides.{inside_part, inside_again}
-use Rattle.sc_law_entries.proofs.RingProofs.Commits.{ring_split, IsDeciding, own_is, New, mine_old, mine_new, other_eff, watch_eff, IsSplit, split_agrees, inside_at, ring_at, same_ring}
+use Rattle.sc_law_entries.proofs.RingProofs.CommittedViews.{ring_split, IsDeciding, own_is, New, mine_old, mine_new, other_eff, watch_eff, IsSplit, split_agrees, inside_at, ring_at, same_ring}
 use Rattle.sc_law_entries.proofs.RingProofs.Reshapes.{Ends}
 use Rattle.sc_law_entries.proofs.RingProofs.Finds.{some_none}
 

@@ -20,11 +20,11 @@ use Rattle.sc_law_entries.proofs.RingProofs.View.{IsOnRing, Holds, HeldBy, Ring,
 use Rattle.sc_paxos_law.proofs.Lemmas.{from_map}
 use Rattle.sc_words.proofs.PaxosProofs.Lemmas.{Each-among, Each-from, find_found}
 use Rattle.sc_law_entries.proofs.RingProofs.Finds.{find_first, find_skips, map_among, Pairwise, pairwise_from}
-use Rattle.sc_law_entries.proofs.RingProofs.Cuts.{arcs_in, cut_of_arc, arc_of_cut}
+use Rattle.sc_law_entries.proofs.RingProofs.CutLookups.{arcs_in, cut_of_arc, arc_of_cut}
 use Rattle.sc_law_entries.proofs.RingProofs.Effects.{decisions, eff, arc_of, succ_of, pred_of, view_of, IsInside, Good, Old, eff_free}
 use Rattle.sc_law_entries.proofs.RingProofs.Insides.{holds_first}
-use Rattle.sc_law_entries.proofs.RingProofs.Told.{groups_in}
-use Rattle.sc_law_entries.proofs.RingProofs.Steps.{same_fun}
+use Rattle.sc_law_entries.proofs.RingProofs.GroupsInLists.{groups_in}
+use Rattle.sc_law_entries.proofs.RingProofs.RequestsAndVotes.{same_fun}
 use Rattle.sc_law_entries.proofs.RingProofs.Rings.{AreApart}
 use Rattle.sc_law_entries.proofs.RingProofs.Worlds.{KeptWorld}
 use Rattle.std.proofs.lemmas.Option.{none-some, same_Some}

@@ -33,13 +33,13 @@ use Rattle.sc_law_entries.proofs.RingProofs.View.{Ring}
 use Rattle.sc_law_entries.proofs.RingProofs.Cover.{at-same, at-other}
 use Rattle.sc_law_entries.proofs.RingProofs.Ends.{draw_new, group_none, own_story, same_lock}
 use Rattle.sc_law_entries.proofs.RingProofs.Effects.{decisions, eff, arc_of}
-use Rattle.sc_law_entries.proofs.RingProofs.Steps.{Kept, same_fun, idle, call_kept, join_kept, leave_kept, begin_kept, prepared_kept, watched_kept, named_cases}
-use Rattle.sc_law_entries.proofs.RingProofs.Cuts.{arcs_in}
+use Rattle.sc_law_entries.proofs.RingProofs.RequestsAndVotes.{Kept, same_fun, idle, call_kept, join_kept, leave_kept, begin_kept, prepared_kept, watched_kept, named_cases}
+use Rattle.sc_law_entries.proofs.RingProofs.CutLookups.{arcs_in}
 use Rattle.sc_meaning.proofs.EntriesProofs.Lemmas.{found_name}
-use Rattle.sc_law_entries.proofs.RingProofs.Told.{groups_in, with_child, groups_are, AreFound, found_after, Agree, story_brief, agree_begun, agree_retold, agree_watcher, agree_concluded}
-use Rattle.sc_law_entries.proofs.RingProofs.Commits.{ring_told}
+use Rattle.sc_law_entries.proofs.RingProofs.GroupsInLists.{groups_in, with_child, groups_are, AreFound, found_after, Agree, story_brief, agree_begun, agree_retold, agree_watcher, agree_concluded}
+use Rattle.sc_law_entries.proofs.RingProofs.CommittedViews.{ring_told}
 use Rattle.sc_law_entries.proofs.RingProofs.Decisions.{born_too, record_kept, give_up_kept, watch_record_kept}
-use Rattle.sc_law_entries.proofs.RingProofs.Orders.{split_kept, finish_kept}
+use Rattle.sc_law_entries.proofs.RingProofs.SplitsAndEnds.{split_kept, finish_kept}
 use Rattle.sc_law_entries.proofs.RingProofs.Rings.{AreApart, no_division, ring_is, ring_apart}
 use Rattle.sc_law_entries.proofs.RingProofs.Finds.{some_none}
 

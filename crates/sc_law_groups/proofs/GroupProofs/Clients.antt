@@ -13,7 +13,7 @@ use Rattle.sc_scenario.specs.declared.scenario.scenarios.Scenario.{Scenario}
 use Rattle.sc_meaning.specs.sound.Definitions.{Ahead, issues, issued_from, issue_row}
 use Rattle.sc_law_groups.proofs.GroupProofs.Invariant.{Steps, IsReplyAt, IsTrue, IsTrueAnswer, grown_reply}
 use Rattle.sc_law_groups.proofs.GroupProofs.Names.{IsOneOf, IsNamedIn}
-use Rattle.sc_law_groups.proofs.GroupProofs.Places.{Journal, or_now, issue-push}
+use Rattle.sc_law_groups.proofs.GroupProofs.FirstRows.{Journal, or_now, issue-push}
 use Rattle.sc_paxos_law.proofs.Lemmas.{get_pushed}
 use Rattle.sc_base.proofs.Lemmas.{same_name}
 

@@ -15,8 +15,8 @@ use Rattle.sc_law_groups.proofs.GroupProofs.Growth.{IsLearnt}
 use Rattle.sc_law_groups.proofs.GroupProofs.Invariant.{Steps, rule, first, IsFlying, IsTaken, IsReplica, next_after}
 use Rattle.sc_law_groups.proofs.GroupProofs.Speech.{Speaks}
 use Rattle.sc_law_groups.proofs.GroupProofs.Midway.{Fine, turn}
-use Rattle.sc_law_groups.proofs.GroupProofs.Parts.{among_without_flight, Each-without_flight}
-use Rattle.sc_law_groups.proofs.GroupProofs.Executing.{fine_executed}
+use Rattle.sc_law_groups.proofs.GroupProofs.WithoutOne.{among_without_flight, Each-without_flight}
+use Rattle.sc_law_groups.proofs.GroupProofs.ChosenEntries.{fine_executed}
 use Rattle.std.proofs.lemmas.List.{map-append}
 use Rattle.sc_law_groups.proofs.GroupProofs.Offering.{fine_pumped}
 use Rattle.sc_base.proofs.Lemmas.{ballot_is}

@@ -8,9 +8,9 @@ use Rattle.sc_paxos_law.specs.Definitions.{needed, members_of, IsChosenAfter}
 use Rattle.sc_paxos_law.proofs.Lemmas.{longer_log, get_pushed}
 use Rattle.sc_node_table.specs.Definitions.{rest_of, ReplicaState, next, floor_of, forgotten, waits_in, entered}
 use Rattle.sc_meaning.specs.sound.Definitions.{Ahead}
-use Rattle.sc_law_groups.proofs.GroupProofs.Held.{floor_low}
+use Rattle.sc_law_groups.proofs.GroupProofs.ForgottenEntries.{floor_low}
 use Rattle.sc_law_groups.proofs.GroupProofs.Invariant.{Steps, rule, AreSets, HasLog, next_is, pushed_has, cut_has, IsReplica, next_after, forgotten_replica}
-use Rattle.sc_law_groups.proofs.GroupProofs.Parts.{rest_length, rest_count, rest_get}
+use Rattle.sc_law_groups.proofs.GroupProofs.WithoutOne.{rest_length, rest_count, rest_get}
 use Rattle.sc_law_walks.proofs.Lemmas.{entry_is as with_entry-is}
 pub use Rattle.sc_law_walks.proofs.Lemmas.{entered_running as entered_runs}
 

@@ -14,13 +14,13 @@ use Rattle.sc_scenario.specs.declared.scenario.scenarios.Asks.{Asks}
 use Rattle.sc_scenario.specs.declared.scenario.scenarios.Scenario.{Scenario}
 use Rattle.sc_meaning.specs.sound.Definitions.{Ahead, node_seat, player_table, client_seat, decided_log, kept_replies}
 use Rattle.sc_law_groups.specs.group.Definitions.{steps}
-use Rattle.sc_law_groups.proofs.GroupProofs.Lists.{each_got}
+use Rattle.sc_law_groups.proofs.GroupProofs.EachElement.{each_got}
 use Rattle.sc_law_groups.proofs.GroupProofs.Invariant.{Steps, rule, first, IsTrue, grown_true, OffersMade}
 use Rattle.sc_law_groups.proofs.GroupProofs.Holding.{more_holds}
 use Rattle.sc_law_groups.proofs.GroupProofs.Names.{IsNamedIn, named_later}
-use Rattle.sc_law_groups.proofs.GroupProofs.Nodes.{IsNode}
+use Rattle.sc_law_groups.proofs.GroupProofs.GroupNodes.{IsNode}
 use Rattle.sc_law_groups.proofs.GroupProofs.Projected.{log_only, only_steps}
-use Rattle.sc_law_groups.proofs.GroupProofs.Places.{Journal, split_at}
+use Rattle.sc_law_groups.proofs.GroupProofs.FirstRows.{Journal, split_at}
 use Rattle.sc_law_groups.proofs.GroupProofs.Clients.{IsClient, Grew}
 
 -- the steps of a journal for each group

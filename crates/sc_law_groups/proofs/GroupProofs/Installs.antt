@@ -12,13 +12,13 @@ use Rattle.sc_node_table.specs.Definitions.{ReplicaState, Place, first_ballot, n
 use Rattle.sc_law_entries.proofs.HistoryProofs.Lemmas.{state_same}
 use Rattle.sc_meaning.specs.sound.Definitions.{Ahead}
 use Rattle.sc_law_groups.proofs.GroupProofs.Growth.{IsFresh, fresh_state}
-use Rattle.sc_law_groups.proofs.GroupProofs.Held.{Mirrors, mirrors_itself, floor_low}
+use Rattle.sc_law_groups.proofs.GroupProofs.ForgottenEntries.{Mirrors, mirrors_itself, floor_low}
 use Rattle.sc_law_groups.proofs.GroupProofs.Invariant.{Steps, rule, first, birth, AreSets, HasLog, IsReplica, next_after, forgotten_replica, IsState, grown_state}
 use Rattle.sc_law_groups.proofs.GroupProofs.Speech.{Speaks}
 use Rattle.sc_law_groups.proofs.GroupProofs.Midway.{Fine, turn, says}
 use Rattle.sc_law_groups.proofs.GroupProofs.Sending.{name_is, fine_stopped}
 use Rattle.sc_law_groups.proofs.GroupProofs.Offering.{with_calls, fine_pumped}
-use Rattle.sc_law_groups.proofs.GroupProofs.Executing.{hinted_place, looked_place}
+use Rattle.sc_law_groups.proofs.GroupProofs.ChosenEntries.{hinted_place, looked_place}
 
 module _ (ahead : Ahead) (base : Base) (made : Command → Type 0) (heard : MailBody → Type 0) (me : ℕ) (older : List Mail) (before : Steps) (speaks : Speaks ahead base made heard before)
     (some : (log : List Command) → Each made log → (node : ℕ) × (rest : List ℕ) × ((rule ahead base).members log ≡ node ∷ rest)) where

@@ -17,7 +17,7 @@ use Rattle.sc_law_entries.specs.history.Definitions.{IsReplied}
 use Rattle.sc_meaning.specs.sound.Definitions.{Ahead, rule_of}
 use Rattle.sc_group_table.proofs.MachineProofs.Lemmas.{state_push}
 use Rattle.sc_law_groups.proofs.GroupProofs.Growth.{IsLearnt, By, later_learnt, grown_learnt, state_kept}
-use Rattle.sc_law_groups.proofs.GroupProofs.Held.{Mirrors, cut_mirrors, max_is}
+use Rattle.sc_law_groups.proofs.GroupProofs.ForgottenEntries.{Mirrors, cut_mirrors, max_is}
 
 -- steps of commands
 abbrev pub Steps : Type 0

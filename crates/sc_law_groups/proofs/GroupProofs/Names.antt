@@ -10,7 +10,7 @@ use Rattle.sc_node_table.specs.Definitions.{absent}
 use Rattle.sc_meaning.specs.sound.Definitions.{accepts_of, is_accepted, Ahead}
 use Rattle.sc_law_groups.specs.group.Definitions.{proposer_steps, asked_in, promises_of}
 use Rattle.sc_law_groups.proofs.GroupProofs.Invariant.{Steps, IsOwn, IsTrue}
-use Rattle.sc_law_groups.proofs.GroupProofs.Voting.{IsPlain, ArePlain, no_promises, any_accepted}
+use Rattle.sc_law_groups.proofs.GroupProofs.AcceptorRows.{IsPlain, ArePlain, no_promises, any_accepted}
 use Rattle.sc_law_groups.proofs.GroupProofs.Frames.{node_row, steps_of}
 
 -- ---- rows that take no step

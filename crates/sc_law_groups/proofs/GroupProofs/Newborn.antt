@@ -9,7 +9,7 @@ use Rattle.sc_words.proofs.PaxosProofs.Lemmas.{Each-among}
 use Rattle.sc_paxos_law.specs.Definitions.{Prepared, Offered, needed}
 use Rattle.sc_meaning.specs.sound.Definitions.{Ahead}
 use Rattle.sc_law_groups.proofs.GroupProofs.Growth.{IsFresh, fresh_state}
-use Rattle.sc_law_groups.proofs.GroupProofs.Held.{Mirrors, mirrors_itself}
+use Rattle.sc_law_groups.proofs.GroupProofs.ForgottenEntries.{Mirrors, mirrors_itself}
 use Rattle.sc_law_groups.proofs.GroupProofs.Invariant.{Steps, rule, first, IsReplica}
 
 length_replicate : {X : Type 0} (n : ℕ) (x : X) → length (replicate n x) ≡ n

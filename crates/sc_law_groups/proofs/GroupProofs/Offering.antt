@@ -18,7 +18,7 @@ use Rattle.sc_law_groups.proofs.GroupProofs.Growth.{later_learnt}
 use Rattle.sc_law_groups.proofs.GroupProofs.Invariant.{Steps, rule, first, later_has, IsTaken, AreSets, IsReplica, next_after, IsTrueAnswer, later_flying}
 use Rattle.sc_law_groups.proofs.GroupProofs.Speech.{Speaks}
 use Rattle.sc_law_groups.proofs.GroupProofs.Midway.{Fine, turn, steps}
-use Rattle.sc_law_groups.proofs.GroupProofs.Lists.{Each-take}
+use Rattle.sc_law_groups.proofs.GroupProofs.EachElement.{Each-take}
 use Rattle.sc_law_groups.proofs.GroupProofs.Sending.{asked_accept, name_is, offered_again, answered_one}
 use Rattle.sc_law_walks.proofs.Lemmas.{next_found}
 

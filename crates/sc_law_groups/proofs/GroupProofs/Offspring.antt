@@ -17,7 +17,7 @@ use Rattle.sc_law_groups.proofs.GroupProofs.Speech.{Speaks}
 use Rattle.sc_law_groups.proofs.GroupProofs.Midway.{Fine, turn}
 use Rattle.sc_law_groups.proofs.GroupProofs.Saying.{all_asked, fewer_log}
 use Rattle.sc_law_groups.proofs.GroupProofs.Entering.{entered_has}
-use Rattle.sc_law_groups.proofs.GroupProofs.Executing.{fine_executed_one, learnt_made, next_ready_among, next_ready_runs}
+use Rattle.sc_law_groups.proofs.GroupProofs.ChosenEntries.{fine_executed_one, learnt_made, next_ready_among, next_ready_runs}
 use Rattle.sc_law_groups.proofs.GroupProofs.Counting.{ready_place, set_is, count_is}
 
 -- the child of a prefix of the log at a node: the log begins so, and the command that comes next makes it

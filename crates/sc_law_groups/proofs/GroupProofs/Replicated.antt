@@ -9,9 +9,9 @@ use Rattle.sc_meaning.specs.sound.Definitions.{Ahead, Continues, HasRun, accepts
 use Rattle.sc_group_table.specs.machine.Definitions.{state_after}
 use Rattle.sc_law_groups.proofs.GroupProofs.Invariant.{Steps, rule, first, birth, IsReplica, next_after}
 use Rattle.sc_law_groups.proofs.GroupProofs.Projected.{only, only_steps, log_from_only, after_from_only, log_to_only}
-use Rattle.sc_law_groups.proofs.GroupProofs.Places.{Journal}
+use Rattle.sc_law_groups.proofs.GroupProofs.FirstRows.{Journal}
 use Rattle.sc_law_groups.proofs.GroupProofs.Families.{h_of, decided_is}
-use Rattle.sc_law_groups.proofs.GroupProofs.Replies.{prefix_is}
+use Rattle.sc_law_groups.proofs.GroupProofs.LoggedReplies.{prefix_is}
 
 module _ (ahead : Ahead) (base : Base) (rows : Journal) (lawful : IsLawfulHistory (rule ahead base) (first ahead base) (h_of rows base)) where
   abbrev h : Steps

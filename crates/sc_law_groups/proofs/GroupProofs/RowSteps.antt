@@ -10,7 +10,7 @@ use Rattle.sc_law_groups.specs.group.Definitions.{asked_in, promises_got, steps_
 use Rattle.sc_law_groups.proofs.GroupProofs.Invariant.{Steps}
 use Rattle.sc_law_groups.proofs.GroupProofs.Frames.{node_row, steps_of}
 use Rattle.sc_law_groups.proofs.GroupProofs.Names.{quiet_steps, no_asked}
-use Rattle.sc_law_groups.proofs.GroupProofs.Voting.{ArePlain}
+use Rattle.sc_law_groups.proofs.GroupProofs.AcceptorRows.{ArePlain}
 
 -- a mail that has a number was sent
 pub number_among : (sent : List Mail) (number : ℕ) (m : Mail) → numbered sent number ≡ Some m → Among m sent

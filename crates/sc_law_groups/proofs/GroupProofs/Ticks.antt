@@ -14,9 +14,9 @@ use Rattle.sc_law_groups.proofs.GroupProofs.Invariant.{Steps, rule, first, IsRep
 use Rattle.sc_law_groups.proofs.GroupProofs.Speech.{AnyoneHears, Speaks}
 use Rattle.sc_law_groups.proofs.GroupProofs.Midway.{Fine}
 use Rattle.sc_law_groups.proofs.GroupProofs.Sending.{name_is}
-use Rattle.sc_law_groups.proofs.GroupProofs.Rows.{MayWish, fine_tick_row}
+use Rattle.sc_law_groups.proofs.GroupProofs.LearningRows.{MayWish, fine_tick_row}
 use Rattle.sc_law_groups.proofs.GroupProofs.Names.{IsOneOf, IsNamedIn, own_named}
-use Rattle.sc_law_groups.proofs.GroupProofs.Nodes.{start, IsNode, NodeEnded}
+use Rattle.sc_law_groups.proofs.GroupProofs.GroupNodes.{start, IsNode, NodeEnded}
 use Rattle.sc_law_groups.proofs.GroupProofs.Frames.{AreFar, own_far, far_true, far_all, asked_append}
 use Rattle.sc_law_groups.proofs.GroupProofs.Holding.{IsOther, Holds, held}
 use Rattle.sc_base.proofs.Lemmas.{draw_is}

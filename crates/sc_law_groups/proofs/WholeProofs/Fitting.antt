@@ -17,7 +17,7 @@ use Rattle.sc_meaning.proofs.EntriesProofs.Lemmas.{births_are_children}
 use Rattle.sc_words.proofs.PaxosProofs.Lemmas.{Each-among, Each-append, find_found}
 use Rattle.sc_law_entries.specs.ring.Definitions.{Sources, IsAllowed, AreAllowed, StoryWorld, first_recorded, recorded_next, recorded_after, recorded_stories, stories_of, Story, Stories, put, retold, unsigned, new_story, vote_by, vote_in, watch_vote_in, with_vote, with_watch_vote, with_decision, with_asked, stories_after}
 use Rattle.sc_law_groups.specs.whole.Definitions.{IsFresh, MergesFit}
-use Rattle.sc_law_groups.proofs.WholeProofs.Children.{fresh_child}
+use Rattle.sc_law_groups.proofs.WholeProofs.FreshChildren.{fresh_child}
 use Rattle.sc_law_groups.proofs.WholeProofs.Members.{members_after}
 use Rattle.sc_law_groups.proofs.WholeProofs.Unions.{either_way}
 

@@ -11,7 +11,7 @@ use Rattle.sc_scenario.specs.declared.scenario.scenarios.Scenario.{Scenario}
 use Rattle.sc_law_entries.specs.history.Definitions.{BeginBare}
 use Rattle.sc_law_entries.specs.ring.Definitions.{Sources, BeginInPlace}
 use Rattle.sc_law_groups.specs.whole.Definitions.{HasSeats, IsReady, section_op, ValidScenariosBeginWell}
-use Rattle.sc_law_groups.proofs.WholeProofs.Requests.{asks_are}
+use Rattle.sc_law_groups.proofs.WholeProofs.ClientSections.{asks_are}
 use Rattle.sc_law_groups.proofs.WholeProofs.Starts.{AreStarts, bases_from, first_and_others, starts_apart, starts_bare, starts_fresh, starts_in_place}
 use Rattle.sc_words.proofs.PaxosProofs.Lemmas.{one_of_name, Each-from_All}
 

@@ -11,7 +11,7 @@ use Rattle.sc_words.proofs.PaxosProofs.Lemmas.{Each-append}
 use Rattle.sc_words.specs.paxos.Definitions.{below}
 use Rattle.sc_meaning.specs.sound.Definitions.{Ahead, is_accepted, accepts_of, accepts_got, accepts_at, accepts_from, accepts, rule_of, decided_log}
 use Rattle.sc_law_entries.specs.names.Definitions.{Opt}
-use Rattle.sc_law_entries.proofs.NamesProofs.Lists.{opt_map, opt_get}
+use Rattle.sc_law_entries.proofs.NamesProofs.EachFound.{opt_map, opt_get}
 use Rattle.sc_law_walks.proofs.Ways.{either_way}
 use Rattle.sc_law_refusal.specs.refusal.Definitions.{Rows}
 use Rattle.sc_law_refusal.proofs.PatienceProofs.GivenUpCommands.{Gives, MailGives}

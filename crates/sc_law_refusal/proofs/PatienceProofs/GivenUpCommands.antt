@@ -6,7 +6,7 @@ use Rattle.sc_words.proofs.PaxosProofs.Lemmas.{Each-filter}
 use Rattle.sc_words.specs.paxos.Definitions.{AcceptorState, LeaderState, promise_counted, entry_at, counted, without_flight_at}
 use Rattle.sc_node_table.specs.Definitions.{ReplicaState, floor_of, forgotten, with_slot, without_slot, put_back}
 use Rattle.sc_law_entries.specs.names.Definitions.{Opt}
-use Rattle.sc_law_entries.proofs.NamesProofs.Lists.{opt_get, Each-drop, slot_with, slot_without, flight_without}
+use Rattle.sc_law_entries.proofs.NamesProofs.EachFound.{opt_get, Each-drop, slot_with, slot_without, flight_without}
 use Rattle.sc_law_walks.proofs.Lemmas.{either_way, back_any}
 use Rattle.sc_law_walks.specs.Definitions.{IsFiledOnMail, IsOrder}
 use Rattle.sc_law_refusal.proofs.HeldCommands as held

@@ -16,7 +16,7 @@ use Rattle.sc_words.proofs.PaxosProofs.Lemmas.{Each-among, Each-append, Each-fro
 use Rattle.sc_scenario.specs.declared.scenario.scenarios.Scenario.{Scenario}
 use Rattle.sc_meaning.specs.sound.Definitions.{Ahead, Lawful, Player, births, decided_log, node_seat, player_table, schedule, system_of}
 use Rattle.sc_law_entries.specs.names.Definitions.{Opt}
-use Rattle.sc_law_entries.proofs.NamesProofs.Lists.{opt_get}
+use Rattle.sc_law_entries.proofs.NamesProofs.EachFound.{opt_get}
 use Rattle.sc_law_entries.proofs.NamesProofs.Fresh.{IsClient, IsSeat, seats_are, replay_client, no_node}
 use Rattle.sc_law_refusal.specs.refusal.Definitions.{Rows, ticks_in}
 use Rattle.sc_law_refusal.specs.patience.Definitions.{StandsAt, StandsIn, WasGivenUp, GivesUpInTime}

@@ -7,7 +7,7 @@ use Rattle.sc_words.proofs.PaxosProofs.Lemmas.{Each-append, Each-filter, Each-we
 use Rattle.sc_words.specs.paxos.Definitions.{below, counted, entry_at, LogState, learnt, next_of, reports_from, with_flight_at, after_accept, after_promise}
 use Rattle.sc_node_table.specs.Definitions.{ReplicaState, Place, name_of, next, entered, forgotten, jumped, put_back, sent, under_way, answered_all, ended, offered, open_nodes, without_request}
 use Rattle.sc_law_entries.specs.names.Definitions.{Opt}
-use Rattle.sc_law_entries.proofs.NamesProofs.Lists.{opt_slot, report_with}
+use Rattle.sc_law_entries.proofs.NamesProofs.EachFound.{opt_slot, report_with}
 use Rattle.sc_law_walks.proofs.Ways.{either_way}
 use Rattle.sc_law_walks.proofs.PlaceWalks.{PlaceFacts, PlaceStates, PlaceSays, PlaceAgains, PlaceWalk, Talk, IsReported, elected_place, entered_place, ended_replica}
 use Rattle.sc_law_walks.proofs.PlaceEntries.{EntryParts, entry_kept}

@@ -8,7 +8,7 @@ use Rattle.sc_law_walks.proofs.Lemmas.{either_way, grows, TableFacts, TableState
 use Rattle.sc_law_walks.proofs.TableRows as rows
 use Rattle.sc_law_walks.proofs.TableTicks as tick
 use Rattle.sc_law_refusal.specs.queue.OneCall.{KeepsOneCall}
-use Rattle.sc_law_refusal.proofs.QueueProofs.Lists.{One, one_none, one_rest, one_last, one_first, one_without, none_left, none_found}
+use Rattle.sc_law_refusal.proofs.QueueProofs.ClientCalls.{One, one_none, one_rest, one_last, one_first, one_without, none_left, none_found}
 
 -- a place whose replica keeps at most one call of each client
 abbrev pub Keeps : Place → Type 0

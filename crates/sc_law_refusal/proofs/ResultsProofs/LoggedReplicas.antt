@@ -16,7 +16,7 @@ use Rattle.sc_law_walks.proofs.Lemmas.{entry_is}
 use Rattle.sc_meaning.specs.sound.Definitions.{Ahead}
 use Rattle.sc_law_groups.proofs.GroupProofs.Lemmas.{IsLearnt, by_own_log, Each-without_slot, each_after, Steps, rule, first, birth, IsReplica, IsState, next_after}
 use Rattle.sc_law_groups.proofs.GroupProofs.Invariant.{HasLog, next_is, pushed_has, cut_has}
-use Rattle.sc_law_groups.proofs.GroupProofs.Held.{floor_low}
+use Rattle.sc_law_groups.proofs.GroupProofs.ForgottenEntries.{floor_low}
 use Rattle.sc_law_groups.proofs.GroupProofs.Counting.{each_with_slot}
 
 module _ (ahead : Ahead) (base : Base) (h : Steps) (lawful : IsLawfulHistory (rule ahead base) (first ahead base) h) where

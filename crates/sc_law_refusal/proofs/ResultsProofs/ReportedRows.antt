@@ -11,7 +11,7 @@ use Rattle.sc_words.proofs.PaxosProofs.Lemmas.{Each-among, Each-append, Each-wea
 use Rattle.sc_paxos_law.specs.Definitions.{IsLog, IsLawfulHistory, Accepted as AcceptedStep}
 use Rattle.sc_law_entries.specs.names.Definitions.{Opt}
 use Rattle.sc_law_entries.proofs.HistoryProofs.Lemmas.{applied_same}
-use Rattle.sc_law_entries.proofs.NamesProofs.Lists.{opt_slot, slot_without, flight_without}
+use Rattle.sc_law_entries.proofs.NamesProofs.EachFound.{opt_slot, slot_without, flight_without}
 use Rattle.sc_node_table.specs.Definitions.{ReplicaState, Place, name_of, next, at_slot, without_slot, without_request, open_nodes, ended, entered, jumped, forgotten, offered, put_back, answered_all, under_way, before_of, order_number, begun_result, spoken_number, spoken_mails, begun_reported, result_reported, went_on}
 use Rattle.sc_meaning.specs.sound.Definitions.{Ahead}
 use Rattle.sc_law_groups.proofs.GroupProofs.Lemmas.{IsLearnt, Steps, rule, first, birth, IsState, slot_among}

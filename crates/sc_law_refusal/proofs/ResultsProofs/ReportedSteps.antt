@@ -11,7 +11,7 @@ use Rattle.sc_group_table.specs.machine.Definitions.{state_after}
 use Rattle.sc_group_table.specs.policy.Definitions.{is_reported, wished_order}
 use Rattle.sc_words.specs.paxos.Definitions.{LeaderState, counted}
 use Rattle.sc_paxos_law.specs.Definitions.{IsLog, IsLawfulHistory, Accepted as AcceptedStep}
-use Rattle.sc_law_entries.proofs.NamesProofs.Lists.{slot_with}
+use Rattle.sc_law_entries.proofs.NamesProofs.EachFound.{slot_with}
 use Rattle.sc_node_table.specs.Definitions.{ReplicaState, Place, Executed, childless, name_of, next, at_slot, with_slot, set_at, has_room, leads, voted, vote_tallied, readied, accepted_row, executed, forgotten, ordered_command, ordered_row, queued_or_refused, untaken, result_sent, wished_line, policy_line, is_at_rest, waited_in, tick_row, mailed, made_by, named, installed_replica}
 use Rattle.sc_meaning.specs.sound.Definitions.{Ahead}
 use Rattle.sc_law_groups.proofs.GroupProofs.Lemmas.{IsLearnt, Steps, rule, first, birth, IsReplica, IsState}

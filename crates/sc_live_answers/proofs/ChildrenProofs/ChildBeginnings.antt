@@ -20,7 +20,7 @@ use Rattle.sc_law_groups.specs.whole.Definitions.{BeginsWell, OrdersAreAllowed, 
 use Rattle.sc_law_groups.proofs.WholeProofs.Lemmas.{parties_are_apart, merges_fit, goes_on_from, speaks, members_stay_rosters, Holds}
 use Rattle.sc_live_journals.specs.rows.Definitions.{IsSeat, made_children, AreAsBegun}
 use Rattle.sc_live_journals.proofs.LogsProofs.Lemmas.{whole, prefix}
-pub use Rattle.sc_live_journals.proofs.LogsProofs.LogChildren.{child_in}
+pub use Rattle.sc_live_journals.proofs.LogsProofs.LoggedChildren.{child_in}
 
 -- a replica's part of a row begins
 start : (ahead : Ahead) (base : Base) (made : Command → Type 0) (heard : MailBody → Type 0) (me : ℕ) (before : Steps) (lawful : IsLawfulHistory (rule ahead base) (first ahead base) before) (requested : OffersMade made before) (r : ReplicaState) → IsReplica ahead base made before me r

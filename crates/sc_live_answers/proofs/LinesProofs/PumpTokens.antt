@@ -10,7 +10,7 @@ use Rattle.sc_words.specs.declared.paxos.answers.Must.TheVariants.{Free as Open}
 use Rattle.sc_words.specs.paxos.Definitions.{must, flight_at, without_flight, with_voters}
 use Rattle.sc_node_table.specs.Definitions.{sent, sent_all, sent_others, answered, Found, is_act, waits, turned_down, next_queued, from_backlog, from_acts, from_queues, found_for, offered, pumped_from, pumped, queued_number, is_request_of, without_request, ReplicaState, Place, name_of, next, settled, may_offer, taken_at, under_way, is_idle, last_slot, refused_at, queued, requested, request_row, at_slot, with_slot, without_slot}
 use Rattle.sc_live_answers.specs.Definitions.{command_token, body_token, mail_token, flight_tokens, ready_tokens, place_tokens}
-use Rattle.sc_live_steps.proofs.CalmProofs.Pumps.{queues_leader, offering_must}
+use Rattle.sc_live_steps.proofs.CalmProofs.PumpPotential.{queues_leader, offering_must}
 use Rattle.sc_live_steps.proofs.PumpProofs.Pumping.{open_found as found_is}
 
 -- no report binds the leader from the next slot on

@@ -26,7 +26,7 @@ use Rattle.sc_live_answers.specs.Definitions.{WasMember, WereMembers, AreAllFree
 use Rattle.sc_live_answers.proofs.LinksProofs.LinkOutcomes.{Good, IsLinkedSo}
 use Rattle.sc_live_answers.proofs.LinksProofs.LinkEntries.{groups_then, Come, all_linked, moved}
 use Rattle.sc_live_steps.proofs.OrdersProofs.Lemmas.{right_none}
-pub use Rattle.sc_live_journals.proofs.RowsProofs.GroupBeginnings.{of_up_to}
+pub use Rattle.sc_live_journals.proofs.RowsProofs.ScenarioGroups.{of_up_to}
 
 -- ---- two prefixes of a list
 

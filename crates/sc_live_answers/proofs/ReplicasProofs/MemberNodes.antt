@@ -14,7 +14,7 @@ use Rattle.sc_law_groups.specs.whole.Definitions.{BeginsWell, section_op, Orders
 use Rattle.sc_law_groups.proofs.WholeProofs.Lemmas.{orders_allowed}
 use Rattle.sc_live_journals.specs.logs.Definitions.{logged_sets, IsGroupOf}
 use Rattle.sc_live_answers.specs.Definitions.{MembersAreHome}
-use Rattle.sc_live_journals.proofs.LogsProofs.Nodes.{BringsNodes, HasNodes}
+use Rattle.sc_live_journals.proofs.LogsProofs.NodesInGroups.{BringsNodes, HasNodes}
 use Rattle.sc_live_journals.proofs.LogsProofs.EntryNodes.{begins_nodes, brings_nodes}
 use Rattle.sc_live_journals.proofs.LogsProofs.Lemmas.{slots_have_nodes}
 

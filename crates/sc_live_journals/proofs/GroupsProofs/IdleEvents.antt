@@ -12,7 +12,7 @@ use Rattle.sc_live_steps.proofs.FollowingProofs.Lemmas.{leaders_begin}
 use Rattle.sc_live_journals.specs.rows.Definitions.{view_at, begun_course, IsLedBy, with_event, IsIdleIn, IsBornOr}
 use Rattle.sc_live_journals.proofs.RowsProofs.Lemmas.{same_some, leads_stay}
 use Rattle.sc_live_journals.specs.groups.Definitions.{RowPasses, IsLedStep, Ends, hint_in, IsWellLed, IsLogOf, MailsKeepLed, OthersKeepLed, IsStage}
-use Rattle.sc_live_journals.proofs.GroupsProofs.LearntEntries.{learns}
+use Rattle.sc_live_journals.proofs.GroupsProofs.LearningReplicas.{learns}
 use Rattle.sc_live_journals.proofs.GroupsProofs.NodeMail.{accepts, prepares, installs, passes_vote, passes_promise, stays_aside, makes, stays_ordered}
 use Rattle.sc_live_journals.proofs.GroupsProofs.Rows.{rows_keep_led}
 

@@ -17,7 +17,7 @@ use Rattle.sc_live_steps.proofs.FollowingProofs.Lemmas.{prepares_are_known, node
 use Rattle.sc_live_journals.specs.rows.Definitions.{IsUnmoved, view_at, next_in, promise_in, progress_at, marks_at, mark_in, taken_mark, LeavesLead, IsScene, TakesMail, HoldsReplica, WaitsStill, with_event, IsReplicasRow}
 use Rattle.sc_live_journals.proofs.RowsProofs.Lemmas.{asides_still, same_some, aside_mark, apart_off, goes_on, idle_apart, waits_here, row_in, head, all_fit, known, within, no_lead, named, row_to, fit, taken, leads_stay, steps_take, states_take, uncounted_pass, still_idle, rows_replicas}
 use Rattle.sc_live_journals.specs.groups.Definitions.{RowRests, RowTakes, RowMakes, IsLedStep, Ends, hint_in, hints_at, dated_at, IsLogsState, IsLedScene, IsStage, LeavesWell}
-use Rattle.sc_live_journals.proofs.GroupsProofs.PrepareSlots.{dated_in, taken_dated, rows_dated}
+use Rattle.sc_live_journals.proofs.GroupsProofs.DatedMarks.{dated_in, taken_dated, rows_dated}
 use Rattle.sc_live_journals.proofs.GroupsProofs.Rows.{rows_keep_led}
 
 -- what is in order stays so where the leader, what is ready and the next slot stay

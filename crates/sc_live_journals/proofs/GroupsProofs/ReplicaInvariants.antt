@@ -11,10 +11,10 @@ use Rattle.sc_node_table.specs.Definitions.{replica_of, ReplicaState, numbers_fr
 use Rattle.sc_meaning.specs.sound.Definitions.{Player, player_table, births, as_nodes, node_seat, client_seat, client_seats, route_of}
 use Rattle.sc_live_journals.specs.rows.Definitions.{replicas_of, replica_in}
 use Rattle.sc_live_journals.specs.groups.Definitions.{IsKeptPlayer, ScenariosAreKeptBorn, ReplicasAreKept, KeptLeadersRest, IsSlotKept, IsTopKept}
-use Rattle.sc_live_journals.proofs.GroupsProofs.QuietLeaders.{quiet_leaders_rest}
+use Rattle.sc_live_journals.proofs.GroupsProofs.LeadersAtRest.{quiet_leaders_rest}
 use Rattle.sc_live_journals.proofs.GroupsProofs.SlotNodes.{nodes_born as slots_born, Plays as SlotPlays, replay_well as slots_replay}
 use Rattle.sc_law_walks.proofs.Lemmas.{FoundOne, found_one}
-use Rattle.sc_live_journals.proofs.GroupsProofs.GreatestBallots.{nodes_born as tops_born, Plays as TopPlays, Found as TopFound, found_well as top_found, replay_well as tops_replay}
+use Rattle.sc_live_journals.proofs.GroupsProofs.OwnGreatestBallots.{nodes_born as tops_born, Plays as TopPlays, Found as TopFound, found_well as top_found, replay_well as tops_replay}
 
 -- ---- at birth
 

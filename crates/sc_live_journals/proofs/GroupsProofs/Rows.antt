@@ -14,8 +14,8 @@ use Rattle.sc_live_steps.proofs.FollowingProofs.Lemmas.{slots_are_kept, prepares
 use Rattle.sc_live_journals.specs.rows.Definitions.{view_at, progress_at, marks_at, taken_mark, begun_course, led_course, elected_course, with_event, IsKind, IsReplicasRow}
 use Rattle.sc_live_journals.proofs.RowsProofs.Lemmas.{rows_keep, same_some, rows_are, view_others}
 use Rattle.sc_live_journals.specs.groups.Definitions.{Ends, hint_in, hints_at, dated_at, IsWellLed, IsStage, LeavesWell, LeadsWell, ElectsWell, RowsKeepLed}
-use Rattle.sc_live_journals.proofs.GroupsProofs.PrepareSlots.{taken_dated, taken_same, with_slot, with_none, rows_dated}
-pub use Rattle.sc_live_steps.proofs.FollowingProofs.PrepareSlots.{marks_all}
+use Rattle.sc_live_journals.proofs.GroupsProofs.DatedMarks.{taken_dated, taken_same, with_slot, with_none, rows_dated}
+pub use Rattle.sc_live_steps.proofs.FollowingProofs.AskedSlots.{marks_all}
 
 -- ---- what is the same for marks that are the same
 

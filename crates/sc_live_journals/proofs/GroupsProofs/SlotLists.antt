@@ -10,7 +10,7 @@ use Rattle.sc_law_walks.proofs.Lemmas.{either_way}
 use Rattle.sc_live_steps.specs.following.Definitions.{AreApart}
 use Rattle.sc_live_steps.proofs.FollowingProofs.Lemmas.{apart_without, apart_polled, apart_pushed}
 use Rattle.sc_live_journals.specs.groups.Definitions.{FlyFrom, AreRising, WaitFrom}
-use Rattle.sc_law_groups.proofs.GroupProofs.Parts.{Each-without_flight as each_without}
+use Rattle.sc_law_groups.proofs.GroupProofs.WithoutOne.{Each-without_flight as each_without}
 
 -- where none is at this slot, all are later
 none_there : (n : ℕ) (fs : List (Flight Command)) → Each (λ f. n ≤ f.slot) fs → flight_at n fs ≡ None → Each (λ f. n + 1 ≤ f.slot) fs

@@ -14,7 +14,7 @@ use Rattle.sc_node_table.specs.declared.Before.{Before}
 use Rattle.sc_law_walks.proofs.Lemmas.{entered_next, welcomed_place, landed_place, either_way}
 use Rattle.sc_live_journals.specs.groups.Definitions.{HasFrom, IsSlotKept}
 use Rattle.sc_live_journals.proofs.GroupsProofs.SlotLists.{fly_past, fly_pushed, wait_past}
-use Rattle.sc_live_journals.proofs.GroupsProofs.QuietLeaders.{none_mapped, none_first}
+use Rattle.sc_live_journals.proofs.GroupsProofs.LeadersAtRest.{none_mapped, none_first}
 use Rattle.sc_node_table.proofs.Lemmas.{one-shorter}
 use Rattle.sc_live_steps.proofs.FollowingProofs.Lemmas.{none_there as none_is}
 

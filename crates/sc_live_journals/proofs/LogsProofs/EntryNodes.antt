@@ -21,11 +21,11 @@ use Rattle.sc_law_entries.proofs.NamesProofs.Lemmas.{Each-drop}
 use Rattle.sc_law_groups.proofs.GroupProofs.Lemmas.{at_start, first_of, h_of, Kept, IsLater, Moved, push, decided_made, entry_offered, each_got, GivesAllowedOrder, told_induction, HasPlayers, MayTell, KnowsOffspring, moved, MayTick}
 use Rattle.sc_law_groups.specs.whole.Definitions.{BeginsWell, OrdersAreAllowed}
 use Rattle.sc_law_groups.proofs.WholeProofs.Lemmas.{IsNew, IsOldOrNew, goes_on_from, grown, members_stay_rosters, Holds}
-use Rattle.sc_live_journals.proofs.LogsProofs.Journals.{prefix}
-use Rattle.sc_live_journals.proofs.LogsProofs.Nodes.{BringsNodes, HasNodes, SaysNodes, log_nodes}
+use Rattle.sc_live_journals.proofs.LogsProofs.JournalPrefixes.{prefix}
+use Rattle.sc_live_journals.proofs.LogsProofs.NodesInGroups.{BringsNodes, HasNodes, SaysNodes, log_nodes}
 use Rattle.sc_live_journals.proofs.LogsProofs.NamedNodes.{says_nodes}
 use Rattle.sc_live_journals.proofs.LogsProofs.FirstMembers.{first_nodes, OrdersNodes, lines_nodes, wishes_nodes, children_nodes}
-use Rattle.sc_live_journals.proofs.LogsProofs.LogChildren.{child_in}
+use Rattle.sc_live_journals.proofs.LogsProofs.LoggedChildren.{child_in}
 
 -- what policies queue at a tick
 ticks_nodes : (scenario : Scenario) (bases : List Base) (on : Bool) (drawer : Drawer) (rs : List ReplicaState) → MayTick bases (λ (base : Base). (BringsNodes (IsUpTo scenario.nodes))) on drawer rs

@@ -27,8 +27,8 @@ use Rattle.sc_scenario.specs.declared.scenario.scenarios.SchedLine.TheVariants a
 use Rattle.sc_meaning.specs.sound.Definitions.{children_of, line_of}
 use Rattle.sc_law_entries.proofs.NamesProofs.Lemmas.{Each-drop}
 use Rattle.sc_law_groups.proofs.GroupProofs.Lemmas.{TellsSo}
-use Rattle.sc_live_journals.proofs.LogsProofs.Nodes.{BringsNodes, HasNodes, nodes_stay_nodes}
-use Rattle.sc_law_groups.proofs.WholeProofs.Children.{listed}
+use Rattle.sc_live_journals.proofs.LogsProofs.NodesInGroups.{BringsNodes, HasNodes, nodes_stay_nodes}
+use Rattle.sc_law_groups.proofs.WholeProofs.FreshChildren.{listed}
 
 module _ (scenario : Scenario) where
   -- a group at a place of its lines

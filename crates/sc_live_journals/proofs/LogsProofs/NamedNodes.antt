@@ -15,7 +15,7 @@ use Rattle.sc_node_table.specs.Definitions.{sent_all, question, asked_first, ask
 use Rattle.sc_words.proofs.PaxosProofs.Lemmas.{Each-among, Each-append, find_found}
 use Rattle.sc_meaning.specs.sound.Definitions.{Ahead}
 use Rattle.sc_law_groups.proofs.GroupProofs.Lemmas.{Steps, birth, IsSaid, AreSaid, Meets, Speaks}
-use Rattle.sc_live_journals.proofs.LogsProofs.Nodes.{AreNodes, MovesNode, BringsNodes, HasNodes, SaysNodes, IfMoves, nodes_stay_nodes, decision_moves, log_nodes}
+use Rattle.sc_live_journals.proofs.LogsProofs.NodesInGroups.{AreNodes, MovesNode, BringsNodes, HasNodes, SaysNodes, IfMoves, nodes_stay_nodes, decision_moves, log_nodes}
 
 module _ (Home : ℕ → Type 0) where
   abbrev Said : List Mail → Type 0

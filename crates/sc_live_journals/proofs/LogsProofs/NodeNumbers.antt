@@ -7,7 +7,7 @@ use Rattle.sc_node_table.specs.Definitions.{is_node}
 use Rattle.sc_words.proofs.PaxosProofs.Lemmas.{Each-weaker}
 use Rattle.sc_scenario.specs.scenario.Definitions.{IsUpTo}
 use Rattle.sc_live_journals.specs.logs.Definitions.{AreNodes, MovesNode, HeardNodes, LockNodes, HasNodes}
-use Rattle.sc_live_journals.proofs.LogsProofs.Nodes as so
+use Rattle.sc_live_journals.proofs.LogsProofs.NodesInGroups as so
 
 -- a node of a scenario is one
 pub up_to_node : (nodes node : ℕ) → nodes ≤ most_nodes → IsUpTo nodes node → is_node node ≡ true

@@ -7,7 +7,7 @@ use Rattle.sc_meaning.specs.sound.Definitions.{Player, births, as_nodes}
 use Rattle.sc_live_journals.specs.mail.Definitions.{most_after, IsFewReport, SaysFew, JournalsHaveFew, SlotsAreLeft, JournalsKeepIdle}
 use Rattle.sc_live_journals.proofs.MailProofs.BoundsInLists.{FlyTo, WaitTo}
 use Rattle.sc_live_journals.proofs.MailProofs.BoundsInRows.{Early, Late, few_walk, few_births}
-use Rattle.sc_live_journals.proofs.MailProofs.Journals.{Speaks, Law, journals_hold, view_kept}
+use Rattle.sc_live_journals.proofs.MailProofs.WalkedJournals.{Speaks, Law, journals_hold, view_kept}
 use Rattle.sc_live_journals.proofs.MailProofs.PartWalks.{Hears}
 use Rattle.sc_live_journals.proofs.MailProofs.Walks.{Part, next_in}
 

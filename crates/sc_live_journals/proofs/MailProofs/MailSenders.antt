@@ -14,7 +14,7 @@ use Rattle.sc_live_steps.specs.calm.Definitions.{players, Rows}
 use Rattle.sc_live_orderly.specs.Definitions.{AreInTime}
 use Rattle.sc_live_journals.specs.rows.Definitions.{IsSeat}
 use Rattle.sc_live_journals.specs.mail.Definitions.{IsNodesBody, IsClientsBody, IsPlayers, IsPosted, MailIsPosted, MailMayCome, DesksAreNotBorn}
-use Rattle.sc_live_journals.proofs.MailProofs.Journals.{Speaks, Law, Plays, journals_hold}
+use Rattle.sc_live_journals.proofs.MailProofs.WalkedJournals.{Speaks, Law, Plays, journals_hold}
 use Rattle.sc_live_journals.proofs.MailProofs.PartWalks.{hears_all}
 use Rattle.sc_live_journals.proofs.MailProofs.Walks.{PartWalk}
 

@@ -9,12 +9,12 @@ use Rattle.sc_group_table.specs.machine.Definitions.{Group}
 use Rattle.sc_live_steps.specs.following.Definitions.{IsLed, Tells, mark_of, Course, Progress, Sets, members_at, IsLeadOf, AreAt, ElectsBy, next_ballot}
 use Rattle.sc_live_steps.proofs.FollowingProofs.Lemmas.{tables_elect, least_in, same_mark}
 use Rattle.sc_live_journals.specs.rows.Definitions.{IsPast, IsNextLead, ElectionsKeepFollowing, next_in, promise_in, progress_at, elected_course, with_event}
-use Rattle.sc_live_journals.proofs.RowsProofs.GroupBeginnings.{none_some, none_flies}
+use Rattle.sc_live_journals.proofs.RowsProofs.ScenarioGroups.{none_some, none_flies}
 use Rattle.sc_live_journals.proofs.RowsProofs.FollowingRows.{rows_keep}
 use Rattle.sc_live_journals.proofs.RowsProofs.LearntEntries.{learnt_entries_executed}
 use Rattle.sc_live_journals.proofs.RowsProofs.MailRows.{named, row_to, fit, taken, apart_off}
 use Rattle.sc_live_journals.proofs.RowsProofs.ReplicaSteps.{steps_elect}
-pub use Rattle.sc_live_steps.proofs.CalmProofs.CountedEntries.{entered_me}
+pub use Rattle.sc_live_steps.proofs.CalmProofs.CountedPotential.{entered_me}
 pub use Rattle.sc_law_walks.proofs.Lemmas.{entered_name}
 
 true_false : true ≡ false → ⊥

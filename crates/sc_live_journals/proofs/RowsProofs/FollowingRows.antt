@@ -11,7 +11,7 @@ use Rattle.sc_live_steps.specs.calm.Definitions.{players, Rows}
 use Rattle.sc_live_steps.specs.following.Definitions.{Course, Progress, Sets, IsLeadOf, IsRow, IsIdle, Takes, Elects, marks_for}
 use Rattle.sc_live_steps.proofs.FollowingProofs.Lemmas.{self_election-keeps, idle-keeps, takes-keeps, leads-keeps}
 use Rattle.sc_live_journals.specs.rows.Definitions.{view_at, next_in, promise_in, progress_at, marks_at, taken_mark, IsLedBy, IsCourseOf, IsFollowedAt, LeavesLead, RowsKeepFollowing, led_course, elected_course, LedBy, with_event, IsKind, IsReplicasRow}
-use Rattle.sc_live_journals.proofs.RowsProofs.LeaderRows.{leads_too}
+use Rattle.sc_live_journals.proofs.RowsProofs.LeadersInGroups.{leads_too}
 use Rattle.sc_live_journals.proofs.RowsProofs.RowMarks.{rows_are}
 use Rattle.sc_live_journals.proofs.RowsProofs.ReplicaViews.{view_others}
 

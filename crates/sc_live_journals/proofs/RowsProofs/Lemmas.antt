@@ -1,11 +1,11 @@
 -- The lemmas of this part of the crate that others cite, under one name.
 pub use Rattle.sc_live_journals.proofs.RowsProofs.NonPaxosMail.{asides_still as asides_stay_still, asides_still}
-pub use Rattle.sc_live_journals.proofs.RowsProofs.GroupBeginnings.{view_born, none_some, born_facts, born_leads, own_replica, next_born, promise_born}
+pub use Rattle.sc_live_journals.proofs.RowsProofs.ScenarioGroups.{view_born, none_some, born_facts, born_leads, own_replica, next_born, promise_born}
 pub use Rattle.sc_live_journals.proofs.RowsProofs.Elections.{elections_keep as elections_keep_following, entered_name, elections_keep, entered_me}
 pub use Rattle.sc_live_journals.proofs.RowsProofs.EvenGroups.{quiet_rests as quiet_groups_rest, quiet_rests}
-pub use Rattle.sc_live_journals.proofs.RowsProofs.UnmarkedMail.{names_stay, others_hear_nothing, none_marked}
+pub use Rattle.sc_live_journals.proofs.RowsProofs.MailWithoutMarks.{names_stay, others_hear_nothing, none_marked}
 pub use Rattle.sc_live_journals.proofs.RowsProofs.FollowingRows.{rows_keep as rows_keep_following, same_some, rows_keep}
-pub use Rattle.sc_live_journals.proofs.RowsProofs.LeaderRows.{steps_lead}
+pub use Rattle.sc_live_journals.proofs.RowsProofs.LeadersInGroups.{steps_lead}
 pub use Rattle.sc_live_journals.proofs.RowsProofs.LearntEntries.{learnt_entries_executed as learnt_entries_are_executed}
 pub use Rattle.sc_live_journals.proofs.RowsProofs.GroupNamesInRows.{mailed_keeps, order_keeps, made_keeps}
 pub use Rattle.sc_live_journals.proofs.RowsProofs.RowMarks.{rows_are as rows_are_of_groups, rows_are, at_zero}

@@ -16,7 +16,7 @@ use Rattle.sc_live_steps.specs.following.Definitions.{Mark, mark_of, next_by, pr
 use Rattle.sc_live_steps.proofs.FollowingProofs.Lemmas.{rows_lead, reached-least}
 use Rattle.sc_live_journals.specs.rows.Definitions.{view_at, next_in, promise_in, progress_at, marks_at, mark_in, taken_mark, IsLedBy, FollowsOn, IsScene, TakesMail, HoldsReplica, WaitsStill, led_course, with_event, IsReplicasRow}
 use Rattle.sc_live_journals.proofs.RowsProofs.FollowingRows.{rows_keep}
-use Rattle.sc_live_journals.proofs.RowsProofs.LeaderRows.{steps_lead}
+use Rattle.sc_live_journals.proofs.RowsProofs.LeadersInGroups.{steps_lead}
 use Rattle.sc_live_journals.proofs.RowsProofs.RowMarks.{rows_are}
 use Rattle.sc_live_journals.proofs.RowsProofs.PlayerRows.{found_name, rows_replicas}
 

@@ -9,7 +9,7 @@ use Rattle.sc_law_walks.proofs.Lemmas.{Talk}
 use Rattle.sc_live_steps.specs.following.Definitions.{IsAside}
 use Rattle.sc_live_journals.specs.rows.Definitions.{IsUnmoved, AsidesStayStill}
 use Rattle.sc_live_journals.proofs.RowsProofs.StillReplicas as beside
-use Rattle.sc_live_journals.proofs.RowsProofs.UnmarkedMail.{quiet_marks}
+use Rattle.sc_live_journals.proofs.RowsProofs.MailWithoutMarks.{quiet_marks}
 use Rattle.sc_live_journals.proofs.RowsProofs.SilentMail.{AreQuiet, quiet_talk}
 
 module _ (r : ReplicaState) (other : Draw) where

@@ -21,7 +21,7 @@ use Rattle.sc_meaning.specs.sound.Definitions.{Player, player_table, node_seat, 
 use Rattle.sc_live_steps.specs.calm.Definitions.{players, Rows}
 use Rattle.sc_live_steps.specs.following.Definitions.{Asks, Prepares, mark_of}
 use Rattle.sc_live_steps.proofs.FollowingProofs.Lemmas.{same_mark}
-use Rattle.sc_live_journals.proofs.RowsProofs.UnmarkedMail.{client_none}
+use Rattle.sc_live_journals.proofs.RowsProofs.MailWithoutMarks.{client_none}
 
 -- ---- what a row leaves
 

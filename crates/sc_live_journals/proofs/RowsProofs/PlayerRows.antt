@@ -18,7 +18,7 @@ use Rattle.sc_live_steps.specs.calm.Definitions.{Rows}
 use Rattle.sc_live_steps.proofs.CalmProofs.Lemmas.{apart, put_found, put_others, children_found}
 use Rattle.sc_live_steps.specs.following.Definitions.{Mark, Asks, Votes, Tells, Installs, Prepares, Promises, mark_of, named_mark, marks_for}
 use Rattle.sc_live_journals.specs.rows.Definitions.{replicas_of, next_in, promise_in, mark_in, taken_mark, IsSeat, IsIdleIn, LeavesAlone, IsBornOr, LeavesOrCreates, made_children, AreAsBegun, OthersRowsAreIdle, IsReplicasRow, IsWholeState, RowsAreReplicas}
-use Rattle.sc_live_journals.proofs.RowsProofs.UnmarkedMail.{names_stay, others_hear_nothing, none_marked}
+use Rattle.sc_live_journals.proofs.RowsProofs.MailWithoutMarks.{names_stay, others_hear_nothing, none_marked}
 use Rattle.sc_live_journals.proofs.RowsProofs.ReplicaViews.{view_was, view_is, sent_is, new_others, new_is, Same, same_both, all_born, all_or}
 
 -- ---- by the input

@@ -13,7 +13,7 @@ use Rattle.sc_live_steps.specs.calm.Definitions.{Rows}
 use Rattle.sc_live_steps.proofs.CalmProofs.Lemmas.{apart}
 use Rattle.sc_law_walks.proofs.Lemmas.{either_way}
 use Rattle.sc_live_journals.specs.rows.Definitions.{replicas_of, replica_in, view_at, next_in, promise_in, IsSeat, with_event, IsBornOr, AreAsBegun}
-pub use Rattle.sc_live_steps.proofs.CalmProofs.UntakenMail.{new_is}
+pub use Rattle.sc_live_steps.proofs.CalmProofs.UntakenPotential.{new_is}
 
 -- ---- journals
 

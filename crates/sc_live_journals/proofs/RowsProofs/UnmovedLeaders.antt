@@ -13,7 +13,7 @@ use Rattle.sc_meaning.specs.sound.Definitions.{Player}
 use Rattle.sc_live_steps.specs.calm.Definitions.{Rows}
 use Rattle.sc_live_steps.specs.following.Definitions.{IsLed, Course, Progress, Sets, IsLeadOf}
 use Rattle.sc_live_journals.specs.rows.Definitions.{view_at, next_in, promise_in, progress_at, begun_course, IsLedBy, IsFollowedAt, LeavesLead, LeadsStay, with_event, IsReplicasRow}
-use Rattle.sc_live_journals.proofs.RowsProofs.GroupBeginnings.{born_leads}
+use Rattle.sc_live_journals.proofs.RowsProofs.ScenarioGroups.{born_leads}
 use Rattle.sc_live_journals.proofs.RowsProofs.FollowingRows.{same_some, stays_led}
 
 -- ---- one that accepts or promises

@@ -15,7 +15,7 @@ use Rattle.sc_live_journals.specs.scenes.Definitions.{errand_in, errand_taken, L
 use Rattle.sc_live_journals.specs.scenes.CreatedReplicas.{Led, Unled}
 use Rattle.sc_live_journals.proofs.ScenesProofs.RowKinds.{others_same, asides_are}
 use Rattle.sc_live_journals.proofs.ScenesProofs.OrderRows.{rests_by}
-use Rattle.sc_live_journals.proofs.ScenesProofs.MailReceivers.{now_is, was_is, all_sent}
+use Rattle.sc_live_journals.proofs.ScenesProofs.SceneReceivers.{now_is, was_is, all_sent}
 use Rattle.sc_live_journals.proofs.ScenesProofs.SceneViews.{tell}
 
 -- ---- the group

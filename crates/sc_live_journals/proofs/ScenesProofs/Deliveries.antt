@@ -21,13 +21,13 @@ use Rattle.sc_live_steps.specs.calm.Definitions.{players, Rows}
 use Rattle.sc_live_steps.proofs.CalmProofs.Lemmas.{put_others}
 use Rattle.sc_live_steps.proofs.OrdersProofs.Lemmas.{cases-draw}
 use Rattle.sc_live_journals.specs.rows.Definitions.{view_at, with_event}
-use Rattle.sc_live_journals.proofs.ScenesProofs.NewestReplicas.{lead_runs}
+use Rattle.sc_live_journals.proofs.ScenesProofs.NewestLeaders.{lead_runs}
 use Rattle.sc_live_journals.proofs.ScenesProofs.RowPremises.{IsQuestion, leader_asked, found_step}
 use Rattle.sc_live_journals.proofs.ScenesProofs.OrderRows.{taken_on, row_of_comes}
 use Rattle.sc_live_journals.proofs.ScenesProofs.UntakenMail.{takes_one}
-use Rattle.sc_live_journals.proofs.ScenesProofs.ErrandReceivers.{errand_among}
-use Rattle.sc_live_journals.proofs.ScenesProofs.MailReceivers.{errand_unknown, OneOf, all_children, each_is}
-use Rattle.sc_live_journals.proofs.ScenesProofs.PlayerRows.{calm_is}
+use Rattle.sc_live_journals.proofs.ScenesProofs.ErrandLeaders.{errand_among}
+use Rattle.sc_live_journals.proofs.ScenesProofs.SceneReceivers.{errand_unknown, OneOf, all_children, each_is}
+use Rattle.sc_live_journals.proofs.ScenesProofs.SceneRows.{calm_is}
 use Rattle.sc_live_journals.proofs.ScenesProofs.UntouchedBySteps.{taken_back, step_back, step_there, begun_other, begun_there, fresh_errand, asked_fresh, sent_on_fresh}
 use Rattle.sc_live_journals.proofs.ScenesProofs.UntouchedGroups.{Leaves, left_view, left_mail, client_leaves, node_leaves, is_asked, asks_it, aside_is, unknown_apart}
 
@@ -102,7 +102,6 @@ module _ (words : ℕ → ℕ → ℕ × ℕ) (births : List (Seat Player)) (qui
         node_leaves words births rows seat event d.seated d.timely node is step (Some (Got mail)) (ap (option_map Got) at) (ap (λ (x : NodeState × List Mail). (Node x.0, x.1)) e) name same silent
 
     module _ (group : Draw) (t : IsTaking words births rows seat number mail group node) where
-
       named_so : (name : Draw) → name ≡ group → group_of_mail mail.body ≡ Some name
       named_so name i = t.named ∙ ap Some (sym i)
 

@@ -5,7 +5,7 @@ use Rattle.sc_base.specs.Definitions.{Among}
 use Rattle.sc_node_table.specs.Definitions.{ReplicaState, next}
 use Rattle.sc_live_steps.specs.orders.Definitions.{Bond, Unbound, bond_of, works}
 use Rattle.sc_live_journals.specs.scenes.Definitions.{is_running, lead_of, newest_of, bond_there, works_of, bond_by, work_at}
-use Rattle.sc_live_journals.proofs.ScenesProofs.NewestReplicas.{lead_runs, none_runs, lead_same, newest_same, IsNewest, newest_is}
+use Rattle.sc_live_journals.proofs.ScenesProofs.NewestLeaders.{lead_runs, none_runs, lead_same, newest_same, IsNewest, newest_is}
 
 abbrev pub Nodes : Type 0
 Nodes = ℕ → Option ReplicaState
@@ -61,7 +61,6 @@ same_part one other nodes same =
 -- one more replica, at a node that had none, free, and without work
 module _ (one other : Nodes) (nodes : List ℕ) (who : ℕ) (born : ReplicaState) (all : AreAll one nodes) (among : Among who nodes) (none : one who ≡ None) (makes : other who ≡ Some born)
     (same : (node : ℕ) → (node ≡ who → ⊥) → other node ≡ one node) (free : bond_of born.group.core ≡ Unbound) (idle : works born ≡ []) (newest : AreBound one Unbound) where
-
   all_after : AreAll other nodes
   all_after node r has = elim (cases_eq node who) [
     | inl e ↦ subst (λ n. Among n nodes) (sym e) among

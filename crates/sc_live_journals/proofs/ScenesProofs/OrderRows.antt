@@ -12,8 +12,8 @@ use Rattle.sc_live_journals.specs.rows.Definitions.{with_event}
 use Rattle.sc_live_journals.proofs.RowsProofs.Lemmas.{found_name}
 use Rattle.sc_live_journals.specs.scenes.Definitions.{scene_at, errand_in, taken_errand, errands_sent, IsSceneKind, IsOfGroup, IsTablesRow, IsTaking, Stays, IsLeadsRow, IsEventOf, KeepsStage, ComesTo, ComesToLeader, LeadersKeep, IsBeside, Led, Unled, ComesBeside, ComesToNone, AsidesKeep}
 use Rattle.sc_live_journals.proofs.ScenesProofs.RowKinds.{only_as, asides_stay, asides_are, leaders_are}
-use Rattle.sc_live_journals.proofs.ScenesProofs.MailReceivers.{takes, misses}
-use Rattle.sc_live_journals.proofs.ScenesProofs.PlayerRows.{rows_are}
+use Rattle.sc_live_journals.proofs.ScenesProofs.SceneReceivers.{takes, misses}
+use Rattle.sc_live_journals.proofs.ScenesProofs.SceneRows.{rows_are}
 
 -- a row that does nothing of the order leaves the stage
 pub rests_by : (words : ℕ → ℕ → ℕ × ℕ) (births : List (Seat Player)) (rows : Rows) (seat : Seat Player) (event : Event OrderLine) (group : Draw)

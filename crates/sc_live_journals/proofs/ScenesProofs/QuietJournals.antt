@@ -17,7 +17,7 @@ use Rattle.sc_live_steps.proofs.OrdersProofs.Lemmas.{still-only, quiet-still, le
 use Rattle.sc_live_journals.specs.scenes.Definitions.{is_running, lead_of, works_of, work_at, scene_at, StageAfter, GoesToActor, HasNothing, QuietScenesAreOver, IsWork, WorksFlyLone, OrdersBeginInQuiet}
 use Rattle.sc_live_journals.proofs.ScenesProofs.VotesAndOrders.{orders_keep}
 use Rattle.sc_live_journals.proofs.ScenesProofs.UntakenMail.{errands-append}
-use Rattle.sc_live_journals.proofs.ScenesProofs.NewestReplicas.{lead_runs}
+use Rattle.sc_live_journals.proofs.ScenesProofs.NewestLeaders.{lead_runs}
 use Rattle.sc_live_journals.proofs.ScenesProofs.SceneViews.{tell}
 
 -- ---- errands

@@ -22,8 +22,8 @@ use Rattle.sc_live_journals.proofs.ScenesProofs.OrderRows.{row_of_comes, leaders
 use Rattle.sc_live_journals.proofs.ScenesProofs.UntakenMail.{takes_one}
 use Rattle.sc_live_journals.proofs.ScenesProofs.UnrelatedRows.{others_keep}
 use Rattle.sc_live_journals.proofs.ScenesProofs.QuietJournals.{begin_in_quiet}
-use Rattle.sc_live_journals.proofs.ScenesProofs.ErrandReceivers.{errand_among, answers_reach}
-use Rattle.sc_live_journals.proofs.ScenesProofs.PlayerRows.{calm_is}
+use Rattle.sc_live_journals.proofs.ScenesProofs.ErrandLeaders.{errand_among, answers_reach}
+use Rattle.sc_live_journals.proofs.ScenesProofs.SceneRows.{calm_is}
 use Rattle.sc_live_journals.proofs.ScenesProofs.SceneViews.{tell}
 use Rattle.sc_live_journals.proofs.RowsProofs.Lemmas.{none_some}
 

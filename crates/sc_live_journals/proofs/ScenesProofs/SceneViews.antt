@@ -10,7 +10,7 @@ use Rattle.sc_meaning.specs.sound.Definitions.{Player}
 use Rattle.sc_live_steps.specs.calm.Definitions.{Rows}
 use Rattle.sc_live_journals.specs.rows.Definitions.{replica_in, view_at, IsSeat}
 use Rattle.sc_live_journals.specs.scenes.Definitions.{is_running, bond_there, works_of, bond_by, work_at, scene_at, LeadsAlone, NoneRuns, ScenesDescribe}
-use Rattle.sc_live_journals.proofs.ScenesProofs.NewestReplicas.{lead_found, lead_none}
+use Rattle.sc_live_journals.proofs.ScenesProofs.NewestLeaders.{lead_found, lead_none}
 use Rattle.sc_live_journals.proofs.ScenesProofs.GroupParts.{AreAll, newest_bound, newest_some}
 
 number_among : (births : List (Seat Player)) (seat : Seat Player) → Among seat births → Among seat.who (numbers_of births)

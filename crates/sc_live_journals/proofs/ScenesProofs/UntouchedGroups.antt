@@ -21,7 +21,7 @@ use Rattle.sc_live_steps.specs.calm.Definitions.{players, Rows}
 use Rattle.sc_live_steps.proofs.OrdersProofs.Lemmas.{offer_is, watch_row_is}
 use Rattle.sc_live_journals.specs.rows.Definitions.{view_at, IsSeat, with_event}
 use Rattle.sc_live_journals.proofs.ScenesProofs.RowPremises.{IsQuestion}
-use Rattle.sc_live_journals.proofs.ScenesProofs.MailReceivers.{now_is, was_is, all_sent}
+use Rattle.sc_live_journals.proofs.ScenesProofs.SceneReceivers.{now_is, was_is, all_sent}
 use Rattle.sc_live_journals.proofs.ScenesProofs.UntouchedBySteps.{Questions}
 pub use Rattle.sc_words.proofs.PaxosProofs.ListLemmas.{Each-filter as each_filter}
 

@@ -14,8 +14,8 @@ use Rattle.sc_live_journals.specs.rows.Definitions.{with_event}
 use Rattle.sc_live_journals.specs.scenes.Definitions.{scene_at, errands_sent, IsSceneKind, IsOfGroup, IsTablesRow, LeadsAlone, Stays, IsEntrysRow, StageAfter, KeepsStage, IsBeside, Led, Unled, IsCounting, IsEntry, StaysIn, VotesKeep, IsOrdered, OrdersKeep}
 use Rattle.sc_live_journals.proofs.ScenesProofs.RowKinds.{only_as, asides_stay, asides_are, leaders_are, entries_are}
 use Rattle.sc_live_journals.proofs.ScenesProofs.OrderRows.{IsOnward, rests_by, steps_by, event_of, after, row_of_comes, errand_is, lead_rests}
-use Rattle.sc_live_journals.proofs.ScenesProofs.MailReceivers.{rows_taken}
-use Rattle.sc_live_journals.proofs.ScenesProofs.PlayerRows.{rows_are}
+use Rattle.sc_live_journals.proofs.ScenesProofs.SceneReceivers.{rows_taken}
+use Rattle.sc_live_journals.proofs.ScenesProofs.SceneRows.{rows_are}
 
 -- one that flies alone is all the work
 pub flies_work : (flight : Flight Command) (work : Work) (r : ReplicaState) → FliesLone flight r → work_by flight.value ≡ Some work → works r ≡ work ∷ []

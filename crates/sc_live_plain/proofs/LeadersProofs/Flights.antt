@@ -11,7 +11,7 @@ use Rattle.sc_paxos_law.proofs.Lemmas.{member-among}
 use Rattle.sc_live_plain.proofs.RowsProofs.SlotCounts.{one_yes, one_no, count-cons}
 use Rattle.sc_live_plain.proofs.LeadersProofs.LeadingReplicas.{flights_at}
 use Rattle.sc_live_plain.proofs.RowsProofs.Lists.{some_is}
-use Rattle.sc_live_steps.proofs.FollowingProofs.CountedVotes.{with_own}
+use Rattle.sc_live_steps.proofs.FollowingProofs.KeptVotes.{with_own}
 use Rattle.sc_live_steps.proofs.FollowingProofs.Lemmas.{with_kept}
 
 -- ---- the flights

@@ -14,7 +14,7 @@ use Rattle.sc_live_plain.proofs.LeadersProofs.LeadingReplicas.{early_taken, IsHe
 use Rattle.sc_live_plain.proofs.LeadersProofs.LeaderExecutions.{IsRun, pumped_run}
 use Rattle.sc_live_plain.proofs.RowsProofs.RepeatedMail.{mail_of, among_push, last_among}
 use Rattle.sc_live_plain.proofs.RowsProofs.Lists.{some_is}
-use Rattle.sc_law_groups.proofs.GroupProofs.Parts.{Each-without_request as out_calls}
+use Rattle.sc_law_groups.proofs.GroupProofs.WithoutOne.{Each-without_request as out_calls}
 
 -- ---- the queued requests of a client
 

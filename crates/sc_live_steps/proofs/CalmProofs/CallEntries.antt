@@ -12,8 +12,8 @@ use Rattle.sc_node_table.specs.declared.Before.{Before}
 use Rattle.sc_node_table.specs.Definitions.{entered, effect_reported, answered_or_put_back, announced, answer_of, executed_one, admits_requests, ReplicaState, Place, name_of, members, forgotten, before_of, went_on, spoken_mails, spoken}
 use Rattle.sc_live_steps.specs.calm.Definitions.{IsServed, said_place, newcomers, IsCounting, LeadsOn, Ways, answer_owes, mail_owes, place_owes}
 use Rattle.sc_live_steps.proofs.CalmProofs.PotentialSums.{sent_owes}
-use Rattle.sc_live_steps.proofs.CalmProofs.LearntEntries.{begun_owes}
-use Rattle.sc_live_steps.proofs.CalmProofs.CountedEntries.{counted_owes}
+use Rattle.sc_live_steps.proofs.CalmProofs.LearntPotential.{begun_owes}
+use Rattle.sc_live_steps.proofs.CalmProofs.CountedPotential.{counted_owes}
 use Rattle.sc_live_steps.proofs.CalmProofs.MemberChanges.{among_member, same_new}
 
 -- ---- what the machine makes of it

@@ -7,9 +7,9 @@ use Rattle.sc_words.specs.paxos.Definitions.{flight_at, without_flight}
 use Rattle.sc_node_table.specs.Definitions.{entered, looked, executed_one, has_room, next_ready, ReplicaState, Place, next, members, at_slot, with_slot, without_slot}
 use Rattle.sc_law_walks.specs.Definitions.{IfThere}
 use Rattle.sc_live_steps.specs.calm.Definitions.{AreBounded, IsServed, IsServedCall, ServesAll, IsPaid, MayGoOn, ArePaid, AllPaid, IsCounting, readied_at, DecidesFreely, Ways}
-use Rattle.sc_live_steps.proofs.CalmProofs.CountedEntries.{counted_ends, left_same, looked_same}
+use Rattle.sc_live_steps.proofs.CalmProofs.CountedPotential.{counted_ends, left_same, looked_same}
 use Rattle.sc_live_steps.proofs.CalmProofs.CallEntries.{call_core, call_leads, call_said}
-use Rattle.sc_live_steps.proofs.CalmProofs.ExecutedEntries.{near, after_counting, execution_owes}
+use Rattle.sc_live_steps.proofs.CalmProofs.PaidEntries.{near, after_counting, execution_owes}
 use Rattle.sc_live_steps.proofs.FollowingProofs.FlightSlots.{slot_in as found_with}
 
 -- ---- what holds of each holds of what is found, and without one or with one more

@@ -7,7 +7,7 @@ use Rattle.sc_base.specs.Definitions.{same_draw, is_member}
 use Rattle.sc_node_table.specs.Definitions.{stopped, looked, jumped, question, asked_node, ReplicaState, Place, next, members, settled, last_slot, forgotten, looked_up, took_over, install_row, asked_next, elsewhere_row}
 use Rattle.sc_live_steps.specs.calm.Definitions.{AsksAs, Ways, body_owes, asked_owes, mail_owes, replica_owes, idle_owes, election, place_owes}
 use Rattle.sc_live_steps.proofs.CalmProofs.PotentialSums.{sent_owes, idle_most}
-use Rattle.sc_live_steps.proofs.CalmProofs.LearntEntries.{looked_owes}
+use Rattle.sc_live_steps.proofs.CalmProofs.LearntPotential.{looked_owes}
 
 -- a state that is taken over leaves what waits
 jumped_owes : (most slot : ℕ) (base : Base) (sets : List (List ℕ)) (r : ReplicaState) → (replica_owes most (jumped slot base sets r) ≡ replica_owes most r) × ((jumped slot base sets r).running ≡ r.running)
@@ -15,7 +15,6 @@ unfolding jumped forgotten
 jumped_owes most slot base sets r = (refl, refl)
 
 module _ (ways : Ways) where
-
   pub looks_up : (from : ℕ) (r : ReplicaState) (mails : List Mail) → r.running ≡ false → place_owes ways (looked_up from (r, mails)) ≤ replica_owes ways.most r + election + sum_by (mail_owes ways) mails
   unfolding looked_up
   looks_up from r mails off = by (is_member (members r) from) (looked_owes ways r mails off)

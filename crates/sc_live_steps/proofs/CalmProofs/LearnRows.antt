@@ -8,8 +8,8 @@ use Rattle.sc_words.specs.paxos.Definitions.{LeaderState, new_leader, must}
 use Rattle.sc_node_table.specs.Definitions.{open_nodes, elected, is_among, looked_for, looked, executed_one, executed_ready, all_ready, executed, sent, sent_all, pumped, ReplicaState, Place, Executed, childless, name_of, next, members, last_slot, learn_row}
 use Rattle.sc_law_walks.proofs.Lemmas.{idle_ready, idle_pump}
 use Rattle.sc_live_steps.specs.calm.Definitions.{AreNines, Follows, Ways, place_owes}
-use Rattle.sc_live_steps.proofs.CalmProofs.Pumps.{pump_owes}
-use Rattle.sc_live_steps.proofs.CalmProofs.LearntEntries.{learnt_ends, learnt_owes}
+use Rattle.sc_live_steps.proofs.CalmProofs.PumpPotential.{pump_owes}
+use Rattle.sc_live_steps.proofs.CalmProofs.LearntPotential.{learnt_ends, learnt_owes}
 
 -- one that does not run, or was just elected
 abbrev pub IsFresh : Place → Type 0

@@ -7,7 +7,7 @@ use Rattle.sc_words.specs.paxos.Definitions.{new_leader}
 use Rattle.sc_node_table.specs.Definitions.{open_nodes, elected, is_among, looked_for, looked, executed_one, executed, sent, sent_all, pumped, ReplicaState, Place, Executed, childless, name_of, next, members, last_slot, learn_row, mailed}
 use Rattle.sc_live_steps.specs.calm.Definitions.{led_owes, StaysBehind, LearnsLed, LedLearnsLower, Ways}
 use Rattle.sc_law_walks.proofs.Lemmas.{idle_ready, idle_pump}
-use Rattle.sc_live_steps.proofs.CalmProofs.LearntEntries.{learnt_ends}
+use Rattle.sc_live_steps.proofs.CalmProofs.LearntPotential.{learnt_ends}
 
 module _ (ways : Ways) where
   -- ---- one that looks for a leader and does not lead

@@ -1,18 +1,18 @@
 -- The lemmas of this part of the crate that others cite, under one name.
 pub use Rattle.sc_live_steps.proofs.CalmProofs.ChartChanges.{charts_may_change}
 pub use Rattle.sc_live_steps.proofs.CalmProofs.ClientRows.{clients as clients_lower}
-pub use Rattle.sc_live_steps.proofs.CalmProofs.ExecutedEntries.{lone_paid as lone_entries_are_paid}
-pub use Rattle.sc_live_steps.proofs.CalmProofs.RowPremises.{taken_mail as taken_mail_lowers, kept_calm as kept_calm_is_measured}
+pub use Rattle.sc_live_steps.proofs.CalmProofs.PaidEntries.{lone_paid as lone_entries_are_paid}
+pub use Rattle.sc_live_steps.proofs.CalmProofs.PaidRows.{taken_mail as taken_mail_lowers, kept_calm as kept_calm_is_measured}
 pub use Rattle.sc_live_steps.proofs.CalmProofs.LearnRows.{unbound_new}
-pub use Rattle.sc_live_steps.proofs.CalmProofs.LearntEntries.{count_numbers}
+pub use Rattle.sc_live_steps.proofs.CalmProofs.LearntPotential.{count_numbers}
 pub use Rattle.sc_live_steps.proofs.CalmProofs.LedReplicas.{led_learns as led_learns_lower}
-pub use Rattle.sc_live_steps.proofs.CalmProofs.CreatedReplicas.{made_owe as made_replicas_owe}
-pub use Rattle.sc_live_steps.proofs.CalmProofs.MailRows.{answers as answers_lower, votes as votes_lower, learns as learns_lower, asks as asks_lower, moves as moves_lower, counts as counts_lower, old_learns as old_learns_lower}
+pub use Rattle.sc_live_steps.proofs.CalmProofs.CreatedPotential.{made_owe as made_replicas_owe}
+pub use Rattle.sc_live_steps.proofs.CalmProofs.MailPotential.{answers as answers_lower, votes as votes_lower, learns as learns_lower, asks as asks_lower, moves as moves_lower, counts as counts_lower, old_learns as old_learns_lower}
 pub use Rattle.sc_live_steps.proofs.CalmProofs.NodePotential.{nodes_lower, raise_little as nodes_raise_little}
 pub use Rattle.sc_live_steps.proofs.CalmProofs.PartyPotential.{parties_lower, parties_raise_little, led_parties_lower, children_found, put_others, put_found, apart}
 pub use Rattle.sc_live_steps.proofs.CalmProofs.ClientReach.{clients_pay}
 pub use Rattle.sc_live_steps.proofs.CalmProofs.RestingJournals.{resting_owes_little, kept_ends_quiet as kept_calm_ends_quiet, quiet_mail}
 pub use Rattle.sc_live_steps.proofs.CalmProofs.CallVotes.{ready_is}
-pub use Rattle.sc_live_steps.proofs.CalmProofs.UntakenMail.{strangers_lower}
-pub use Rattle.sc_live_steps.proofs.CalmProofs.ReplicasAtBirth.{begin_at_rest as replicas_begin_at_rest, first_leads as first_members_lead, begin_at_rest, first_leads}
-pub use Rattle.sc_live_steps.proofs.CalmProofs.Laws.{orders_raise_little}
+pub use Rattle.sc_live_steps.proofs.CalmProofs.UntakenPotential.{strangers_lower}
+pub use Rattle.sc_live_steps.proofs.CalmProofs.BornReplicas.{begin_at_rest as replicas_begin_at_rest, first_leads as first_members_lead, begin_at_rest, first_leads}
+pub use Rattle.sc_live_steps.proofs.CalmProofs.CalmLaws.{orders_raise_little}

@@ -9,8 +9,8 @@ use Rattle.sc_group_table.specs.machine.Definitions.{Group, applied, ordered, re
 use Rattle.sc_node_table.specs.declared.Before.{Before}
 use Rattle.sc_node_table.specs.Definitions.{entered, order_result, effect_reported, answered_or_put_back, announced, answer_of, executed_one, ReplicaState, Place, members, forgotten, before_of, begun_reported, went_on, spoken_mails, spoken}
 use Rattle.sc_live_steps.specs.calm.Definitions.{said_place, newcomers, IsChange, LeadsOn, StopsAfter, Ways, offered_owes, mail_owes, place_owes}
-use Rattle.sc_live_steps.proofs.CalmProofs.LearntEntries.{effect_owes, begun_owes}
-use Rattle.sc_live_steps.proofs.CalmProofs.CountedEntries.{counted_owes, leaving_owes}
+use Rattle.sc_live_steps.proofs.CalmProofs.LearntPotential.{effect_owes, begun_owes}
+use Rattle.sc_live_steps.proofs.CalmProofs.CountedPotential.{counted_owes, leaving_owes}
 
 -- ---- whom an entry adds
 

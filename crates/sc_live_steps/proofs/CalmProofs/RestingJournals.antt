@@ -14,7 +14,7 @@ use Rattle.sc_client_table.proofs.TableProofs.TurnLemmas.{sends_in_turn}
 use Rattle.sc_meaning.specs.sound.Definitions.{Player, player_table, receiver_of}
 use Rattle.sc_live_steps.specs.calm.Definitions.{players, Chart, player_owes, run_owes, waiting_one, command_owes, mail_owes, flights_owe, ready_owes, replica_owes, IsAtRest, search_owes, IsResting, birth_owes, births_owe, RestingOwesLittle, KeptCalmEndsQuiet, Rows}
 use Rattle.sc_live_steps.proofs.CalmProofs.ChartChanges.{led_idle}
-use Rattle.sc_live_steps.proofs.CalmProofs.RowPremises.{kept_calm}
+use Rattle.sc_live_steps.proofs.CalmProofs.PaidRows.{kept_calm}
 
 -- ---- mail
 

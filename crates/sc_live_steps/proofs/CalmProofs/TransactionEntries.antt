@@ -14,7 +14,7 @@ use Rattle.sc_node_table.specs.Definitions.{sent, entered, order_result, effect_
 use Rattle.sc_law_walks.proofs.Lemmas.{vote_step, decided_walk, finish_step}
 use Rattle.sc_live_steps.specs.calm.Definitions.{AreBounded, said_place, newcomers, Ways, mail_owes}
 use Rattle.sc_live_steps.proofs.CalmProofs.PotentialSums.{sent_owes}
-use Rattle.sc_live_steps.proofs.CalmProofs.LearntEntries.{filter_short, begun_owes}
+use Rattle.sc_live_steps.proofs.CalmProofs.LearntPotential.{filter_short, begun_owes}
 use Rattle.sc_live_steps.proofs.CalmProofs.MemberChanges.{among_member, same_new, one_new, entered_members, ordered_members}
 use Rattle.sc_paxos_law.proofs.Lemmas.{Among-left as among_more}
 

@@ -11,7 +11,7 @@ use Rattle.sc_words.specs.paxos.Definitions.{without_flight}
 use Rattle.sc_live_steps.specs.calm.Definitions.{IsPaid, LeavesFew, EndsAfter, newcomers, IsCounting, LeadsOn, StopsAfter, readied_at}
 use Rattle.sc_live_steps.specs.entries.LoneEntries.{IsEntry, OrderEntriesCount}
 use Rattle.sc_live_steps.proofs.EntriesProofs.EntryMembers.{join-stands, join-keeps, leave-stands, split-stands, split-keeps, vote-waits, watch-stands, finish-keeps}
-use Rattle.sc_live_steps.proofs.EntriesProofs.LoneEntries.{leads_on}
+use Rattle.sc_live_steps.proofs.EntriesProofs.CoordinatorQuestions.{leads_on}
 
 module _ (q : ReplicaState) (stands : q.group.core.gone ≡ None) (mine : is_member (members q) q.me ≡ true) (flights : without_flight (next q) q.leader.flights ≡ []) (alone : without_slot q.ready (next q) ≡ []) (backlog : q.backlog ≡ []) where
   leads_if : (command : Command) → IsCounting command q → (applied q.group command).0.core.gone ≡ q.group.core.gone → is_member (applied q.group command).0.core.members q.me ≡ true → LeadsOn command q

@@ -8,7 +8,7 @@ use Rattle.sc_words.specs.paxos.Definitions.{IsAtLeast}
 use Rattle.sc_words.proofs.PaxosProofs.Lemmas.{at_least_below, at_least_from_below, at_least_itself, not_both, Each-among, Each-weaker}
 use Rattle.sc_live_steps.specs.following.Definitions.{Mark, Asks, Votes, Tells, Installs, Prepares, Promises, next_by, promise_by, reached, pledged, AreFit, AreAskedFirst, Progress, Sets, members_at, IsOpen, IsKnown, IsFollowing, IsRow, IsLast, Elects}
 use Rattle.sc_live_steps.proofs.FollowingProofs.Marks.{reached-append, pledged-append, fit-append, fit-asks, pledged-most, IsLater}
-use Rattle.sc_live_steps.proofs.FollowingProofs.NodeRows.{goes, each-row, asked-row}
+use Rattle.sc_live_steps.proofs.FollowingProofs.NodeMarks.{goes, each-row, asked-row}
 use Rattle.sc_live_steps.proofs.FollowingProofs.LeaderRows.{least_in}
 use Rattle.sc_live_steps.proofs.FollowingProofs.LeaderRows.{both_no as true_false}
 

@@ -16,7 +16,7 @@ use Rattle.sc_live_steps.proofs.FollowingProofs.CountedEntries.{entries_lead}
 use Rattle.sc_live_steps.proofs.FollowingProofs.ExecutedEntries.{stays_led, ready_of, ready_leads}
 use Rattle.sc_live_steps.proofs.FollowingProofs.FlightSlots.{flight_out, slot_out}
 use Rattle.sc_live_steps.proofs.FollowingProofs.FlightOrder.{apart_without, IsBounded, pump_orderly}
-use Rattle.sc_live_steps.proofs.FollowingProofs.LeaderVotes.{vote_row}
+use Rattle.sc_live_steps.proofs.FollowingProofs.TakenVotes.{vote_row}
 
 -- ---- where it leads
 

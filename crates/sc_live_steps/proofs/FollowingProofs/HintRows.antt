@@ -8,7 +8,7 @@ use Rattle.sc_words.specs.paxos.Definitions.{below}
 use Rattle.sc_words.proofs.PaxosProofs.Lemmas.{at_least_below}
 use Rattle.sc_live_steps.specs.following.Definitions.{Mark, promise_by, reached, pledged, Course, Progress, Sets, members_at, IsOpen, IsFollowing, Tellers, hint_by, hinted, MayLeave, AreHeeded, IsOther, IsHeeding, GoesBy, LeavesLast, HintsAreKept, NodesHeed, IsRow, IsIdle, IsCount, Takes, told_from, Leads, Elects, begun}
 use Rattle.sc_live_steps.proofs.FollowingProofs.Hints.{hinted-append, heeded-append, heeded-change, no_more, count-heeded, count-hinted, offers-heeded, offers-hinted, told-heeded, told-hinted}
-use Rattle.sc_live_steps.proofs.FollowingProofs.NodeRows.{counts_of, takes-keeps}
+use Rattle.sc_live_steps.proofs.FollowingProofs.NodeMarks.{counts_of, takes-keeps}
 use Rattle.sc_live_steps.proofs.FollowingProofs.LeaderRows.{leads-keeps}
 use Rattle.sc_live_steps.proofs.FollowingProofs.Marks.{pledged-most}
 

@@ -15,10 +15,10 @@ use Rattle.sc_law_walks.proofs.Lemmas.{idle_ready}
 use Rattle.sc_live_steps.specs.following.Definitions.{Dated, marks_in, from_slot_of, dated_of, dated_for, AreLow, IsNoPrepare, AsksLow, RowsAskNext, Mark, Asks, Tells, Installs, Prepares, mark_of, reached, Course, Sets, IsLed, IsNext, AreNext, marks_for}
 use Rattle.sc_live_steps.proofs.FollowingProofs.QueueingRows.{aside_is, order_is}
 use Rattle.sc_live_steps.proofs.FollowingProofs.CountedEntries.{entered_keeps, landed_told, ends, entries_lead}
-use Rattle.sc_live_steps.proofs.FollowingProofs.PrepareSlots.{low-append, none_low, nothing, prepares_are_known}
+use Rattle.sc_live_steps.proofs.FollowingProofs.AskedSlots.{low-append, none_low, nothing, prepares_are_known}
 use Rattle.sc_live_steps.proofs.FollowingProofs.EntryMail.{with_state, with_both}
 use Rattle.sc_live_steps.proofs.FollowingProofs.ExecutedEntries.{stays_led, ready_of}
-use Rattle.sc_live_steps.proofs.FollowingProofs.LeaderVotes.{vote_row}
+use Rattle.sc_live_steps.proofs.FollowingProofs.TakenVotes.{vote_row}
 use Rattle.sc_live_steps.proofs.FollowingProofs.OutsideMail.{turned_kept, spoken_kept, ended_kept, announced_kept}
 
 -- ---- the marks of mails behind others

@@ -8,7 +8,7 @@ use Rattle.sc_words.specs.paxos.Definitions.{IsAtLeast}
 use Rattle.sc_words.proofs.PaxosProofs.Lemmas.{at_least_itself, Each-append, Each-weaker}
 use Rattle.sc_live_steps.specs.following.Definitions.{Mark, Asks, Votes, Tells, Installs, Prepares, Promises, reached, pledged, AreFit, AreAskedFirst, Progress, Sets, members_at, IsOpen, IsKnown, IsVoting, HasPromised, IsPromising, IsFollowing, IsRow, IsCount, IsElsewhere, told_from, IsCounted, IsKept, Leads}
 use Rattle.sc_live_steps.proofs.FollowingProofs.Marks.{among-left, among-right, among-either, reached-append, pledged-append, fit-append, reached-least, pledged-most, stands, count-reached, count-pledged, IsLater, IsNoVote, asked-none, asked-votes, offers-fit, offers-reached, offers-pledged, offers-each, told-each, told-own, told-prepares, IsTold, told-all}
-use Rattle.sc_live_steps.proofs.FollowingProofs.NodeRows.{goes, stays, each-row, asked-row}
+use Rattle.sc_live_steps.proofs.FollowingProofs.NodeMarks.{goes, stays, each-row, asked-row}
 
 -- the least of some members is one
 pub least_in : (members : List ℕ) → 1 ≤ length members → is_member members (least_of members) ≡ true

@@ -7,7 +7,7 @@ use Rattle.sc_node_table.specs.Definitions.{listed}
 use Rattle.sc_words.proofs.PaxosProofs.Lemmas.{Each-append, Each-weaker}
 use Rattle.sc_live_steps.specs.following.Definitions.{IsNoPrepare, Mark, Asks, Votes, Tells, Installs, Prepares, Promises, reached, AreFit, Course, Sets, members_at, IsOtherPrepare, IsOwnPrepare, ArePromisedLast, AreLearntLast, IsCount, IsOffer, welcome, reported_of, told_from}
 use Rattle.sc_live_steps.proofs.FollowingProofs.Marks.{reached-least, offers-each}
-pub use Rattle.sc_live_steps.proofs.FollowingProofs.PrepareSlots.{count_none}
+pub use Rattle.sc_live_steps.proofs.FollowingProofs.AskedSlots.{count_none}
 use Rattle.sc_live_steps.proofs.FollowingProofs.LeastMembers.{append_one as append_marks}
 
 -- ---- lists

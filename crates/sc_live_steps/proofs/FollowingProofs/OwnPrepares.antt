@@ -7,7 +7,7 @@ use Rattle.sc_node_table.specs.Definitions.{listed, next}
 use Rattle.sc_words.specs.paxos.Definitions.{below, IsAtLeast}
 use Rattle.sc_words.proofs.PaxosProofs.Lemmas.{at_least_below, at_least_from_below, not_both, Each-append, Each-split, Each-weaker}
 use Rattle.sc_live_steps.specs.following.Definitions.{IsNoPrepare, Mark, Asks, Votes, Tells, Installs, Prepares, Promises, Progress, Sets, IsKnown, IsFollowing, IsOtherPrepare, IsOwnPrepare, IsHome, ArePromisedLast, AreLearntLast, IsOwnFirst, CountsOwn, CountsNone, OwnIsKept, LeadersCountOwn, IsRow, IsIdle, IsCount, answered, Takes, told_from, Leads, Elects}
-use Rattle.sc_live_steps.proofs.FollowingProofs.NodeRows.{counts_of, each-row}
+use Rattle.sc_live_steps.proofs.FollowingProofs.NodeMarks.{counts_of, each-row}
 use Rattle.sc_live_steps.proofs.FollowingProofs.Marks.{offers-each, told-each, told-own}
 use Rattle.sc_live_steps.proofs.FollowingProofs.OwnMarks.{Behind, IsNoPromise, IsNotLast, all_neither, behind_none, count_none, each_all, last_append, last_counts, last_tail, last_told, no_promised, none_own, not_last, promised_append, promised_left, promised_none}
 

@@ -17,7 +17,7 @@ use Rattle.sc_live_steps.proofs.FollowingProofs.ExecutedEntries.{none_leads, pum
 use Rattle.sc_live_steps.proofs.FollowingProofs.LeaderTables.{Counts, leads_into}
 use Rattle.sc_live_steps.proofs.FollowingProofs.Offers.{pumps_offer}
 use Rattle.sc_live_steps.proofs.FollowingProofs.OutsideMail.{one_same, question_none}
-use Rattle.sc_live_steps.proofs.FollowingProofs.LeaderVotes.{counts_beside, vote_leads}
+use Rattle.sc_live_steps.proofs.FollowingProofs.TakenVotes.{counts_beside, vote_leads}
 
 -- ---- what changes nothing in flight, and what is offered then
 

@@ -12,7 +12,7 @@ use Rattle.sc_live_steps.proofs.FollowingProofs.ExecutedEntries.{stays_led, read
 use Rattle.sc_live_steps.proofs.FollowingProofs.FlightSlots.{slot_out}
 use Rattle.sc_live_steps.proofs.FollowingProofs.LeaderTables.{none_taken}
 use Rattle.sc_live_steps.proofs.FollowingProofs.Offers.{pumps_offer}
-use Rattle.sc_live_steps.proofs.FollowingProofs.LeaderVotes.{vote_row}
+use Rattle.sc_live_steps.proofs.FollowingProofs.TakenVotes.{vote_row}
 pub use Rattle.sc_law_walks.proofs.CoreWalks.{noted_core as note_core, served_core, called_core}
 
 -- ---- calls and fillers leave a group's core as it is

@@ -15,7 +15,7 @@ use Rattle.sc_node_table.specs.Definitions.{is_of_kind, has_act, act_queued, sen
 use Rattle.sc_words.specs.paxos.Definitions.{flight_at}
 use Rattle.sc_live_steps.specs.orders.Definitions.{Turn, is_watch, Asking, Bound, Question, Elsewhere, Work, Answers, Records, Ends, IsOnly, turn_of, bond_in, is_yes, is_cast_yes, work_by, works_in, works_flying, works_ready, works, errand_by, errands_for, Works, MayFile, TablesFile, TablesPass, TablesAskOn}
 use Rattle.sc_live_steps.proofs.OrdersProofs.Errands.{one-errand}
-use Rattle.sc_live_steps.proofs.OrdersProofs.Pumps.{pumps-keep}
+use Rattle.sc_live_steps.proofs.OrdersProofs.LoneWorkPumps.{pumps-keep}
 
 -- ---- what has no work has no command of any kind
 

@@ -15,7 +15,7 @@ use Rattle.sc_law_walks.proofs.Lemmas.{idle_pump, none_ready as ready_still}
 use Rattle.sc_law_walks.specs.Definitions.{GoesOn}
 use Rattle.sc_live_steps.specs.orders.Definitions.{Work, works_in, works_flying, works_ready, works, errands_for, IsUnbound, Works, IsIdle, Rested, TablesRest, PromisesKeepWork}
 use Rattle.sc_live_steps.proofs.OrdersProofs.Errands.{errands-none, errands-all}
-use Rattle.sc_live_steps.proofs.OrdersProofs.Pumps.{pump-stays, pumps-keep}
+use Rattle.sc_live_steps.proofs.OrdersProofs.LoneWorkPumps.{pump-stays, pumps-keep}
 use Rattle.sc_live_steps.proofs.OrdersProofs.LoneEntries.{order_none, begun_none, all_answered_none, all_dismissed_none}
 
 -- ---- what is asked for

@@ -6,12 +6,12 @@ pub use Rattle.sc_live_steps.proofs.OrdersProofs.ErrandTables.{tables-file as le
 pub use Rattle.sc_live_steps.proofs.OrdersProofs.QuietStages.{quiet-still as quiet_orders_are_over, still-only, quiet-still}
 pub use Rattle.sc_live_steps.proofs.OrdersProofs.NamedValues.{among-left, among-right, cases-draw, found, tagged, tokens}
 pub use Rattle.sc_live_steps.proofs.OrdersProofs.PartyChanges.{closing-errand, errands_of, no-errand, closing-work, no-work, work_of}
-pub use Rattle.sc_live_steps.proofs.OrdersProofs.Pumps.{pumps-keep as pumps_keep_work}
+pub use Rattle.sc_live_steps.proofs.OrdersProofs.LoneWorkPumps.{pumps-keep as pumps_keep_work}
 pub use Rattle.sc_live_steps.proofs.OrdersProofs.QuestionRows.{passes-step, asks-step, files-step}
 pub use Rattle.sc_live_steps.proofs.OrdersProofs.OrderIntake.{told-step, rests-step}
 pub use Rattle.sc_live_steps.proofs.OrdersProofs.Entries.{orders-leave as orders_leave, votes-leave as votes_leave, orders-leave, votes-leave}
 pub use Rattle.sc_live_steps.proofs.OrdersProofs.VoteRecords.{records-leave as records_leave, watch-records-leave as watch_records_leave, ends-leave as ends_leave, records-leave, ends-leave, watch-records-leave}
 pub use Rattle.sc_live_steps.proofs.OrdersProofs.OrderTables.{tables-order as tables_order, tables-order}
 pub use Rattle.sc_live_steps.proofs.OrdersProofs.LoneEntries.{entries-run-alone as entries_run_alone, entries-run-alone}
-pub use Rattle.sc_live_steps.proofs.OrdersProofs.CountedVotes.{votes-count-alone as votes_count_alone, votes-count-alone}
+pub use Rattle.sc_live_steps.proofs.OrdersProofs.LoneVotes.{votes-count-alone as votes_count_alone, votes-count-alone}
 pub use Rattle.sc_live_steps.proofs.OrdersProofs.IdleRows.{tables-rest as tables_rest, promises-keep as promises_keep_work, tables-rest, promises-keep}

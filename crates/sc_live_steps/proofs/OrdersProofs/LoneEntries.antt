@@ -14,7 +14,7 @@ use Rattle.sc_law_walks.proofs.Lemmas.{entered_next, none_ready as ready_none}
 use Rattle.sc_live_steps.specs.orders.Definitions.{Work, work_by, works_in, works_flying, works_ready, errand_by, errands_for, IsLone, RunsAlone, EntriesRunAlone}
 use Rattle.sc_live_steps.proofs.OrdersProofs.SentErrands.{went-adds}
 use Rattle.sc_live_steps.proofs.OrdersProofs.Errands.{errands-none, errands-all}
-use Rattle.sc_live_steps.proofs.OrdersProofs.Pumps.{pump-stays}
+use Rattle.sc_live_steps.proofs.OrdersProofs.LoneWorkPumps.{pump-stays}
 
 -- ---- mail that is no errand
 

@@ -7,7 +7,7 @@ use Rattle.sc_node_table.specs.Definitions.{ordered_command, ordered_row, queued
 use Rattle.sc_live_steps.specs.orders.Definitions.{Work, Changes, Opens, IsOrder, work_by, works_in, works_flying, works_ready, works, Works, MayFile, TablesOrder}
 use Rattle.sc_live_steps.proofs.OrdersProofs.Errands.{errands-none}
 use Rattle.sc_live_steps.proofs.OrdersProofs.ErrandTables.{acts_none, calls_none, under_none, works_more}
-use Rattle.sc_live_steps.proofs.OrdersProofs.Pumps.{pumps-keep}
+use Rattle.sc_live_steps.proofs.OrdersProofs.LoneWorkPumps.{pumps-keep}
 
 -- the work of an order
 order_work : (name : Draw) (number : ℕ) (order : Order) → (work : Work) × IsOrder work × (work_by (ordered_command name number order) ≡ Some work)

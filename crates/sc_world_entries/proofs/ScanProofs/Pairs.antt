@@ -1,5 +1,5 @@
 -- Pairs whose keys differ, and those of a map that an arc holds.
-use Rattle.std.proofs.Common.{◌≡◌, ◌≢◌, ℕ, Bool, true, false, cond, not, inl, inr, List, [], ◌∷◌, ◌++◌, Some, None, refl, sym, ◌∙◌, ap, subst}
+use Rattle.std.proofs.Common.{◌≡◌, ◌≢◌, ℕ, zero, suc, ◌<◌, Bool, true, false, cond, not, inl, inr, List, [], ◌∷◌, ◌++◌, length, get_or, Some, None, refl, sym, ◌∙◌, ap, subst, arith}
 use Rattle.std.specs.Prelude.{IsTrue}
 use Rattle.std.specs.List.{filter}
 use Rattle.std.specs.Ordering.{nat_cmp, is_eq, eq_by_cmp}
@@ -138,3 +138,15 @@ order_differs arc es apart =
     let high : not (is_low arc x) ≡ true = (from_filter (λ pair. not (is_low arc pair)) (held arc es) x a).1 in
     let low : is_low arc y ≡ true = (from_filter (is_low arc) (held arc es) y b).1 in
     let no_way : false ≡ true = sym (ap not (ap (λ key. is_low arc (key, y.1)) same ∙ low)) ∙ high in cc)
+
+-- ---- lists of which no item passes a test
+
+shorter : {X : Type 0} (b : Bool) (y : X) (ys : List X) → cond b (y ∷ ys) ys ≡ [] → ys ≡ []
+shorter true y ys none = absurd (omega (arith, ap length none))
+shorter false y ys none = none
+
+-- an item that passes is among those that pass
+pub passes_some : {X : Type 0} (p : X → Bool) (xs : List X) (i : ℕ) (x : X) → i < length xs → x ≡ get_or xs i x → p x ≡ true → filter p xs ≡ [] → ⊥
+passes_some p [] i x lt is passes none = absurd (omega (arith, lt))
+passes_some p (y ∷ xs) zero x lt is passes none = omega (arith, ap length (sym (cond-true (p y) (y ∷ filter p xs) (filter p xs) (ap p (sym is) ∙ passes)) ∙ none))
+passes_some p (y ∷ xs) (suc i) x lt is passes none = passes_some p xs i x (omega (arith, lt)) is passes (shorter (p y) y (filter p xs) none)

@@ -1,4 +1,4 @@
-use Rattle.sc_law_entries.proofs.LogsProofs.Example.{example_in_turn}
+use Rattle.sc_law_entries.proofs.LogsProofs.TurnExample.{example_in_turn}
 use Rattle.sc_law_entries.proofs.logs.a_split_decides_in_turn.Goals as goal
 
 pub returns : goal.returns

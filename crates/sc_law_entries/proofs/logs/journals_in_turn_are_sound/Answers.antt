@@ -1,4 +1,4 @@
-use Rattle.sc_law_entries.proofs.LogsProofs.Laws.{journals_in_turn_are_sound}
+use Rattle.sc_law_entries.proofs.LogsProofs.LogLaws.{journals_in_turn_are_sound}
 use Rattle.sc_law_entries.proofs.logs.journals_in_turn_are_sound.Goals as goal
 
 pub returns : goal.returns

@@ -1,5 +1,5 @@
 use Rattle.sc_law_entries.proofs.LogsProofs.OneGroup.{for_one}
-use Rattle.sc_law_entries.proofs.LogsProofs.Parts.{rows_go_on}
+use Rattle.sc_law_entries.proofs.LogsProofs.RowsInTwoParts.{rows_go_on}
 use Rattle.sc_law_entries.proofs.logs.rows_decide_for_one_group.Goals as goal
 
 pub returns : goal.returns

@@ -1,4 +1,4 @@
-use Rattle.sc_law_entries.proofs.NamesProofs.Example.{begins as it_begins, is_lawful, first_owned, second_owned, third_free}
+use Rattle.sc_law_entries.proofs.NamesProofs.DrawingExample.{begins as it_begins, is_lawful, first_owned, second_owned, third_free}
 use Rattle.sc_law_entries.proofs.names.a_journal_that_draws.Goals as goal
 
 pub returns : goal.returns

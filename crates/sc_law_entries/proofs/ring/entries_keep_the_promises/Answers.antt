@@ -1,4 +1,4 @@
-use Rattle.sc_law_entries.proofs.RingProofs.Sound.{entries_keep_the_promises}
+use Rattle.sc_law_entries.proofs.RingProofs.SoundWorlds.{entries_keep_the_promises}
 use Rattle.sc_law_entries.proofs.ring.entries_keep_the_promises.Goals as goal
 
 pub returns : goal.returns

@@ -1,4 +1,4 @@
-use Rattle.sc_law_entries.proofs.RingProofs.Sound.{entries_keep_the_ring}
+use Rattle.sc_law_entries.proofs.RingProofs.SoundWorlds.{entries_keep_the_ring}
 use Rattle.sc_law_entries.proofs.ring.entries_keep_the_ring.Goals as goal
 
 pub returns : goal.returns

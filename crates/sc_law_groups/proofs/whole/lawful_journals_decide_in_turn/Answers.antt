@@ -1,4 +1,4 @@
-use Rattle.sc_law_groups.proofs.WholeProofs.Sound.{lawful_journals_decide_in_turn}
+use Rattle.sc_law_groups.proofs.WholeProofs.LawfulSoundness.{lawful_journals_decide_in_turn}
 use Rattle.sc_law_groups.proofs.whole.lawful_journals_decide_in_turn.Goals as goal
 
 pub returns : goal.returns

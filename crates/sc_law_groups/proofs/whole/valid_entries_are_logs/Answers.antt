@@ -1,4 +1,4 @@
-use Rattle.sc_law_groups.proofs.WholeProofs.Laws.{valid_entries_are_logs}
+use Rattle.sc_law_groups.proofs.WholeProofs.WholeLaws.{valid_entries_are_logs}
 use Rattle.sc_law_groups.proofs.whole.valid_entries_are_logs.Goals as goal
 
 pub returns : goal.returns

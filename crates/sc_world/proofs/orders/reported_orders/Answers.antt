@@ -9,10 +9,10 @@ use Rattle.sc_world.specs.Summary.{reported_of}
 use Rattle.sc_world.proofs.OrderWords.{length-numbered, get_or-numbered}
 use Rattle.sc_world.proofs.orders.reported_orders.Goals as goal
 
-pub returns-clause-told : goal.returns-clause-told
-returns-clause-told c =
+pub returns : goal.returns
+returns c =
     let whole = map (λ number. reported_of number (mails c.args.rows.now)) (numbers_from 1 c.args.count) in
-    let start : c.deref_mut.result.now ≡ replicate c.args.count None = c.deref_mut.ensures.value ∙ c.in_ok-told.ensures.told in
+    let start : c.deref_mut.result.now ≡ replicate c.args.count None = c.deref_mut.ensures.value ∙ c.in_ok-told.ensures in
     let long : length c.deref_mut.result.now ≡ c.args.count = ap length start ∙ length-replicate c.args.count None in
     let len : length c.note_rows.new.told ≡ c.args.count = c.note_rows.ensures.len ∙ long in
     let same : c.from_vec.result ≡ c.note_rows.new.told =

@@ -13,7 +13,7 @@ invariant_of-result c =
     let here : Leaves s lines c.args.rows.now c.in-Lawful.left = subst (λ rows. Leaves s lines rows c.in-Lawful.left) c.as_slice.ensures leaves in
     let sound = c.valid_journals_are_sound.ensures as_nodes refl two_words c.args.scenario.now c.requires.valid c.args.rows.now here.replayed.lawful in
     let refuses = c.valid_journals_refuse_with_cause.ensures as_nodes refl two_words c.args.scenario.now c.requires.valid c.args.rows.now here.replayed.lawful in
-    holds c.args.scenario.now c.args.rows.now c.in_ok-parties-in-Lawful.parties c.in-Lawful.left sound refuses c.requires.few_rows c.requires.few_mails c.in_ok-parties-in-Lawful.ensures.parties here
+    holds c.args.scenario.now c.args.rows.now c.in_ok-parties-in-Lawful.parties c.in-Lawful.left sound refuses c.requires.few_rows c.requires.few_mails c.in_ok-parties-in-Lawful.ensures here
 
 pub returns-in_ok-parties-in-Lawful : goal.returns-in_ok-parties-in-Lawful
 returns-in_ok-parties-in-Lawful c =

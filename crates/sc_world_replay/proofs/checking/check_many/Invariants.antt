@@ -1,6 +1,5 @@
 use Rattle.std.proofs.Common.{◌≡◌, ◌-◌, [], ◌∷◌, length, None, Some}
 use Rattle.std.specs.Prelude.{slice_get}
-use Rattle.sc_actor.specs.declared.rows.Row.{Row}
 use Rattle.sc_actor.specs.System.{numbers_of}
 use Rattle.sc_world_replay.specs.Actions.{chosen_action}
 use Rattle.sc_world_replay.specs.Moves.{StageGoes, many, rules_of}
@@ -12,5 +11,5 @@ invariant-loop-done g l =
     StageGoes (rules_of g.A.Actor.table g.A.Mail.Parcel.receiver) l.initial.stage (many l.free l.most ∷ []) l.stage (many l.free (l.most - l.done) ∷ [])
     × IsTaking g.A.Mail.Parcel.receiver l.stage l.rows
     × (l.stage.skipped ≡ l.initial.stage.skipped)
-    × (((row : Row g.A.Mail g.A.Order) → slice_get l.rows (length l.initial.stage.rows) ≡ Some row
+    × (((row : _) → slice_get l.rows (length l.initial.stage.rows) ≡ Some row
     → chosen_action g.A.Mail.Parcel.receiver (numbers_of l.initial.stage.seats.items) l.initial.stage.rows l.free row.who ≡ None) → l.stage ≡ l.initial.stage)

@@ -1,4 +1,6 @@
-use Rattle.std.proofs.Common.{◌≡◌, ◌+◌, ◌<◌, ◌^◌, [], ◌∷◌, length, refl, ◌∙◌, ap, subst, arith, mod-eq_of_lt}
+use Rattle.std.proofs.Common.{◌≡◌, ◌+◌, ◌<◌, ◌^◌, [], ◌∷◌, length, refl, sym, ◌∙◌, ap, subst, arith, mod-eq_of_lt}
+use Rattle.std.specs.Prelude.{is_ok}
+use Rattle.std.proofs.lemmas.Bool.{false≢true}
 use Rattle.sc_actor.specs.Walk.{Storms}
 use Rattle.sc_texts.specs.chance.Words.{ChanceStep, two_words, after_step}
 use Rattle.sc_world_replay.specs.declared.checked.Checked.TheVariants.{On, Ended, Wrong}
@@ -53,4 +55,5 @@ returns-clause-is g c =
     (StageGoes-end (rules_of g.A.Actor.table g.A.Mail.Parcel.receiver) c.args.stage.now (two_words c.args.number) c.args.most c.loop-done.stage c.loop-done.done (omega arith) inv.goes, inv.taking)
 
 pub returns-in_err-check_step-clause-ended : goal.returns-in_err-check_step-clause-ended
-returns-in_err-check_step-clause-ended g c = λ ended. c.check_step.ensures.ended (ap length (c.loop-done.invariant.stays ended) ∙ ended)
+returns-in_err-check_step-clause-ended g c = λ ended.
+    absurd (false≢true (sym (ap is_ok c.in_err-check_step.was) ∙ c.check_step.ensures.ended (ap length (c.loop-done.invariant.stays ended) ∙ ended)))

@@ -1,4 +1,6 @@
-use Rattle.std.proofs.Common.{◌≡◌, ℕ, suc, ◌+◌, length, true, false, arith, subst}
+use Rattle.std.proofs.Common.{◌≡◌, ℕ, suc, ◌+◌, ◌∙◌, length, true, false, arith, sym, ap, subst}
+use Rattle.std.specs.Prelude.{is_ok}
+use Rattle.std.proofs.lemmas.Bool.{false≢true}
 use Rattle.sc_meaning.specs.sound.Players.{as_nodes}
 use Rattle.sc_meaning.specs.sound.GroupsOf.{with_descendants}
 use Rattle.sc_world_entries.specs.decided.Found.{AreKnown}
@@ -25,4 +27,6 @@ returns-clause-tracked c =
     }
 
 pub returns-in_err-were-clause-none : goal.returns-in_err-were-clause-none
-returns-in_err-were-clause-none c = λ none. c.look_on.ensures.none (none_known c.args.rows.now c.loop-round._round c.args.bases.now c.loop-round.knowns.items none c.loop-round.invariant)
+returns-in_err-were-clause-none c = λ none.
+    let empty = none_known c.args.rows.now c.loop-round._round c.args.bases.now c.loop-round.knowns.items none c.loop-round.invariant in
+    absurd (false≢true (sym (ap is_ok c.in_err-were.was) ∙ c.look_on.ensures.none empty))

@@ -1,4 +1,4 @@
-use Rattle.std.proofs.Common.{◌≡◌, ◌++◌, List, ℕ, ap, sym, subst, ◌∙◌}
+use Rattle.std.proofs.Common.{◌≡◌, List, ℕ, subst}
 use Rattle.std.specs.Prelude.{OnOk}
 use Rattle.sc_explain.proofs.TextsProofs.Pieces.{reply_text}
 use Rattle.sc_explain.proofs.texts.values.ReplyToText.add_to.Goals as goal

@@ -1,2 +1,0 @@
--- The child of an entry is one of its log's.
-pub use Rattle.sc_law_groups.proofs.WholeProofs.Turning.{child_in}
