@@ -1,15 +1,13 @@
 -- What is said of the link and the route of a group, and of the stories, where they name nodes; and that an outcome leaves it.
-use Rattle.std.proofs.Common.{◌≡◌, ℕ, ◌≤◌, ◌⊎◌, Bool, true, false, cond, ◌&&◌, ◌||◌, ◌++◌, filter, arith, not, eqb, nat_lt, nat_le, length, List, [], ◌∷◌, Option, Some, None, inl, inr, refl, sym, ◌∙◌, ap, subst}
+use Rattle.std.proofs.Common.{◌≡◌, ℕ, ◌≤◌, ◌⊎◌, Bool, true, false, ◌||◌, ◌++◌, filter, arith, eqb, nat_lt, length, List, [], ◌∷◌, Some, inl, inr, refl, sym, ◌∙◌, ap, subst}
 use Rattle.std.specs.List.{list_any}
 use Rattle.std.proofs.lemmas.Bool.{cond_both, eqb-true, eq-eqb, or_right}
-use Rattle.std.proofs.lemmas.Option.{same_Some}
-use Rattle.sc_base.specs.Definitions.{same_draw, is_member, with_member, united}
-use Rattle.sc_node_table.specs.Values.{Draw, Offer, Finish, Core, Lock, Free, Coordinating, Promised, Watching, Effect, Link, Route, Frozen, Gift, Outcome, Abort, Merged, Moved, Migrated, Divided}
+use Rattle.sc_base.specs.Definitions.{is_member, with_member, united}
+use Rattle.sc_node_table.specs.Values.{Draw, Offer, Core, Link, Route, Frozen, Merged}
 use Rattle.sc_base.proofs.Lemmas.{grows}
-use Rattle.sc_words.specs.declared.commands.effects.Effect.TheVariants as Was
 use Rattle.sc_words.specs.declared.commands.votes.Vote.TheVariants as Ballot
-use Rattle.sc_group_table.specs.machine.Definitions.{Group, has_key_of, can_gain, gained_group, lost_group, welcomed_group, moved, participant_after, settled_in, watcher_after, party_freed, finished, can_cut}
-use Rattle.sc_law_entries.specs.ring.Definitions.{Sources, IsAllowed, Story, Stories}
+use Rattle.sc_group_table.specs.machine.Definitions.{Group}
+use Rattle.sc_law_entries.specs.ring.Definitions.{Sources, Story, Stories}
 use Rattle.sc_meaning.proofs.EntriesProofs.Lemmas.{one_of as or_true}
 
 -- some nodes, of each of which something holds with a group's name
@@ -82,43 +80,3 @@ module _ (Were Come : Draw → ℕ → Type 0) (come : (name : Draw) (node : ℕ
       succ = subst (λ (l : Link). Good Come l.group l.members) (sym succ) linked.succ;
       gone = λ into e. linked.gone into (sym gone ∙ e);
     }
-
-    -- ---- an outcome
-
-    module _ (tx : Draw) (outcome : Outcome) (a : IsAllowed sources ys g (Finish tx outcome)) where
-      abbrev Ends : Group × Effect → Type 0
-      Ends r = IsLinkedSo r.0.core
-
-      abbrev EndsIn : Option Group → Type 0
-      EndsIn None = Unit {0}
-      EndsIn (Some after) = IsLinkedSo after.core
-
-      made : (b : Bool) (after : Group) → after.core.succ ≡ s.core.succ → after.core.gone ≡ s.core.gone → EndsIn (cond b (Some after) None)
-      made true after e f = kept_links after.core e f
-      made false after e f = tt
-
-      by_gift : (gift : Option Gift) (offer : Offer) (at : ℕ) → EndsIn (moved gift s offer at)
-      by_gift (Some gift) offer at = made (can_gain s.core offer at && not (has_key_of s.pairs gift.pairs)) (gained_group s offer at gift) refl refl
-      by_gift None offer at = made (can_cut s.core.arc at) (lost_group s at) refl refl
-
-      ended_in : (o : Outcome) → o ≡ outcome → (offer : Offer) → EndsIn (participant_after o s offer)
-      ended_in Abort e offer = kept_links s.core refl refl
-      ended_in (Merged into) e offer = record {
-        succ = linked.succ;
-        gone = λ r q. subst (λ (x : Route). Good Were x.group x.members) (same_Some into r q) ((all_told tx a.0 a.1).ended into (a.2 ∙ ap Some (sym e)));
-      }
-      ended_in (Moved at gift) e offer = by_gift gift offer at
-      ended_in (Migrated node) e offer = made (nat_le (length (united s.core.members (node ∷ []))) 9) (welcomed_group s node) refl refl
-      ended_in Divided e offer = tt
-
-      settled_ends : (o : Option Group) → EndsIn o → Ends (settled_in o s tx outcome)
-      settled_ends None k = kept_links s.core refl refl
-      settled_ends (Some after) k = record { succ = k.succ; gone = k.gone }
-
-      pub finished_ends : (l : Lock) → Ends (finished l s tx outcome)
-      finished_ends Free = kept_links s.core refl refl
-      finished_ends (Coordinating t body order h) = kept_links s.core refl refl
-      finished_ends (Promised t offer) =
-          cond_both (same_draw t tx) (settled_in (participant_after outcome s offer) s tx outcome) (s, Was.NoEffect tx) Ends (λ _. settled_ends (participant_after outcome s offer) (ended_in outcome refl offer)) (λ _. kept_links s.core refl refl)
-      finished_ends (Watching t watch) =
-          cond_both (same_draw t tx) (party_freed (watcher_after outcome s watch) tx, Was.Decided outcome) (s, Was.NoEffect tx) Ends (λ _. kept_links (party_freed (watcher_after outcome s watch) tx).core refl refl) (λ _. kept_links s.core refl refl)

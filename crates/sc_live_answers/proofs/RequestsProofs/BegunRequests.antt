@@ -29,6 +29,7 @@ use Rattle.sc_live_steps.specs.calm.Definitions.{players, Rows}
 use Rattle.sc_live_plain.specs.Definitions.{begun_ones, waiting_ones, begun_of}
 use Rattle.sc_live_plain.proofs.Lemmas.{map_among}
 use Rattle.sc_live_answers.specs.Definitions.{IssuedAreBegun}
+use Rattle.sc_live_steps.proofs.CalmProofs.Totals.{or_assoc}
 
 -- ---- a client's own row
 
@@ -142,11 +143,7 @@ any_push p [] x = by (p x)
     by : (b : Bool) → (b || false) ≡ (false || b)
     by true = refl
     by false = refl
-any_push p (y ∷ xs) x = ap (λ b. p y || b) (any_push p xs x) ∙ by (p y) (list_any p xs) (p x)
-  where
-    by : (a b c : Bool) → (a || (b || c)) ≡ ((a || b) || c)
-    by true b c = refl
-    by false b c = refl
+any_push p (y ∷ xs) x = ap (λ b. p y || b) (any_push p xs x) ∙ or_assoc (p y) (list_any p xs) (p x)
 
 or_now_some : (o : Option ℕ) (b : Bool) (n at : ℕ) → or_now o b n ≡ Some at → (o ≡ Some at) ⊎ (b ≡ true)
 or_now_some (Some i) b n at e = inl e

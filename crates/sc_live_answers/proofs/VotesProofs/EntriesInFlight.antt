@@ -3,7 +3,7 @@ use Rattle.std.proofs.Common.{◌≡◌, ◌⊎◌, ℕ, zero, suc, ◌≤◌, e
 use Rattle.std.specs.Prelude.{not, ◌||◌}
 use Rattle.std.proofs.lemmas.Bool.{cond_both, or_left, or_right, eq-eqb}
 use Rattle.std.proofs.lemmas.Option.{none-some}
-use Rattle.sc_base.specs.Definitions.{Among, Each, same_draw, IsRoster, is_member, with_member, united, with_any}
+use Rattle.sc_base.specs.Definitions.{Among, Each, same_draw, IsRoster, is_member, united, with_any}
 use Rattle.sc_node_table.specs.Values.{Draw, Body, Command, Noop, Call, Split, GiveUp, RecordWatch, Base, Core, Lock, Free, Coordinating, Promised, Watching, Effect, Heard, Past, Flight}
 use Rattle.sc_words.specs.declared.commands.bodies.Body.TheVariants as At
 use Rattle.sc_words.specs.declared.commands.votes.Past.TheVariants as Cast
@@ -18,12 +18,12 @@ use Rattle.sc_live_steps.specs.orders.Definitions.{bond_in, bond_of, is_cast_yes
 use Rattle.sc_live_journals.specs.rows.Definitions.{view_at}
 use Rattle.sc_live_journals.specs.logs.Definitions.{SlotsHaveRosters, ViewsAreReplicas}
 use Rattle.sc_live_answers.specs.Definitions.{ReplicasRunLogs, LeadsSince, IsRecord, RecordsAreTrue, ReplicasAreRecorded, IsTrueEntry, FlightsAreEntries}
-use Rattle.sc_live_steps.proofs.FollowingProofs.Lemmas.{with_kept}
 use Rattle.sc_live_journals.specs.scenes.Definitions.{IsWork, QuietScenesAreOver, scene_at, IsThere}
 use Rattle.sc_live_journals.proofs.ScenesProofs.Lemmas.{tell}
 use Rattle.sc_live_steps.specs.entries.LoneEntries.{IsEntry}
 use Rattle.sc_live_answers.proofs.WorkProofs.PartiesSinceQuiet.{base_of}
 use Rattle.sc_live_answers.proofs.RestProofs.LeaderWork.{IsWorkAt, OfOrder, OfQuestion, OfVote, OfOutcome, at_stage, stands_in, was_there}
+use Rattle.sc_live_steps.proofs.EntriesProofs.EntryMembers.{any_kept}
 
 -- ---- members
 
@@ -47,9 +47,6 @@ own_members old (m ∷ more) f = (f m (or_left (eqb m m) (is_member more m) (eq-
 
 left_none : (n : ℕ) (old : List ℕ) → length (filter (λ who. not (is_member old who)) (take n old)) ≡ 0
 left_none n old = ap (λ (l : List ℕ). length l) (none_new old (take n old) (taken_old n old old (own_members old old (λ who e. e))))
-
-pub any_kept : (members : List ℕ) (node who : ℕ) → is_member members who ≡ true → is_member (with_any members node) who ≡ true
-any_kept members node who m = cond_both (is_member members node) members (with_member members node) (λ xs. is_member xs who ≡ true) (λ _. m) (λ _. with_kept members node who m)
 
 pub united_kept : (members others : List ℕ) (who : ℕ) → is_member members who ≡ true → is_member (united members others) who ≡ true
 united_kept members [] who m = m

@@ -16,19 +16,13 @@ use Rattle.sc_live_plain.proofs.RowsProofs.RowViews.{Journal, between_after, rep
 use Rattle.sc_live_plain.proofs.RowsProofs.NodeRows.{NodeRow, found_after, others_after}
 
 -- a mail of one group is nothing to another
+apart : (frame : Frame) (name : Draw) → (name ≡ frame.core.id → ⊥) → (group : Draw) → group ≡ frame.core.id → same_draw group name ≡ false
+apart frame name ne group e = elim (cases_Bool (same_draw group name)) [ inl t ↦ absurd (ne (sym (draw_is group name t) ∙ e)) | inr f ↦ f ]
+
 pub other_mark : (begun : Requests) (frame : Frame) (name : Draw) (from to : ℕ) (body : MailBody) → (name ≡ frame.core.id → ⊥) → IsPlainBody begun frame from to body → mark_of name from body ≡ Other
-other_mark begun frame name from to (Accept group ballot slot command) ne b = cond-false (same_draw group name) (Asks slot) Other (apart group b.0)
-  where
-    apart : (group : Draw) → group ≡ frame.core.id → same_draw group name ≡ false
-    apart group e = elim (cases_Bool (same_draw group name)) [ inl t ↦ absurd (ne (sym (draw_is group name t) ∙ e)) | inr f ↦ f ]
-other_mark begun frame name from to (Accepted group ballot slot) ne b = cond-false (same_draw group name) (Votes from slot) Other (apart group b.0)
-  where
-    apart : (group : Draw) → group ≡ frame.core.id → same_draw group name ≡ false
-    apart group e = elim (cases_Bool (same_draw group name)) [ inl t ↦ absurd (ne (sym (draw_is group name t) ∙ e)) | inr f ↦ f ]
-other_mark begun frame name from to (Learn group slot command) ne b = cond-false (same_draw group name) (Tells slot) Other (apart group b.0)
-  where
-    apart : (group : Draw) → group ≡ frame.core.id → same_draw group name ≡ false
-    apart group e = elim (cases_Bool (same_draw group name)) [ inl t ↦ absurd (ne (sym (draw_is group name t) ∙ e)) | inr f ↦ f ]
+other_mark begun frame name from to (Accept group ballot slot command) ne b = cond-false (same_draw group name) (Asks slot) Other (apart frame name ne group b.0)
+other_mark begun frame name from to (Accepted group ballot slot) ne b = cond-false (same_draw group name) (Votes from slot) Other (apart frame name ne group b.0)
+other_mark begun frame name from to (Learn group slot command) ne b = cond-false (same_draw group name) (Tells slot) Other (apart frame name ne group b.0)
 other_mark begun frame name from to (Request group client seq op) ne b = refl
 other_mark begun frame name from to _ ne b = refl
 
