@@ -9,7 +9,7 @@ use Rattle.sc_mail.specs.declared.bodies.AnswerBody.TheVariants as Says
 use Rattle.sc_group_table.specs.machine.Definitions.{applied}
 use Rattle.sc_words.specs.paxos.Definitions.{IsAtLeast, AcceptorState, LeaderState, below, promise_counted, counted, with_flight_at, without_flight, flight_at}
 use Rattle.sc_node_table.specs.Definitions.{ended, stopped, entered, forgotten, floor_of, jumped, offered, put_back, request_before, queued_number, answered, answered_all, dismissed, dismissed_all, sent, sent_all, under_way, without_slot, hinted, name_of, next, rest_of, ReplicaState, Place, answer_of, waits_in, open_nodes, flying, slots_ahead, with_entry}
-use Rattle.sc_law_entries.proofs.NamesProofs.Lists.{Each-drop, slot_without, flight_without}
+use Rattle.sc_law_entries.proofs.NamesProofs.EachFound.{Each-drop, slot_without, flight_without}
 use Rattle.sc_law_walks.proofs.Places.{cleared}
 use Rattle.sc_law_walks.proofs.Lemmas.{either_way, elected_place, entered_place}
 use Rattle.sc_law_walks.specs.Definitions.{GoesOn}

@@ -17,7 +17,7 @@ use Rattle.sc_group_table.specs.machine.Definitions.{applied, called, served, se
 use Rattle.sc_words.specs.paxos.Definitions.{LeaderState, flight_at, counted, vote_at, voters_after, kept_voters, must, must_without, names_above, choice, entry_at, next_of, LogState}
 use Rattle.sc_node_table.specs.Definitions.{answer_of, admits_requests, turned_down, refused_at, request_refusal, request_before, without_request, is_request_of, at_slot, with_entry, ReplicaState, slots_ahead, open_nodes, is_in_some, nodes_to, numbers_from, refused_by}
 use Rattle.sc_law_entries.specs.names.Definitions.{Opt}
-use Rattle.sc_law_entries.proofs.NamesProofs.Lists.{opt_get, opt_find, opt_slot, flight_without, voters_with}
+use Rattle.sc_law_entries.proofs.NamesProofs.EachFound.{opt_get, opt_find, opt_slot, flight_without, voters_with}
 use Rattle.sc_law_walks.proofs.Lemmas.{either_way}
 use Rattle.sc_live_healed.proofs.FixedWalks.{IsFresh, IsMember}
 use Rattle.sc_live_healed.specs.Definitions.{IsFixedRequest, IsFixedCommand, IsFixedAnswer}

@@ -7,7 +7,7 @@ use Rattle.sc_node_table.specs.Values.{Ballot, Command, Noop, Call, Base, Mail, 
 use Rattle.sc_group_table.specs.machine.Definitions.{base_of}
 use Rattle.sc_words.specs.paxos.Definitions.{IsAtLeast, below, reports_from, after_promise, after_accept, counted}
 use Rattle.sc_node_table.specs.Definitions.{stopped, sent, with_slot, without_request, hinted, name_of, next, ReplicaState, Place, mailed, tick_row}
-use Rattle.sc_law_entries.proofs.NamesProofs.Lists.{slot_with, report_with}
+use Rattle.sc_law_entries.proofs.NamesProofs.EachFound.{slot_with, report_with}
 use Rattle.sc_law_walks.specs.Definitions.{GoesOn}
 use Rattle.sc_live_healed.proofs.FixedWalks.{FixedWalk, FixedTickParts, IsFixedPlace, IsMember, IsFresh}
 use Rattle.sc_live_healed.proofs.FixedTicks.{ticks}

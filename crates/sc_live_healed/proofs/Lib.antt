@@ -54,4 +54,3 @@ pub mod NearSlots
 pub mod NearJournals
 pub mod SettledTicks
 pub mod PollBegins
-pub mod LoneRequests

@@ -12,7 +12,7 @@ use Rattle.sc_node_table.specs.Definitions.{ended, stopped, entered, forgotten, 
 use Rattle.sc_law_walks.proofs.Talks.{all_sent, all_answered, all_dismissed, one_answered}
 use Rattle.sc_law_walks.proofs.Lemmas.{either_way, Talk, floor_under, cut_next, cleared, entered_next, entered_place}
 use Rattle.sc_live_plain.proofs.Lemmas.{at_found, out_each, with_each}
-use Rattle.sc_live_plain.proofs.Flights.{voted_each}
+use Rattle.sc_live_plain.proofs.LeadersProofs.Flights.{voted_each}
 use Rattle.sc_live_healed.proofs.FixedWalks.{IsFresh, IsFixedPlace}
 use Rattle.sc_live_healed.proofs.FixedEntries.{FixedEntry, entry_keeps}
 use Rattle.sc_live_healed.proofs.FixedParts.{ready_fixed, applied_core}
@@ -207,9 +207,9 @@ module _ (base : Base) (me : ℕ) (fresh : IsFresh base me) (bound : ℕ) where
     accept_seen = λ from group ballot slot command h. tt;
     nack_seen = λ from group promised h. tt;
     turned = λ command answer backlog r mails on e turn f k. record { reached = k.reached; floored = k.floored; ready = k.ready; flights = k.flights; says = one_answered r.me (Within bound) (talk bound r.me) r.group.core.id answer command mails k.says };
-    offers_value = λ slot set command r mails on near none e of f k. offers slot set command r mails (open_low slot r mails near f k) k;
-    offers_noop = λ slot set r mails on near none of f k. offers slot set Noop r mails (open_low slot r mails near f k) k;
-    offers_call = λ slot set command backlog r mails on near none e of f k. (let low = open_low slot r mails near f k in offers slot set command (record r { backlog = backlog }) mails low k);
+    offers_value = λ slot set command r mails on above near none e of f k. offers slot set command r mails (open_low slot r mails near f k) k;
+    offers_noop = λ slot set r mails on above near none gap of f k. offers slot set Noop r mails (open_low slot r mails near f k) k;
+    offers_call = λ slot set command backlog r mails on above near none e of f k. (let low = open_low slot r mails near f k in offers slot set command (record r { backlog = backlog }) mails low k);
     counted_entry = λ command r mails on e f k. enters_near true command r mails (ready_fixed base r.ready (next r) command e f.fixed.ready) (Each-among (λ (entry : ℕ × Command). entry.0 < bound) r.ready (next r, command) k.ready (at_found r.ready (next r) command e).1) f k;
     learnt_entry = λ from group command r mails h f k. enters_near false command r mails h.0.2 h.1 f k;
     seen = λ ballot r mails s t goes f k. k;
@@ -221,8 +221,8 @@ module _ (base : Base) (me : ℕ) (fresh : IsFresh base me) (bound : ℕ) where
     accepted = λ from group report r mails h top goes t f k. hints report.ballot (record r { acceptor = after_accept report r.acceptor }) _ (says r from (Accepted (name_of r) report.ballot report.slot) mails h.1 k);
     nacks = λ to r mails m f k. says r to (Nack (name_of r) r.acceptor.promised) mails tt k;
     installs = λ to r mails m f k. says r to (Install (name_of r) (next r - 1) (base_of r.group) r.sets) mails (let low = k.reached in omega (arith, low)) k;
-    recalls = λ to slot command r mails m e f k. says r to (Learn (name_of r) slot command) mails (let under = entry_low slot r.log command e in let low = k.reached in omega (arith, under, low)) k;
-    wants = λ to slot r mails m low f k. says r to (Ask (name_of r) (next r)) mails tt k;
+    recalls = λ to from_slot slot group command r mails h m e f k. says r to (Learn (name_of r) slot command) mails (let under = entry_low slot r.log command e in let low = k.reached in omega (arith, under, low)) k;
+    wants = λ to slot group command r mails h m low f k. says r to (Ask (name_of r) (next r)) mails tt k;
     stops = λ from r mails m on f k. stops (Some from) _ r mails k;
     jumps = λ from group slot sent sets r mails h later off f k. jumps_by slot sent sets from r mails h.1 later k;
     refuses = λ client seq op answer r mails e f k. says r (client_actor client) (Answer (name_of r) seq answer) mails tt k;
@@ -232,7 +232,7 @@ module _ (base : Base) (me : ℕ) (fresh : IsFresh base me) (bound : ℕ) where
 
   -- a row of mail leaves it so
   pub mailed_near : (from : ℕ) (body : MailBody) (start : ReplicaState) → IsFixedBody base from me body → BringsNear bound body → F (start, []) → E (start, []) → E (mailed from body (start, [])).0
-  mailed_near from body start h near f k = (takes_mail base me (both_walk base me fresh near_facts near_states) from body (start, []) (h, near) (f, k)).0.1
+  mailed_near from body start h near f k = (takes_mail base me (both_walk base me fresh near_facts near_states) from body (start, []) (h, near) tt (f, k)).0.1
 
   -- and so does a tick
   near_ticks : FixedTickStates base me near_facts

@@ -12,7 +12,7 @@ use Rattle.sc_group_table.specs.machine.Definitions.{Group, group_of, base_of, d
 use Rattle.sc_words.specs.paxos.Definitions.{LeaderState, LogState, AcceptorState, entry_at, promise_counted, counted, reports_from, after_promise, after_accept, must, below, with_flight_at, without_flight}
 use Rattle.sc_node_table.specs.Definitions.{ReplicaState, Place, next, name_of, flying, sent, sent_all, stopped, ended, offered, answer_to, answered, entered, forgotten, floor_of, jumped, named, hinted, put_back, without_request, with_slot, without_slot, at_slot, under_way, answered_all, dismissed_all, with_entry}
 use Rattle.sc_law_entries.specs.names.Definitions.{Opt}
-use Rattle.sc_law_entries.proofs.NamesProofs.Lists.{Each-drop, opt_get, opt_slot, slot_with, slot_without, flight_without, report_with}
+use Rattle.sc_law_entries.proofs.NamesProofs.EachFound.{Each-drop, opt_get, opt_slot, slot_with, slot_without, flight_without, report_with}
 use Rattle.sc_group_table.proofs.MachineProofs.Parts.{group_again}
 use Rattle.sc_law_refusal.proofs.HeldCommands as held
 use Rattle.sc_law_walks.proofs.Talks.{all_sent, one_answered, all_answered, all_dismissed}
