@@ -171,13 +171,16 @@ module _ (client bound : ℕ) where
       returned = λ r mails t q. (back_any (λ x. x.group.core ≡ base.core) (λ x acts backlog p. p) command r q.0, back_few command r mails c q.1);
       teaches = λ to r mails t m q. (q.0, said_few r mails to (Learn (name_of r) (next start) command) c q.1);
       flies = λ other r mails e q. opt_some C (flying r (next start)) other e (held.flying_held C r (next start) q.1.held);
-      landed = λ place q. (q.0, record {
-        held = (q.1.held.0, q.1.held.1, flight_without C (next start) place.0.leader.flights q.1.held.2, q.1.held.3, slot_without C place.0.ready (next start) q.1.held.4);
-        accepted = q.1.accepted;
-        entries = q.1.entries;
-        noted = q.1.noted;
-        said = q.1.said;
-      });
+      landed = λ place q. (
+        q.0,
+        record {
+          held = (q.1.held.0, q.1.held.1, flight_without C (next start) place.0.leader.flights q.1.held.2, q.1.held.3, slot_without C place.0.ready (next start) q.1.held.4);
+          accepted = q.1.accepted;
+          entries = q.1.entries;
+          noted = q.1.noted;
+          said = q.1.said;
+        },
+      );
       back = λ other r mails l q. (back_any (λ x. x.group.core ≡ base.core) (λ x acts backlog p. p) other r q.0, back_few other r mails l q.1);
     }
 

@@ -219,10 +219,10 @@ module _ (client seq : ℕ) where
   before_kept who number op (Some other) backlog command e low a ours =
       cond_both (ltb other number) (Call who number op ∷ without_request backlog who) backlog (Among command)
       (λ t. inr (without_ours who backlog command a ours (λ own q. (
-        let up = ltb-true other number t in
-        let least = low (sym own) in
-        let same : other ≡ seq = one_number (sym e ∙ q) in
-        absurd (omega (arith, up, least, same))))))
+      let up = ltb-true other number t in
+      let least = low (sym own) in
+      let same : other ≡ seq = one_number (sym e ∙ q) in
+      absurd (omega (arith, up, least, same))))))
       (λ _. a)
     where
       one_number : {a b : ℕ} → Some a ≡ Some b → a ≡ b
@@ -235,11 +235,11 @@ module _ (client seq : ℕ) where
       cond_both (ltb other seq) (Call client seq op ∷ without_request backlog client) backlog (λ (cs : List Command). (command : Command) × Among command cs × IsOurs command)
       (λ _. (Call client seq op, inl refl, ours_is op))
       (λ f. (
-        let there = queued_there client backlog other e in
-        let most : other ≤ seq = Each-among (IsAtMost client seq) backlog (Call client other there.0) few there.1 refl in
-        let least = ltb-false other seq f in
-        let same : other ≡ seq = omega (arith, most, least) in
-        (Call client seq there.0, subst (λ n. Among (Call client n there.0) backlog) same there.1, ours_is there.0)))
+      let there = queued_there client backlog other e in
+      let most : other ≤ seq = Each-among (IsAtMost client seq) backlog (Call client other there.0) few there.1 refl in
+      let least = ltb-false other seq f in
+      let same : other ≡ seq = omega (arith, most, least) in
+      (Call client seq there.0, subst (λ n. Among (Call client n there.0) backlog) same there.1, ours_is there.0)))
 
   -- another command goes back
   pub back_held : (command : Command) (r : ReplicaState) → IsAtMost client seq command → IsHeld r → IsHeld (put_back command r)
