@@ -54,3 +54,5 @@ pub mod NearSlots
 pub mod NearJournals
 pub mod SettledTicks
 pub mod PollBegins
+pub mod LoneRequests
+pub mod LoneRequestRows
