@@ -96,7 +96,7 @@ module _ (words : ℕ → ℕ → ℕ × ℕ) (scenario : Scenario) where
   started_push : (rows : Rows) (row : Row Mail OrderLine) (who : ℕ) → has_started (rows ++ row ∷ []) who ≡ (has_started rows who || ((eqb row.who who && is_go row.event) || false))
   started_push rows row who = list_any-append (λ (r : Row Mail OrderLine). eqb r.who who && is_go r.event) rows (row ∷ [])
 
-  issued_push : (rows : Rows) (row : Row Mail OrderLine) (client seq : ℕ) → list_any (issues client seq) (rows ++ row ∷ []) ≡ (list_any (issues client seq) rows || (issues client seq row || false))
+  pub issued_push : (rows : Rows) (row : Row Mail OrderLine) (client seq : ℕ) → list_any (issues client seq) (rows ++ row ∷ []) ≡ (list_any (issues client seq) rows || (issues client seq row || false))
   issued_push rows row client seq = list_any-append (issues client seq) rows (row ∷ [])
 
   -- another actor's row
@@ -173,7 +173,7 @@ module _ (words : ℕ → ℕ → ℕ × ℕ) (scenario : Scenario) where
       by (Drop number) is sent_is once = silent (Drop number) refl is sent_is
       by (Again number) is sent_is once = silent (Again number) refl is sent_is
 
-  next_asking : (rows : Rows) (row : Row Mail OrderLine) → IsStep (system_of as_nodes words scenario) rows row → IsAskingJournal rows → IsAskingJournal (rows ++ row ∷ [])
+  pub next_asking : (rows : Rows) (row : Row Mail OrderLine) → IsStep (system_of as_nodes words scenario) rows row → IsAskingJournal rows → IsAskingJournal (rows ++ row ∷ [])
   next_asking rows row step k = record { players = λ seat is_of. subst (IsAskingPlayer (rows ++ row ∷ []) seat.who) (sym (value-snoc player_table seat rows row)) (by seat is_of step) }
     where
       by : (seat : Seat Player) → IsOf scenario seat → IsStep (system_of as_nodes words scenario) rows row → IsAskingPlayer (rows ++ row ∷ []) seat.who (cond (eqb row.who seat.who) (acted player_table (value player_table seat rows) (input_of (mails rows) row.event)).0 (value player_table seat rows))
@@ -235,7 +235,7 @@ module _ (words : ℕ → ℕ → ℕ × ℕ) (scenario : Scenario) where
       by [] = tt
       by (c ∷ cs) = (record { number = refl; asks = record { some = omega arith; state = inl (record { waits = refl; replies = inl (refl, refl) }) }; few = λ seq e. absurd (true≢false (sym e)) }, by cs)
 
-  first_asking : IsAskingJournal []
+  pub first_asking : IsAskingJournal []
   first_asking = record { players = λ seat is_of. Each-among IsBornSeat (births as_nodes scenario) seat
       (Each-append IsBornSeat (map (node_seat as_nodes scenario.groups scenario.policy) (numbers_from 1 scenario.nodes)) (client_seats scenario.groups scenario.clients) (nodes_born scenario.groups (numbers_from 1 scenario.nodes)) (clients_born scenario.groups scenario.clients))
       (find_found (λ (other : Seat Player). eqb other.who seat.who) (births as_nodes scenario) seat is_of).0 }

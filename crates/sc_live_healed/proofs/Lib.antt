@@ -56,3 +56,4 @@ pub mod SettledTicks
 pub mod PollBegins
 pub mod LoneRequests
 pub mod LoneRequestRows
+pub mod FewJournals

@@ -107,7 +107,7 @@ module _ (client bound : ℕ) where
   held_few r mails backlog acts leader ready h k = record { held = h; accepted = k.accepted; entries = k.entries; noted = k.noted; said = k.said }
 
   -- what is kept in one place alone
-  said_few : (r : ReplicaState) (mails : List Mail) (to : ℕ) (body : MailBody) → IsFewBody body → IsFewPlace (r, mails) → IsFewPlace (r, sent r.me to body mails)
+  pub said_few : (r : ReplicaState) (mails : List Mail) (to : ℕ) (body : MailBody) → IsFewBody body → IsFewPlace (r, mails) → IsFewPlace (r, sent r.me to body mails)
   said_few r mails to body b k = record { held = k.held; accepted = k.accepted; entries = k.entries; noted = k.noted; said = Each-append (λ (mail : Mail). IsFewBody mail.body) mails (record { from = r.me; to = to; body = body } ∷ []) k.said (b, tt) }
 
   all_few : (r : ReplicaState) (mails : List Mail) (nodes : List ℕ) (body : MailBody) → IsFewBody body → IsFewPlace (r, mails) → IsFewPlace (r, sent_all r.me nodes body mails)
@@ -191,7 +191,7 @@ module _ (client bound : ℕ) where
     reports_few : (from_slot : ℕ) (acceptor : AcceptorState Command) → Each (λ (report : Report Command). C report.value) acceptor.accepted → Each (λ (report : Report Command). C report.value) (reports_from from_slot acceptor.accepted)
     reports_few from_slot acceptor k = Each-filter (λ (report : Report Command). C report.value) (λ (report : Report Command). nat_le from_slot report.slot) acceptor.accepted k
 
-    entry_few : (slot : ℕ) (log : LogState Command) (command : Command) → entry_at slot log ≡ Some command → Each C log.entries → C command
+    pub entry_few : (slot : ℕ) (log : LogState Command) (command : Command) → entry_at slot log ≡ Some command → Each C log.entries → C command
     entry_few slot log command e f = opt_some C (entry_at slot log) command e (either_way (λ (o : Option Command). Opt C o) (nat_lt log.base slot) (slice_get log.entries (slot - log.base - 1)) None (opt_get C log.entries (slot - log.base - 1) f) tt)
 
     jumps_few : (slot : ℕ) (sent_ : Base) (sets : List (List ℕ)) (r : ReplicaState) (mails : List Mail) (hint : Option ℕ) → HasNoted (group_of sent_) → IsFewPlace (r, mails) → IsFewPlace (record (jumped slot sent_ sets r) { hint = hint }, mails)
