@@ -57,19 +57,19 @@ module _ (client seq : ℕ) (op : Op) where
 
 module _ (base : Base) (me client first seq : ℕ) (early : Bool) (Elsewhere : Type 0) (f : FixedWalk base me) (few : (r : ReplicaState) (mails : List Mail) → f.P (r, mails) → IsFewPlace client seq (r, mails)) (late : early ≡ true → first ≡ seq) where
   abbrev pub Mine : Command → Type 0
-  Mine command = lone.IsMine client first seq early Elsewhere command
+  Mine command = lone.IsMine client first command
 
   abbrev pub Other : Command → Type 0
-  Other command = lone.IsOther client first seq early Elsewhere command
+  Other command = lone.IsOther client seq command
 
   abbrev pub Alone : Place → Type 0
-  Alone place = lone.IsAlone client first seq early Elsewhere place
+  Alone place = lone.IsAlone client first place
 
   abbrev pub Hidden : Place → Type 0
   Hidden place = lone.IsHidden client first seq early Elsewhere place
 
   abbrev pub Leads : ReplicaState → Type 0
-  Leads r = lone.LeadsAlone client first seq early Elsewhere r
+  Leads r = lone.LeadsAlone client first r
 
   abbrev pub L : Place → Type 0
   L place = lone.IsLonePlace client first seq early Elsewhere place
@@ -79,7 +79,7 @@ module _ (base : Base) (me client first seq : ℕ) (early : Bool) (Elsewhere : T
 
   -- what is heard of the client's own requests, and of none that is executed already
   abbrev pub LoneHears : MailBody → Type 0
-  LoneHears body = lone.IsLoneBody client first seq early Elsewhere body × (Elsewhere ⊎ lone.IsUnlearnt client first seq early Elsewhere body)
+  LoneHears body = lone.IsLoneBody client first body × (Elsewhere ⊎ lone.IsUnlearnt client first seq early Elsewhere body)
 
   -- the request is served
   pub served_so : (r : ReplicaState) (mails : List Mail) (op : Op) → f.P (r, mails) → at_slot r.ready (next r) ≡ Some (Call client seq op) → (reply : Reply) × (answer_of (applied r.group (Call client seq op)).1 ≡ Some (Value reply))
@@ -132,7 +132,7 @@ module _ (base : Base) (me client first seq : ℕ) (early : Bool) (Elsewhere : T
           same.1 ∙ q.1,
           record {
             leads = λ on. (let runs : r.running ≡ true = sym same.1 ∙ on in let k = q.2.leads runs in
-                lone.leads_with client first seq early Elsewhere r (put_back other r) (lone.mine_back client first seq early Elsewhere other r (m (sym q.1 ∙ runs)) k.backlog) same.2 same.3 same.4 k);
+                lone.leads_with client first r (put_back other r) (lone.mine_back client first other r (m (sym q.1 ∙ runs)) k.backlog) same.2 same.3 same.4 k);
             said = q.2.said;
           },
           λ o. lone.hidden_same client first seq early Elsewhere r (put_back other r) mails same.5 (q.3 o),
@@ -143,10 +143,10 @@ module _ (base : Base) (me client first seq : ℕ) (early : Bool) (Elsewhere : T
       Lost = λ other. start.running ≡ true → Mine other;
       core_is = λ place q. q.0;
       answers = λ who number op answer r mails t is e q. (let m = subst Mine is (mine t) in
-          (q.0, q.1, lone.alone_push client first seq early Elsewhere r mails (client_actor who) (Answer (name_of r) number answer) tt (ap client_actor m.0) q.2, λ o. lone.hidden_push client first seq early Elsewhere r mails (client_actor who) (Answer (name_of r) number answer) tt (q.3 o)));
+          (q.0, q.1, lone.alone_push client first r mails (client_actor who) (Answer (name_of r) number answer) tt (ap client_actor m.0) q.2, λ o. lone.hidden_push client first seq early Elsewhere r mails (client_actor who) (Answer (name_of r) number answer) tt (q.3 o)));
       returned = λ r mails t q. goes_back command r mails (λ _. mine t) q;
-      teaches = λ to r mails t m q. (q.0, q.1, lone.alone_push client first seq early Elsewhere r mails to (Learn (name_of r) (next start) command) tt tt q.2, λ o. lone.hidden_push client first seq early Elsewhere r mails to (Learn (name_of r) (next start) command) (teach t o, o) (q.3 o));
-      flies = λ other r mails e q. (λ on. opt_some Mine (flying r (next start)) other e (lone.flying_mine client first seq early Elsewhere r (next start) (q.2.leads (q.1 ∙ on))));
+      teaches = λ to r mails t m q. (q.0, q.1, lone.alone_push client first r mails to (Learn (name_of r) (next start) command) tt tt q.2, λ o. lone.hidden_push client first seq early Elsewhere r mails to (Learn (name_of r) (next start) command) (teach t o, o) (q.3 o));
+      flies = λ other r mails e q. (λ on. opt_some Mine (flying r (next start)) other e (lone.flying_mine client first r (next start) (q.2.leads (q.1 ∙ on))));
       landed = λ place q. (
         q.0,
         q.1,
@@ -213,19 +213,19 @@ module _ (base : Base) (me client first seq : ℕ) (early : Bool) (Elsewhere : T
   pub kept : (r after : ReplicaState) (mails : List Mail) → after.log ≡ r.log → after.running ≡ r.running → after.backlog ≡ r.backlog → after.leader ≡ r.leader → after.ready ≡ r.ready → next after ≡ next r → L (r, mails) → L (after, mails)
   kept r after mails log running backlog leader ready at_next k =
       lone.with_leads client first seq early Elsewhere r after mails log
-      (λ on. (let leads = k.0.leads (sym running ∙ on) in lone.leads_with client first seq early Elsewhere r after (subst (Each Mine) (sym backlog) leads.backlog) leader ready at_next leads)) k
+      (λ on. (let leads = k.0.leads (sym running ∙ on) in lone.leads_with client first r after (subst (Each Mine) (sym backlog) leads.backlog) leader ready at_next leads)) k
 
   -- one mail more
-  pub says : (r : ReplicaState) (mails : List Mail) (to : ℕ) (body : MailBody) → lone.IsLoneBody client first seq early Elsewhere body → lone.GoesToClient client first seq early Elsewhere to body → lone.IsUnlearnt client first seq early Elsewhere body → L (r, mails) → L (r, sent r.me to body mails)
+  pub says : (r : ReplicaState) (mails : List Mail) (to : ℕ) (body : MailBody) → lone.IsLoneBody client first body → lone.GoesToClient client first to body → lone.IsUnlearnt client first seq early Elsewhere body → L (r, mails) → L (r, sent r.me to body mails)
   says r mails to body alone goes fine k = lone.pushed client first seq early Elsewhere r mails to body alone goes fine k
 
-  pub says_learnt : (r : ReplicaState) (mails : List Mail) (to : ℕ) (body : MailBody) → lone.IsLoneBody client first seq early Elsewhere body → lone.GoesToClient client first seq early Elsewhere to body → Elsewhere ⊎ lone.IsUnlearnt client first seq early Elsewhere body → L (r, mails) → L (r, sent r.me to body mails)
-  says_learnt r mails to body alone goes (inl away) k = (lone.alone_push client first seq early Elsewhere r mails to body alone goes k.0, inr (inl away))
+  pub says_learnt : (r : ReplicaState) (mails : List Mail) (to : ℕ) (body : MailBody) → lone.IsLoneBody client first body → lone.GoesToClient client first to body → Elsewhere ⊎ lone.IsUnlearnt client first seq early Elsewhere body → L (r, mails) → L (r, sent r.me to body mails)
+  says_learnt r mails to body alone goes (inl away) k = (lone.alone_push client first r mails to body alone goes k.0, inr (inl away))
   says_learnt r mails to body alone goes (inr fine) k = says r mails to body alone goes fine k
 
   -- with another queue
   pub queues : (r : ReplicaState) (mails : List Mail) (backlog : List Command) → (r.running ≡ true → Each Mine backlog) → L (r, mails) → L (record r { backlog = backlog }, mails)
-  queues r mails backlog mine k = lone.with_leads client first seq early Elsewhere r (record r { backlog = backlog }) mails refl (λ on. lone.leads_with client first seq early Elsewhere r (record r { backlog = backlog }) (mine on) refl refl refl (k.0.leads on)) k
+  queues r mails backlog mine k = lone.with_leads client first seq early Elsewhere r (record r { backlog = backlog }) mails refl (λ on. lone.leads_with client first r (record r { backlog = backlog }) (mine on) refl refl refl (k.0.leads on)) k
 
   pub turned_so : (command : Command) (answer : AnswerBody) (backlog : List Command) (r : ReplicaState) (mails : List Mail) → r.running ≡ true → r.backlog ≡ command ∷ backlog → L (r, mails) → L (record r { backlog = backlog }, answered r.me r.group.core.id answer command mails)
   turned_so command answer backlog r mails on e k =
@@ -237,7 +237,7 @@ module _ (base : Base) (me client first seq : ℕ) (early : Bool) (Elsewhere : T
 
   pub recalls_so : (to slot : ℕ) (command : Command) (r : ReplicaState) (mails : List Mail) → Elsewhere ⊎ (early ≡ false) → entry_at slot r.log ≡ Some command → L (r, mails) → L (r, sent r.me to (Learn (name_of r) slot command) mails)
   recalls_so to slot command r mails (inl away) e k = says_learnt r mails to (Learn (name_of r) slot command) tt tt (inl away) k
-  recalls_so to slot command r mails (inr off) e k = (lone.alone_push client first seq early Elsewhere r mails to (Learn (name_of r) slot command) tt tt k.0, by k.1)
+  recalls_so to slot command r mails (inr off) e k = (lone.alone_push client first r mails to (Learn (name_of r) slot command) tt tt k.0, by k.1)
     where
       by : Hidden (r, mails) → Hidden (r, sent r.me to (Learn (name_of r) slot command) mails)
       by (inl h) = lone.hidden_push client first seq early Elsewhere r mails to (Learn (name_of r) slot command) (off, entry_other slot r.log command e (h.0 off)) (inl h)
@@ -285,8 +285,8 @@ module _ (base : Base) (me client first seq : ℕ) (early : Bool) (Elsewhere : T
     accept_seen = λ from group ballot slot command h. f.accept_seen from group ballot slot command h.0;
     nack_seen = λ from group promised h. f.nack_seen from group promised h.0;
     turned = λ command answer backlog r mails on e turn k. (f.turned command answer backlog r mails on e turn k.0, turned_so command answer backlog r mails on e k.1);
-    offers_value = λ slot set command r mails on low near none e of k. absurd (lone.no_value client first seq early Elsewhere slot r command low (k.1.0.leads on) e);
-    offers_noop = λ slot set r mails on low near none gap of k. absurd (lone.no_gap client first seq early Elsewhere slot r low (k.1.0.leads on) gap);
+    offers_value = λ slot set command r mails on low near none e of k. absurd (lone.no_value client first slot r command low (k.1.0.leads on) e);
+    offers_noop = λ slot set r mails on low near none gap of k. absurd (lone.no_gap client first slot r low (k.1.0.leads on) gap);
     offers_call = λ slot set command backlog r mails on low near none e of k. (
       f.offers_call slot set command backlog r mails on low near none e of k.0,
       (let parts = subst (Each Mine) e (k.1.0.leads on).backlog in

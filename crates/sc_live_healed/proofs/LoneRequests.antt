@@ -15,26 +15,11 @@ use Rattle.sc_law_walks.proofs.Talks.{all_sent}
 use Rattle.sc_live_plain.proofs.RowsProofs.RepeatedMail.{mail_of, among_push}
 use Rattle.sc_live_healed.proofs.TakenRequests.{is_call}
 
-module _ (client first seq : ℕ) (early : Bool) (Elsewhere : Type 0) where
+module _ (client first : ℕ) where
   -- a request of the client, with a number from the first one on
   abbrev pub IsMine : Command → Type 0
   IsMine (Call who number op) = (who ≡ client) × (first ≤ number)
   IsMine _ = ⊥
-
-  abbrev pub IsOther : Command → Type 0
-  IsOther command = is_call client seq command ≡ false
-
-  -- a reply to the request that the client waits for is under way
-  pub record Replies (mails : List Mail) : Type 0 where
-    pub mail : Mail
-    pub among : Among mail mails
-    pub to : mail.to ≡ client_actor client
-    pub group : Draw
-    pub reply : Reply
-    pub body : mail.body ≡ Answer group seq (Value reply)
-
-  abbrev pub IsReplied : List Mail → Type 0
-  IsReplied mails = Elsewhere ⊎ Replies mails
 
   -- what is under way: the client's own requests, and no poll
   abbrev pub IsLoneBody : MailBody → Type 0
@@ -52,12 +37,6 @@ module _ (client first seq : ℕ) (early : Bool) (Elsewhere : Type 0) where
   abbrev pub IsLoneMail : Mail → Type 0
   IsLoneMail mail = IsLoneBody mail.body × GoesToClient mail.to mail.body
 
-  -- what is learnt or asked for: not the request; and nothing while it is early
-  abbrev pub IsUnlearnt : MailBody → Type 0
-  IsUnlearnt (Learn group slot command) = (early ≡ false) × IsOther command
-  IsUnlearnt (Ask group from_slot) = early ≡ false
-  IsUnlearnt _ = Unit {0}
-
   -- what a leader has under way
   pub record LeadsAlone (r : ReplicaState) : Type 0 where
     pub backlog : Each IsMine r.backlog
@@ -70,39 +49,10 @@ module _ (client first seq : ℕ) (early : Bool) (Elsewhere : Type 0) where
     pub leads : place.0.running ≡ true → LeadsAlone place.0
     pub said : Each IsLoneMail place.1
 
-  -- the request is in no log and no Learn, unless a reply to it is under way
-  abbrev pub IsHidden : Place → Type 0
-  IsHidden place = ((early ≡ false → Each IsOther place.0.log.entries) × Each (λ (mail : Mail). IsUnlearnt mail.body) place.1) ⊎ IsReplied place.1
-
-  abbrev pub IsLonePlace : Place → Type 0
-  IsLonePlace place = IsAlone place × IsHidden place
-
-  -- ---- mails
-
-  pub replied_more : (mails more : List Mail) → ((mail : Mail) → Among mail mails → Among mail more) → IsReplied mails → IsReplied more
-  replied_more mails more grow (inl away) = inl away
-  replied_more mails more grow (inr r) = inr (record { mail = r.mail; among = grow r.mail r.among; to = r.to; group = r.group; reply = r.reply; body = r.body })
-
   -- the same replica with one mail more
   pub alone_push : (r : ReplicaState) (mails : List Mail) (to : ℕ) (body : MailBody) → IsLoneBody body → GoesToClient to body → IsAlone (r, mails) → IsAlone (r, sent r.me to body mails)
   alone_push r mails to body lone goes k = record { leads = k.leads; said = Each-append IsLoneMail mails (mail_of r.me to body ∷ []) k.said ((lone, goes), tt) }
 
-  pub hidden_push : (r : ReplicaState) (mails : List Mail) (to : ℕ) (body : MailBody) → IsUnlearnt body → IsHidden (r, mails) → IsHidden (r, sent r.me to body mails)
-  hidden_push r mails to body fine (inl h) = inl (h.0, Each-append (λ (mail : Mail). IsUnlearnt mail.body) mails (mail_of r.me to body ∷ []) h.1 (fine, tt))
-  hidden_push r mails to body fine (inr t) = inr (replied_more mails (sent r.me to body mails) (λ mail a. among_push mails (mail_of r.me to body) mail a) t)
-
-  pub pushed : (r : ReplicaState) (mails : List Mail) (to : ℕ) (body : MailBody) → IsLoneBody body → GoesToClient to body → IsUnlearnt body → IsLonePlace (r, mails) → IsLonePlace (r, sent r.me to body mails)
-  pushed r mails to body lone goes fine k = (alone_push r mails to body lone goes k.0, hidden_push r mails to body fine k.1)
-
-  -- ---- other parts of the replica
-
-  -- with the same log
-  pub hidden_same : (r after : ReplicaState) (mails : List Mail) → after.log ≡ r.log → IsHidden (r, mails) → IsHidden (after, mails)
-  hidden_same r after mails same (inl h) = inl (subst (λ (l : LogState Command). early ≡ false → Each IsOther l.entries) (sym same) h.0, h.1)
-  hidden_same r after mails same (inr t) = inr t
-
-  pub with_leads : (r after : ReplicaState) (mails : List Mail) → after.log ≡ r.log → (after.running ≡ true → LeadsAlone after) → IsLonePlace (r, mails) → IsLonePlace (after, mails)
-  with_leads r after mails same leads k = (record { leads = leads; said = k.0.said }, hidden_same r after mails same k.1)
 
   -- with the same leader's state and next slot
   pub leads_with : (r after : ReplicaState) → Each IsMine after.backlog → after.leader ≡ r.leader → after.ready ≡ r.ready → next after ≡ next r → LeadsAlone r → LeadsAlone after
@@ -148,40 +98,6 @@ module _ (client first seq : ℕ) (early : Bool) (Elsewhere : Type 0) where
           omega (arith, under, at, low)
       by None is q = cond_both (names_above slot r.leader.reports) Gap Open (λ x. x ≡ MustBe command → ⊥) (λ _ h. cc) (λ _ h. cc) q
 
-  -- ---- what a leader says
-
-  -- a command is offered
-  pub offers_alone : (slot : ℕ) (set : List ℕ) (command : Command) (r : ReplicaState) (mails : List Mail) → r.running ≡ true → IsMine command → IsLonePlace (r, mails) → IsLonePlace (offered slot set command (r, mails))
-  unfolding offered
-  offers_alone slot set command r mails on mine k =
-      let body : MailBody = Accept (name_of r) r.leader.ballot slot command in
-      let now : ReplicaState = record r { leader = with_flight_at slot command r.leader } in
-      let leads = k.0.leads on in
-      with_leads r now (sent_all r.me set body mails) refl
-      (λ _. record { backlog = leads.backlog; flights = Each-append (λ (flight : Flight Command). IsMine flight.value) r.leader.flights _ leads.flights (mine, tt); ready = leads.ready; reports = leads.reports })
-      (all_sent r.me (λ ms. IsLonePlace (r, ms)) body (λ to ms q. pushed r ms to body mine tt tt q) set mails k)
-
-  -- requests are answered
-  pub answers_mine : (r : ReplicaState) (mails : List Mail) (name : Draw) (answer : AnswerBody) (command : Command) → IsMine command → IsLonePlace (r, mails) → IsLonePlace (r, answered r.me name answer command mails)
-  unfolding answered
-  answers_mine r mails name answer (Call who number op) mine k = pushed r mails (client_actor who) (Answer name number answer) tt (ap client_actor mine.0) tt k
-  answers_mine r mails name answer _ mine k = absurd mine
-
-  answers_each : (r : ReplicaState) (name : Draw) (answer : AnswerBody) (commands : List Command) (mails : List Mail) → Each IsMine commands → IsLonePlace (r, mails) → IsLonePlace (r, answered_all r.me name answer commands mails)
-  unfolding answered_all
-  answers_each r name answer [] mails mine k = k
-  answers_each r name answer (command ∷ commands) mails mine k = answers_each r name answer commands (answered r.me name answer command mails) mine.1 (answers_mine r mails name answer command mine.0 k)
-
-  dismisses_mine : (r : ReplicaState) (mails : List Mail) (name : Draw) (hint : Option ℕ) (answer : AnswerBody) (command : Command) → IsMine command → IsLonePlace (r, mails) → IsLonePlace (r, dismissed r.me name hint answer command mails)
-  unfolding dismissed
-  dismisses_mine r mails name hint answer (Call who number op) mine k = pushed r mails (client_actor who) (Answer name number answer) tt (ap client_actor mine.0) tt k
-  dismisses_mine r mails name hint answer _ mine k = absurd mine
-
-  dismisses_each : (r : ReplicaState) (name : Draw) (hint : Option ℕ) (answer : AnswerBody) (commands : List Command) (mails : List Mail) → Each IsMine commands → IsLonePlace (r, mails) → IsLonePlace (r, dismissed_all r.me name hint answer commands mails)
-  unfolding dismissed_all
-  dismisses_each r name hint answer [] mails mine k = k
-  dismisses_each r name hint answer (command ∷ commands) mails mine k = dismisses_each r name hint answer commands (dismissed r.me name hint answer command mails) mine.1 (dismisses_mine r mails name hint answer command mine.0 k)
-
   -- what is in flight or ready is the client's
   listed_mine : (o : Option Command) → Opt IsMine o → Each IsMine (listed o)
   listed_mine None k = tt
@@ -196,10 +112,107 @@ module _ (client first seq : ℕ) (early : Bool) (Elsewhere : Type 0) where
       Each-append IsMine (listed (taken_at r slot)) (taken_from r slots)
       (listed_mine (taken_at r slot) (opt_either IsMine (flying r slot) (at_slot r.ready slot) (flying_mine r slot k) (opt_slot IsMine r.ready slot k.ready))) (taken_mine r slots k)
 
+module _ (client seq : ℕ) where
+  -- another command than the request that the client waits for
+  abbrev pub IsOther : Command → Type 0
+  IsOther command = is_call client seq command ≡ false
+
+  -- a reply to the request that the client waits for is under way
+  pub record Replies (mails : List Mail) : Type 0 where
+    pub mail : Mail
+    pub among : Among mail mails
+    pub to : mail.to ≡ client_actor client
+    pub group : Draw
+    pub reply : Reply
+    pub body : mail.body ≡ Answer group seq (Value reply)
+
+module _ (client first seq : ℕ) (early : Bool) (Elsewhere : Type 0) where
+  abbrev Mine : Command → Type 0
+  Mine command = IsMine client first command
+
+  abbrev Other : Command → Type 0
+  Other command = IsOther client seq command
+
+  abbrev Alone : Place → Type 0
+  Alone place = IsAlone client first place
+
+  abbrev pub IsReplied : List Mail → Type 0
+  IsReplied mails = Elsewhere ⊎ Replies client seq mails
+
+  -- what is learnt or asked for: not the request; and nothing while it is early
+  abbrev pub IsUnlearnt : MailBody → Type 0
+  IsUnlearnt (Learn group slot command) = (early ≡ false) × Other command
+  IsUnlearnt (Ask group from_slot) = early ≡ false
+  IsUnlearnt _ = Unit {0}
+
+  -- the request is in no log and no Learn, unless a reply to it is under way
+  abbrev pub IsHidden : Place → Type 0
+  IsHidden place = ((early ≡ false → Each Other place.0.log.entries) × Each (λ (mail : Mail). IsUnlearnt mail.body) place.1) ⊎ IsReplied place.1
+
+  abbrev pub IsLonePlace : Place → Type 0
+  IsLonePlace place = Alone place × IsHidden place
+
+  -- ---- mails
+
+  pub replied_more : (mails more : List Mail) → ((mail : Mail) → Among mail mails → Among mail more) → IsReplied mails → IsReplied more
+  replied_more mails more grow (inl away) = inl away
+  replied_more mails more grow (inr r) = inr (record { mail = r.mail; among = grow r.mail r.among; to = r.to; group = r.group; reply = r.reply; body = r.body })
+
+  pub hidden_push : (r : ReplicaState) (mails : List Mail) (to : ℕ) (body : MailBody) → IsUnlearnt body → IsHidden (r, mails) → IsHidden (r, sent r.me to body mails)
+  hidden_push r mails to body fine (inl h) = inl (h.0, Each-append (λ (mail : Mail). IsUnlearnt mail.body) mails (mail_of r.me to body ∷ []) h.1 (fine, tt))
+  hidden_push r mails to body fine (inr t) = inr (replied_more mails (sent r.me to body mails) (λ mail a. among_push mails (mail_of r.me to body) mail a) t)
+
+  pub pushed : (r : ReplicaState) (mails : List Mail) (to : ℕ) (body : MailBody) → IsLoneBody client first body → GoesToClient client first to body → IsUnlearnt body → IsLonePlace (r, mails) → IsLonePlace (r, sent r.me to body mails)
+  pushed r mails to body lone goes fine k = (alone_push client first r mails to body lone goes k.0, hidden_push r mails to body fine k.1)
+
+  -- ---- other parts of the replica
+
+  -- with the same log
+  pub hidden_same : (r after : ReplicaState) (mails : List Mail) → after.log ≡ r.log → IsHidden (r, mails) → IsHidden (after, mails)
+  hidden_same r after mails same (inl h) = inl (subst (λ (l : LogState Command). early ≡ false → Each Other l.entries) (sym same) h.0, h.1)
+  hidden_same r after mails same (inr t) = inr t
+
+  pub with_leads : (r after : ReplicaState) (mails : List Mail) → after.log ≡ r.log → (after.running ≡ true → LeadsAlone client first after) → IsLonePlace (r, mails) → IsLonePlace (after, mails)
+  with_leads r after mails same leads k = (record { leads = leads; said = k.0.said }, hidden_same r after mails same k.1)
+
+  -- ---- what a leader says
+
+  -- a command is offered
+  pub offers_alone : (slot : ℕ) (set : List ℕ) (command : Command) (r : ReplicaState) (mails : List Mail) → r.running ≡ true → Mine command → IsLonePlace (r, mails) → IsLonePlace (offered slot set command (r, mails))
+  unfolding offered
+  offers_alone slot set command r mails on mine k =
+      let body : MailBody = Accept (name_of r) r.leader.ballot slot command in
+      let now : ReplicaState = record r { leader = with_flight_at slot command r.leader } in
+      let leads = k.0.leads on in
+      with_leads r now (sent_all r.me set body mails) refl
+      (λ _. record { backlog = leads.backlog; flights = Each-append (λ (flight : Flight Command). Mine flight.value) r.leader.flights _ leads.flights (mine, tt); ready = leads.ready; reports = leads.reports })
+      (all_sent r.me (λ ms. IsLonePlace (r, ms)) body (λ to ms q. pushed r ms to body mine tt tt q) set mails k)
+
+  -- requests are answered
+  pub answers_mine : (r : ReplicaState) (mails : List Mail) (name : Draw) (answer : AnswerBody) (command : Command) → Mine command → IsLonePlace (r, mails) → IsLonePlace (r, answered r.me name answer command mails)
+  unfolding answered
+  answers_mine r mails name answer (Call who number op) mine k = pushed r mails (client_actor who) (Answer name number answer) tt (ap client_actor mine.0) tt k
+  answers_mine r mails name answer _ mine k = absurd mine
+
+  answers_each : (r : ReplicaState) (name : Draw) (answer : AnswerBody) (commands : List Command) (mails : List Mail) → Each Mine commands → IsLonePlace (r, mails) → IsLonePlace (r, answered_all r.me name answer commands mails)
+  unfolding answered_all
+  answers_each r name answer [] mails mine k = k
+  answers_each r name answer (command ∷ commands) mails mine k = answers_each r name answer commands (answered r.me name answer command mails) mine.1 (answers_mine r mails name answer command mine.0 k)
+
+  dismisses_mine : (r : ReplicaState) (mails : List Mail) (name : Draw) (hint : Option ℕ) (answer : AnswerBody) (command : Command) → Mine command → IsLonePlace (r, mails) → IsLonePlace (r, dismissed r.me name hint answer command mails)
+  unfolding dismissed
+  dismisses_mine r mails name hint answer (Call who number op) mine k = pushed r mails (client_actor who) (Answer name number answer) tt (ap client_actor mine.0) tt k
+  dismisses_mine r mails name hint answer _ mine k = absurd mine
+
+  dismisses_each : (r : ReplicaState) (name : Draw) (hint : Option ℕ) (answer : AnswerBody) (commands : List Command) (mails : List Mail) → Each Mine commands → IsLonePlace (r, mails) → IsLonePlace (r, dismissed_all r.me name hint answer commands mails)
+  unfolding dismissed_all
+  dismisses_each r name hint answer [] mails mine k = k
+  dismisses_each r name hint answer (command ∷ commands) mails mine k = dismisses_each r name hint answer commands (dismissed r.me name hint answer command mails) mine.1 (dismisses_mine r mails name hint answer command mine.0 k)
+
   -- one that stops answers
   pub stops_alone : (hint : Option ℕ) (r : ReplicaState) (mails : List Mail) → r.running ≡ true → IsLonePlace (r, mails) → IsLonePlace (stopped hint (r, mails))
   unfolding ended
   stops_alone hint r mails on k =
       let leads = k.0.leads on in
       with_leads r _ (dismissed_all r.me (name_of r) hint (NotLeader hint) r.backlog (answered_all r.me (name_of r) (NotLeader hint) (under_way r) mails)) refl (λ off. absurd (true≢false (sym off)))
-      (dismisses_each r (name_of r) hint (NotLeader hint) r.backlog _ leads.backlog (answers_each r (name_of r) (NotLeader hint) (under_way r) mails (taken_mine r (open_slots r) leads) k))
+      (dismisses_each r (name_of r) hint (NotLeader hint) r.backlog _ leads.backlog (answers_each r (name_of r) (NotLeader hint) (under_way r) mails (taken_mine client first r (open_slots r) leads) k))
