@@ -57,3 +57,4 @@ pub mod PollBegins
 pub mod LoneRequests
 pub mod LoneRequestRows
 pub mod FewJournals
+pub mod LoneMail

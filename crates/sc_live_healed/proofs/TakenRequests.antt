@@ -195,7 +195,7 @@ module _ (client seq : ℕ) where
       skipped _ f e = e
 
   -- a request whose number is found is queued
-  queued_there : (who : ℕ) (backlog : List Command) (number : ℕ) → queued_number backlog who ≡ Some number → (op : Op) × Among (Call who number op) backlog
+  pub queued_there : (who : ℕ) (backlog : List Command) (number : ℕ) → queued_number backlog who ≡ Some number → (op : Op) × Among (Call who number op) backlog
   queued_there who [] number e = absurd (none_some e)
     where
       none_some : {X : Type 0} {x : X} → None ≡ Some x → ⊥
@@ -210,7 +210,7 @@ module _ (client seq : ℕ) where
   queued_there who (Noop ∷ backlog) number e = (let more = queued_there who backlog number e in (more.0, inr more.1))
   queued_there who (_ ∷ backlog) number e = (let more = queued_there who backlog number e in (more.0, inr more.1))
 
-  ours_is : (op : Op) → IsOurs (Call client seq op)
+  pub ours_is : (op : Op) → IsOurs (Call client seq op)
   ours_is op = and_from (eqb client client) (eqb seq seq) (eq-eqb client client refl) (eq-eqb seq seq refl)
 
   -- a request that is queued stays so where another command goes back to the queue
