@@ -58,3 +58,4 @@ pub mod LoneRequests
 pub mod LoneRequestRows
 pub mod FewJournals
 pub mod LoneMail
+pub mod LoneNodes
