@@ -59,3 +59,4 @@ pub mod LoneRequestRows
 pub mod FewJournals
 pub mod LoneMail
 pub mod LoneNodes
+pub mod LoneDeliveries

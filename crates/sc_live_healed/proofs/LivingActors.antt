@@ -118,7 +118,7 @@ module _ (s : System Player Mail OrderLine) where
   or_none true = refl
   or_none false = refl
 
-  same_crashed : (who : ℕ) (rows more : Rows) → AreKind more → has_crashed (rows ++ more) who ≡ has_crashed rows who
+  pub same_crashed : (who : ℕ) (rows more : Rows) → AreKind more → has_crashed (rows ++ more) who ≡ has_crashed rows who
   same_crashed who rows more k =
       list_any-append (λ (row : Row Mail OrderLine). eqb row.who who && is_crash row.event) rows more
       ∙ (ap (λ b. has_crashed rows who || b) (none_crash who more k) ∙ or_none (has_crashed rows who))
