@@ -60,3 +60,4 @@ pub mod FewJournals
 pub mod LoneMail
 pub mod LoneNodes
 pub mod LoneDeliveries
+pub mod LoneTurns
