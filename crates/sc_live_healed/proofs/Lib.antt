@@ -61,3 +61,4 @@ pub mod LoneMail
 pub mod LoneNodes
 pub mod LoneDeliveries
 pub mod LoneTurns
+pub mod LoneTurnClients
