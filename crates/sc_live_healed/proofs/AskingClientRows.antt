@@ -43,7 +43,7 @@ does client a mail some = by mail.body refl
 -- ---- any client, and any input
 
 -- a client that rests takes no notice of mail
-rests_on : (started_ : Bool) (client : Client) → IsResting started_ client → (mail : Mail) → got mail.from mail.body client ≡ (client, [])
+pub rests_on : (started_ : Bool) (client : Client) → IsResting started_ client → (mail : Mail) → got mail.from mail.body client ≡ (client, [])
 rests_on started_ client r mail = by mail.body
   where
     by : (body : MailBody) → got mail.from body client ≡ (client, [])
@@ -63,7 +63,7 @@ ticks client a some =
     subst (λ (x : ClientStep). Asks client a.seq x) (sym (ap (λ (o : Option ℕ). client_ticked client o client.asked) a.waits ∙ ap (client_ticked client (Some a.seq)) a.asked)) (turned client a some)
 
 -- one that rests does nothing
-rests_ticked : (started_ : Bool) (client : Client) → IsResting started_ client → table client Tick ≡ (client, [])
+pub rests_ticked : (started_ : Bool) (client : Client) → IsResting started_ client → table client Tick ≡ (client, [])
 rests_ticked started_ client r = ap (λ (o : Option ℕ). client_ticked client o client.asked) r.waits
 
 -- whether an input starts a client

@@ -62,3 +62,4 @@ pub mod LoneNodes
 pub mod LoneDeliveries
 pub mod LoneTurns
 pub mod LoneTurnClients
+pub mod LoneTurnRows
