@@ -63,3 +63,4 @@ pub mod LoneDeliveries
 pub mod LoneTurns
 pub mod LoneTurnClients
 pub mod LoneTurnRows
+pub mod LoneTurnStarts

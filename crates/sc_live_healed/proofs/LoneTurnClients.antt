@@ -46,13 +46,13 @@ few_unlearnt client first seq (Learn group slot command) few = (refl, at_most_ot
 few_unlearnt client first seq (Ask group from_slot) few = refl
 few_unlearnt client first seq _ few = tt
 
-none_some : {X : Type 0} {x : X} → None ≡ Some x → ⊥
+pub none_some : {X : Type 0} {x : X} → None ≡ Some x → ⊥
 none_some e = cc
 
-first_of : (x y : Draw) (m n : ℕ) → ◌≡◌ {A = Option (Draw × ℕ)} (Some (x, m)) (Some (y, n)) → x ≡ y
+pub first_of : (x y : Draw) (m n : ℕ) → ◌≡◌ {A = Option (Draw × ℕ)} (Some (x, m)) (Some (y, n)) → x ≡ y
 first_of x y m n e = ap (λ (p : Draw × ℕ). p.0) (some_is e)
 
-second_of : (x y : Draw) (m n : ℕ) → ◌≡◌ {A = Option (Draw × ℕ)} (Some (x, m)) (Some (y, n)) → m ≡ n
+pub second_of : (x y : Draw) (m n : ℕ) → ◌≡◌ {A = Option (Draw × ℕ)} (Some (x, m)) (Some (y, n)) → m ≡ n
 second_of x y m n e = ap (λ (p : Draw × ℕ). p.1) (some_is e)
 
 module _ (words : ℕ → ℕ → ℕ × ℕ) (scenario : Scenario) (bounded : IsBounded scenario) (off : scenario.policy ≡ false) (client : ℕ) (seat : Seat Player) (is_of : IsOf scenario seat) (number : seat.who ≡ client_actor client) (first : ℕ)
