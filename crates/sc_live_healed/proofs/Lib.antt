@@ -64,3 +64,4 @@ pub mod LoneTurns
 pub mod LoneTurnClients
 pub mod LoneTurnRows
 pub mod LoneTurnStarts
+pub mod AnsweredTurns
