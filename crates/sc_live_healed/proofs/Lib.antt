@@ -51,6 +51,8 @@ pub mod HeldRequestRows
 pub mod AskingJournals
 pub mod NumberedRequests
 pub mod NearSlots
+pub mod GrowingJournals
 pub mod NearJournals
+pub mod NearRounds
 pub mod SettledTicks
 pub mod PollBegins
