@@ -56,3 +56,5 @@ pub mod NearJournals
 pub mod NearRounds
 pub mod SettledTicks
 pub mod PollBegins
+pub mod NodeTicks
+pub mod PlayerRows
