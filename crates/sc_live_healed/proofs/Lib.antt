@@ -58,3 +58,4 @@ pub mod SettledTicks
 pub mod PollBegins
 pub mod NodeTicks
 pub mod PlayerRows
+pub mod FreshBallots
