@@ -254,19 +254,24 @@ module _ (words : ℕ → ℕ → ℕ × ℕ) (scenario : Scenario) (bounded : I
               | inr own ↦ own.1 r (ap ViewOf (sym after_is) ∙ (sym (seen_at later step.seat step.born) ∙ (ap (seen later) (sym own.0) ∙ e)))
             ]) (acts step.seat).1 (player_row step.seat step.born who_is).asks)
 
-    next_promise : (who m : ℕ) (r x : ReplicaState) → seen later who ≡ Some r → seen later m ≡ Some x → x.acceptor.promised.node ≡ who → x.acceptor.promised.round ≤ r.top.round
-    next_promise who m r x e f same =
-        let up = rises who r e in
+    -- a promise of a node's ballot is not above what the node has seen before the row
+    pub promised_before : (who m : ℕ) (r x : ReplicaState) → seen rows who ≡ Some r → seen later m ≡ Some x → x.acceptor.promised.node ≡ who → x.acceptor.promised.round ≤ r.top.round
+    promised_before who m r x e f same =
         let other = rises m x f in
-        let top = up.2.0 in
         elim other.2.1 [
-          | inl kept ↦ (let was = now.promises who m up.0 other.0 up.1 other.1 (ap (λ (b : Ballot). b.node) (sym kept) ∙ same) in let rounds = ap (λ (b : Ballot). b.round) kept in omega (arith, was, rounds, top))
+          | inl kept ↦ (let was = now.promises who m r other.0 e other.1 (ap (λ (b : Ballot). b.node) (sym kept) ∙ same) in let rounds = ap (λ (b : Ballot). b.round) kept in omega (arith, was, rounds))
           | inr b ↦ (
               let fixed : IsFixedMail bases b.0 = Each-among (IsFixedMail bases) (mails rows) b.0 near.fixed.sent b.1 in
               let from : x.acceptor.promised.node ≡ b.0.from = brings_own fixed.base b.0.from b.0.to b.0.body x.acceptor.promised fixed.says b.3 in
-              let asked = Each-among (AsksSeen rows) (mails rows) b.0 now.asks b.1 b.2 up.0 (ap (seen rows) (sym from ∙ same) ∙ up.1) in
-              let low = brings_within up.0.top.round b.0.body x.acceptor.promised asked b.3 in omega (arith, low, top))
+              let asked = Each-among (AsksSeen rows) (mails rows) b.0 now.asks b.1 b.2 r (ap (seen rows) (sym from ∙ same) ∙ e) in
+              brings_within r.top.round b.0.body x.acceptor.promised asked b.3)
         ]
+
+    next_promise : (who m : ℕ) (r x : ReplicaState) → seen later who ≡ Some r → seen later m ≡ Some x → x.acceptor.promised.node ≡ who → x.acceptor.promised.round ≤ r.top.round
+    next_promise who m r x e f same =
+        let up = rises who r e in
+        let top = up.2.0 in
+        let low = promised_before who m up.0 x up.1 f same in omega (arith, low, top)
 
     next_ballots : HasFreshBallots later
     next_ballots = record {

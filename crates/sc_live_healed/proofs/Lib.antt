@@ -59,3 +59,4 @@ pub mod PollBegins
 pub mod NodeTicks
 pub mod PlayerRows
 pub mod FreshBallots
+pub mod OwnTicks
