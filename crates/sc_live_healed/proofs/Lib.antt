@@ -60,3 +60,4 @@ pub mod NodeTicks
 pub mod PlayerRows
 pub mod FreshBallots
 pub mod OwnTicks
+pub mod SettledTurns

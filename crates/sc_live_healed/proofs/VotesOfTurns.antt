@@ -75,7 +75,7 @@ module _ (words : ℕ → ℕ → ℕ × ℕ) (scenario : Scenario) (bounded : I
   start_same rows l = (let was = l.nodes seat is_of living in ap (λ (p : Player). (acted player_table p (Some Go)).0) was.1 ∙ sym was.1)
 
   -- the row of an actor's event
-  acts_row : (rows : Rows) (who : ℕ) (event : Event OrderLine) (row : Row Mail OrderLine) → acts System_ rows who event ≡ Some row → (row.who ≡ who) × (row.event ≡ event)
+  pub acts_row : (rows : Rows) (who : ℕ) (event : Event OrderLine) (row : Row Mail OrderLine) → acts System_ rows who event ≡ Some row → (row.who ≡ who) × (row.event ≡ event)
   acts_row rows who event row e =
       let m = map-some (λ (other : Seat Player). row_of player_table other rows event) (find (λ (other : Seat Player). eqb other.who who) (births as_nodes scenario)) row e in
       let found = find_found (λ (other : Seat Player). eqb other.who who) (births as_nodes scenario) m.0 m.1 in
