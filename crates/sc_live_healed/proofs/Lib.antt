@@ -27,6 +27,7 @@ pub mod Lemmas
 pub mod FixedBirths
 pub mod FixedClients
 pub mod FixedJournals
+pub mod HarmlessRows
 pub mod UntoldRows
 pub mod TakenJournals
 pub mod VotesInTurns
@@ -61,3 +62,4 @@ pub mod PlayerRows
 pub mod FreshBallots
 pub mod OwnTicks
 pub mod SettledTurns
+pub mod ShorterSchedules
