@@ -63,3 +63,5 @@ pub mod FreshBallots
 pub mod OwnTicks
 pub mod SettledTurns
 pub mod ShorterSchedules
+pub mod HealedLines
+pub mod LivingSeats
