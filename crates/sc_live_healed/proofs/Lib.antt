@@ -65,3 +65,4 @@ pub mod SettledTurns
 pub mod ShorterSchedules
 pub mod HealedLines
 pub mod LivingSeats
+pub mod HealedIdle
