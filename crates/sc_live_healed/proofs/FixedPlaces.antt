@@ -14,7 +14,6 @@ use Rattle.sc_live_healed.proofs.FixedTicks.{ticks}
 use Rattle.sc_live_healed.proofs.FixedRows.{takes_mail}
 use Rattle.sc_live_healed.proofs.FixedParts as parts
 use Rattle.sc_live_healed.specs.Definitions.{IsFixedRequest, IsFixedCommand, KeepsBallots, IsFixedBody}
-
 use Rattle.sc_live_healed.proofs.FixedChanges as changes
 
 module _ (base : Base) (me : ℕ) (fresh : IsFresh base me) where

@@ -1,31 +1,31 @@
 -- In each lawful journal without orders and policy ballots are fresh: no acceptor of a group has promised a ballot of a node in a round above the greatest one that the node's replica has seen, and the node asks in no such round.
-use Rattle.std.proofs.Common.{◌≡◌, ℕ, zero, suc, ◌+◌, ◌*◌, ◌<◌, ◌≤◌, eqb, Bool, false, true, List, [], ◌∷◌, ◌++◌, cond, length, map, filter, find, Option, Some, None, ◌⊎◌, inl, inr, refl, sym, ◌∙◌, ap, subst, arith, append-nil}
+use Rattle.std.proofs.Common.{◌≡◌, ℕ, zero, suc, ◌+◌, ◌*◌, ◌<◌, ◌≤◌, eqb, Bool, false, List, [], ◌∷◌, ◌++◌, cond, length, map, filter, find, Option, Some, None, inl, inr, refl, sym, ◌∙◌, ap, subst, arith}
 use Rattle.std.specs.Option.{option_map}
 use Rattle.std.proofs.lemmas.Bool.{cond_both, cond-true, eqb-true, eq-eqb, cases_lt}
 use Rattle.sc_base.specs.Definitions.{Among, Each, is_member}
 use Rattle.sc_words.proofs.PaxosProofs.Lemmas.{Each-among, Each-append, Each-weaker, find_found}
-use Rattle.sc_node_table.specs.Values.{Ballot, Draw, Seat, Row, Event, Deliver, Drop, Again, Crash, Input, Got, Base, Core, OrderLine, Mail, MailBody, Request, Answer, Prepare, Promise, Accept, Accepted, Nack, Learn, Ask, Install, TxPrepare, TxVote, TxOutcome, TxElsewhere, TxWatch, TxWatched, Told, Node, Client}
+use Rattle.sc_node_table.specs.Values.{Ballot, Draw, Seat, Row, Event, Deliver, Drop, Again, Crash, Input, Got, Base, Core, OrderLine, Mail, MailBody, Prepare, Accept, Node, Client}
 use Rattle.sc_actor.specs.declared.rows.Event.TheVariants.{Tick as TickEvent, Go as GoEvent, Told as ToldEvent}
 use Rattle.sc_actor.specs.declared.rows.Input.TheVariants.{Tick, Go, Told as ToldInput}
 use Rattle.sc_actor.specs.Definitions.{mails, acted, input_of, value, IsStep}
 use Rattle.sc_actor.proofs.Lemmas.{lawful-induction, lawful-prefix, value-snoc, mails-snoc, find-who}
-use Rattle.sc_node_table.specs.Definitions.{NodeState, ReplicaState, name_of, group_of_mail, mailed, ticked, node_table, born_replica, born_replicas, slots_ahead, numbers_from}
+use Rattle.sc_node_table.specs.Definitions.{NodeState, ReplicaState, name_of, group_of_mail, mailed, ticked, born_replica, born_replicas, slots_ahead, numbers_from}
 use Rattle.sc_scenario.specs.declared.scenario.drafts.GroupLine.{GroupLine}
 use Rattle.sc_scenario.specs.declared.scenario.scenarios.Scenario.{Scenario}
 use Rattle.sc_scenario.specs.declared.scenario.scenarios.Asks.{Asks as Requests}
 use Rattle.sc_scenario.specs.scenario.Definitions.{IsBounded, base_at, bases_up_to}
 use Rattle.sc_meaning.specs.sound.Definitions.{Lawful, Player, as_nodes, births, client_seat, client_seats, node_seat, player_table, route_of, schedule, system_of}
 use Rattle.sc_live_orderly.specs.Definitions.{is_told}
-use Rattle.sc_live_healed.proofs.FixedNodes.{AreFresh, MayTake, group_is}
+use Rattle.sc_live_healed.proofs.FixedNodes.{AreFresh, MayTake}
 use Rattle.sc_live_healed.proofs.FixedBirths.{groups_fresh, place_of}
-use Rattle.sc_live_healed.proofs.FixedJournals.{Rows, IsOf, IsFixedPlayer, IsFixedJournal, Brings, AreUntold, brings, given, first_fixed, next_fixed}
+use Rattle.sc_live_healed.proofs.FixedJournals.{Rows, IsOf, IsFixedPlayer, Brings, AreUntold, brings, given}
 use Rattle.sc_live_healed.proofs.MovedReplicas.{AsksWithin, Brings as BringsBallot, within_more}
 use Rattle.sc_live_healed.proofs.NearJournals.{IsNearJournal, journal_near}
-use Rattle.sc_live_healed.proofs.NodeMail.{TakesMail, PassesMail, mail_taken}
+use Rattle.sc_live_healed.proofs.NodeMail.{mail_taken}
 use Rattle.sc_live_healed.proofs.NodeTicks.{NoneNamed, OneNamed, put_one, tick_one}
 use Rattle.sc_live_healed.proofs.PlayerRows.{View, HasOne, Rises, PlayerRow, player_rows}
 use Rattle.sc_live_healed.proofs.DeliveredViews.{view, seat_view}
-use Rattle.sc_live_healed.specs.Definitions.{IsFixedBody, IsFixedMail, IsFixedNode}
+use Rattle.sc_live_healed.specs.Definitions.{IsFixedBody, IsFixedMail}
 
 -- ---- one group of a name
 

@@ -1,5 +1,5 @@
 -- A lawful journal of lines that do an actor no harm, by a crash or an order, has no row that does.
-use Rattle.std.proofs.Common.{◌≡◌, ℕ, zero, suc, ◌+◌, ◌%◌, List, [], ◌∷◌, ◌++◌, Bool, false, true, cond, eqb, find, length, sym, ◌∙◌, ap, refl, fold, None, Some}
+use Rattle.std.proofs.Common.{◌≡◌, ℕ, zero, suc, ◌+◌, ◌%◌, List, [], ◌∷◌, ◌++◌, Bool, false, true, cond, eqb, find, length, sym, ◌∙◌, ap, fold, None, Some}
 use Rattle.std.specs.Prelude.{slice_get}
 use Rattle.std.specs.List.{flat_map}
 use Rattle.std.proofs.lemmas.Bool.{cond_both}

@@ -1,22 +1,20 @@
 -- A store that healed is idle: behind the sweep, and behind each turn of a client, each replica that runs at a living node is settled and has nothing to do.
-use Rattle.std.proofs.Common.{◌≡◌, ℕ, ◌+◌, ◌*◌, ◌-◌, ◌^◌, ◌≤◌, Bool, false, true, List, [], ◌∷◌, ◌++◌, length, length-append, map, Option, Some, None, ◌⊎◌, inl, inr, refl, sym, ◌∙◌, ap, subst, arith, append-nil}
+use Rattle.std.proofs.Common.{◌≡◌, ℕ, ◌+◌, ◌*◌, ◌-◌, ◌^◌, ◌≤◌, false, true, List, [], ◌∷◌, ◌++◌, length, length-append, map, Option, Some, ◌⊎◌, inl, inr, refl, sym, ◌∙◌, ap, subst, arith, append-nil}
 use Rattle.std.specs.List.{flat_map}
 use Rattle.std.proofs.lemmas.Bool.{cond_both, cond-true}
-use Rattle.sc_base.specs.Definitions.{Among, Each, same_draw}
+use Rattle.sc_base.specs.Definitions.{Among, same_draw}
 use Rattle.sc_base.proofs.Lemmas.{draw_is, same_name}
 use Rattle.sc_words.proofs.PaxosProofs.Lemmas.{Each-among, Each-from}
-use Rattle.sc_node_table.specs.Values.{Draw, Seat, Row, Base, OrderLine, Mail, Node}
+use Rattle.sc_node_table.specs.Values.{Draw, Seat, Base, OrderLine, Mail, Node}
 use Rattle.sc_actor.specs.declared.schedules.Line.{Line}
-use Rattle.sc_actor.specs.declared.schedules.Line.TheVariants.{Settle as SettleLine}
 use Rattle.sc_actor.specs.Definitions.{value, is_quiet, may_get, numbers_of, unsettled, System, IsLawful, IsWhole}
 use Rattle.sc_actor.proofs.Lemmas.{lawful-prefix}
 use Rattle.sc_node_table.specs.Definitions.{NodeState, ReplicaState, name_of, replica_of, is_node, last_slot}
 use Rattle.sc_scenario.specs.declared.scenario.scenarios.Scenario.{Scenario}
-use Rattle.sc_scenario.specs.declared.scenario.scenarios.SchedLine.{SchedLine}
-use Rattle.sc_scenario.specs.scenario.Definitions.{IsValid, IsBounded}
+use Rattle.sc_scenario.specs.scenario.Definitions.{IsBounded}
 use Rattle.sc_scenario.proofs.ScenarioProofs.Lemmas.{valid_scenarios_are_bounded}
-use Rattle.sc_meaning.specs.sound.Definitions.{Lawful, Whole, Player, as_nodes, births, line_of, player_table, schedule, system_of}
-use Rattle.sc_live_orderly.specs.Definitions.{Kick, Ticks, Starts, Turn, turn_lines, HasTurns}
+use Rattle.sc_meaning.specs.sound.Definitions.{Lawful, Player, as_nodes, births, line_of, player_table, schedule, system_of}
+use Rattle.sc_live_orderly.specs.Definitions.{Ticks, Turn, HasTurns}
 use Rattle.sc_live_orderly.proofs.TakenTurns.{turns_taken}
 use Rattle.sc_live_healed.proofs.FixedNodes.{AreFresh, IsOne, name_one}
 use Rattle.sc_live_healed.proofs.FixedBirths.{groups_fresh}
@@ -32,10 +30,10 @@ use Rattle.sc_live_healed.proofs.NearRounds.{rounds_grow}
 use Rattle.sc_live_healed.proofs.NodeTicks.{OneNamed}
 use Rattle.sc_live_healed.proofs.PlayerRows.{HasOne}
 use Rattle.sc_live_healed.proofs.SettledTurns.{HasTicked, turns_settle}
-use Rattle.sc_live_healed.proofs.ShorterSchedules.{FirstPart, first_part}
+use Rattle.sc_live_healed.proofs.ShorterSchedules.{first_part}
 use Rattle.sc_live_healed.proofs.UntoldRows.{rows_untold}
 use Rattle.sc_live_healed.proofs.VotesOfTurns.{IsTicked}
-use Rattle.sc_live_healed.specs.Definitions.{lives, HasLivingMajorities, NodeTurn, ClientTurn, client_lines, IsHealed, IsIdle, IsSettledOrStopped, IsIdleLeader, IsIdleStore, IsAtEnd, StaysIdle, HealedStoresIdle}
+use Rattle.sc_live_healed.specs.Definitions.{lives, HasLivingMajorities, NodeTurn, client_lines, IsIdle, IsSettledOrStopped, IsIdleLeader, IsIdleStore, HealedStoresIdle}
 
 -- one of some that are named once is found by its name
 found_once : (name : Draw) (replicas : List ReplicaState) (r : ReplicaState) → OneNamed name_of name replicas → Among r replicas → name_of r ≡ name → replica_of name replicas ≡ Some r
@@ -47,7 +45,7 @@ found_once name (x ∷ replicas) r (inr one) (inr a) n =
     (λ t f. absurd (one.0 (draw_is (name_of x) name t))) (λ off f. f) (found_once name replicas r one.1 a n)
 
 -- one of these turns is the tick of an actor
-abbrev TicksOf : ℕ → List Turn → Type 0
+abbrev pub TicksOf : ℕ → List Turn → Type 0
 TicksOf who [] = ⊥
 TicksOf who (turn ∷ turns) = ((turn.kick ≡ Ticks) × (turn.who ≡ who)) ⊎ TicksOf who turns
 
@@ -124,7 +122,7 @@ module _ (words : ℕ → ℕ → ℕ × ℕ) (scenario : Scenario) (bounded : I
           living_replicas_idle words scenario bounded off (lives scenario) are_nodes seat is_of living before turns rows t lawful untold gets few_slots rounds (ticks_voted turns (ticked seat.who living)) node is base one.1 most r found settles on in
           record { leads = settles on; flights = idle.flights; ready = idle.ready; acts = idle.acts; backlog = idle.backlog }
 
-    store_idle : IsIdleStore scenario rows
+    pub store_idle : IsIdleStore scenario rows
     store_idle seat node a is l =
         let is_of = node_is_found scenario seat a rows node is in
         let mine : IsFixedPlayer scenario.groups seat.who (Node node) = subst (IsFixedPlayer scenario.groups seat.who) is ((journal_fixed words scenario bounded off rows untold lawful).players seat is_of) in
@@ -147,7 +145,9 @@ healed_stores_stay_idle words scenario journal healed valid majorities lawful wh
     (subst (λ ls. unsettled system ls part.rows ≡ false) turned part.uncut) in
     let lawful_rows : Lawful as_nodes words scenario part.rows = lawful-prefix system (schedule scenario) part.rows part.more (subst (Lawful as_nodes words scenario) part.journal_is lawful) in
     let untold_rows = rows_untold system (schedule scenario) part.rows (healed_untold scenario healed) lawful_rows in
-    let parts = ap length part.journal_is ∙ length-append part.rows part.more in
-    (part.rows, record { later = part.more; goes_on = part.journal_is; lawful = part.lawful_first; whole = part.whole_first; quiet = ends_quiet system taken.0 turns part.rows taken.1 },
-    store_idle words scenario bounded healed.no_policy majorities taken.0 part.rows turns taken.1 lawful_rows untold_rows (omega (arith, parts, few))
-    (λ who l. (let swept = healed.swept who l in sweep_ticks who swept.0 healed.sweep (map client_turn done) swept.1 swept.2)))
+    let parts = ap length part.journal_is ∙ length-append part.rows part.more in (
+      part.rows,
+      record { later = part.more; goes_on = part.journal_is; lawful = part.lawful_first; whole = part.whole_first; quiet = ends_quiet system taken.0 turns part.rows taken.1 },
+      store_idle words scenario bounded healed.no_policy majorities taken.0 part.rows turns taken.1 lawful_rows untold_rows (omega (arith, parts, few))
+          (λ who l. (let swept = healed.swept who l in sweep_ticks who swept.0 healed.sweep (map client_turn done) swept.1 swept.2)),
+    )

@@ -1,17 +1,16 @@
 -- The lines that heal, as lines of a walk: any lines without orders, a `settle` line, and turns; no line behind the first ones crashes an actor.
-use Rattle.std.proofs.Common.{◌≡◌, ℕ, ◌||◌, ◌&&◌, not, eqb, Bool, true, false, List, [], ◌∷◌, ◌++◌, map, append_assoc, append-nil, refl, sym, ◌∙◌, ap, subst}
+use Rattle.std.proofs.Common.{◌≡◌, ℕ, ◌||◌, not, Bool, true, false, List, [], ◌∷◌, ◌++◌, map, append_assoc, refl, sym, ◌∙◌, ap, subst}
 use Rattle.std.specs.List.{flat_map, list_any}
 use Rattle.std.proofs.lemmas.Bool.{and_parts}
-use Rattle.sc_base.specs.Definitions.{Among, Each, client_actor}
+use Rattle.sc_base.specs.Definitions.{Each, client_actor}
 use Rattle.sc_words.proofs.PaxosProofs.Lemmas.{Each-append}
 use Rattle.sc_node_table.specs.Values.{OrderLine}
-use Rattle.sc_actor.specs.declared.schedules.Line.{Line}
 use Rattle.sc_actor.specs.declared.schedules.Line.TheVariants.{Settle as SettleLine}
 use Rattle.sc_scenario.specs.declared.scenario.scenarios.Scenario.{Scenario}
 use Rattle.sc_scenario.specs.declared.scenario.scenarios.SchedLine.{SchedLine}
 use Rattle.sc_scenario.specs.declared.scenario.scenarios.SchedLine.TheVariants.{Go, Deliver, Drop, Again, Tick, Crash, Told, Settle, Free, Storm}
 use Rattle.sc_meaning.specs.sound.Definitions.{line_of, schedule}
-use Rattle.sc_live_orderly.specs.Definitions.{Kick, Ticks, Starts, Turn, kick_line, turn_lines, gives_order}
+use Rattle.sc_live_orderly.specs.Definitions.{Kick, Ticks, Starts, Turn, kick_line, turn_lines}
 use Rattle.sc_live_orderly.proofs.PassedTasks.{flat_append}
 use Rattle.sc_live_healed.proofs.UntoldRows.{IsUntold, Spares}
 use Rattle.sc_live_healed.specs.Definitions.{crashes, is_order, lives, NodeTurn, ClientTurn, node_lines, client_line, client_lines, IsHealed}
@@ -129,4 +128,3 @@ living_spared scenario who l = lines_spare who scenario.lines (by (list_any (cra
     by : (b : Bool) → not b ≡ true → b ≡ false
     by false e = refl
     by true e = cc
-

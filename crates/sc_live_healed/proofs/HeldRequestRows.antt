@@ -1,8 +1,8 @@
 -- The walk of a request that a leader holds: each row of mail leaves it held, or its client answered.
-use Rattle.std.proofs.Common.{◌≡◌, ℕ, ◌+◌, ◌-◌, ◌<◌, ◌≤◌, eqb, ltb, nat_le, ◌&&◌, not, Bool, true, false, true≢false, cond, List, [], ◌∷◌, ◌++◌, length, Option, Some, None, ◌⊎◌, inl, inr, refl, sym, ◌∙◌, ap, subst, arith}
-use Rattle.std.proofs.lemmas.Bool.{cond_both, cases_Bool, leb-false, both_ways}
+use Rattle.std.proofs.Common.{◌≡◌, ℕ, ◌+◌, ◌<◌, ◌≤◌, ◌&&◌, not, Bool, true, false, true≢false, List, [], ◌∷◌, ◌++◌, length, Option, Some, None, ◌⊎◌, inl, inr, refl, sym, ◌∙◌, ap, subst, arith}
+use Rattle.std.proofs.lemmas.Bool.{cond_both, leb-false}
 use Rattle.sc_base.specs.Definitions.{Among, Each, same_ballot, is_member, client_actor}
-use Rattle.sc_node_table.specs.Values.{Ballot, Draw, Base, Core, Op, Reply, Command, Noop, Call, AnswerBody, Value, NotLeader, Mail, MailBody, Request, Answer, Prepare, Promise, Accept, Accepted, Nack, Learn, Ask, Install, Flight, Report}
+use Rattle.sc_node_table.specs.Values.{Ballot, Draw, Base, Core, Op, Reply, Command, Noop, Call, AnswerBody, Value, Mail, MailBody, Request, Answer, Accept, Learn, Flight, Report}
 use Rattle.sc_group_table.specs.machine.Definitions.{Group, applied}
 use Rattle.sc_words.specs.paxos.Definitions.{LeaderState, with_flight_at, without_flight, promise_counted, counted, below, with_voters, after_promise, after_accept}
 use Rattle.sc_node_table.specs.Definitions.{ReplicaState, Place, next, jumped, with_slot, without_request, taken_at, sent, sent_all, ended, at_slot, without_slot, stopped, offered, entered, answer_of, answered_or_put_back, put_back, landed, hinted, forgotten, request_before, queued_number, slots_ahead}
@@ -12,13 +12,13 @@ use Rattle.sc_words.proofs.PaxosProofs.Lemmas.{Each-among}
 use Rattle.sc_live_plain.proofs.RowsProofs.SlotCounts.{at_found, entries_at}
 use Rattle.sc_live_plain.proofs.LeadersProofs.LeadingReplicas.{flights_at}
 use Rattle.sc_live_plain.proofs.RowsProofs.RepeatedMail.{mail_of, among_push, last_among, all_kept, others_kept}
-use Rattle.sc_live_healed.specs.Definitions.{IsFixedCommand, IsFixedRequest, IsFixedReplica}
-use Rattle.sc_live_healed.proofs.FixedWalks.{FixedWalk, IsFixedPlace}
+use Rattle.sc_live_healed.specs.Definitions.{IsFixedCommand, IsFixedRequest}
+use Rattle.sc_live_healed.proofs.FixedWalks.{FixedWalk}
 use Rattle.sc_live_healed.proofs.FixedParts.{ready_fixed, never_turned, applied_core}
 use Rattle.sc_live_healed.proofs.EnteredPlaces.{entered_group, learnt_is, counted_is, learning}
-use Rattle.sc_live_healed.proofs.TakenRequests.{is_call, call_so, IsAtMost, AreApart, IsOurs, IsHeld, Queued, Flying, Ready, reply_mail, back_held, without_ours}
+use Rattle.sc_live_healed.proofs.TakenRequests.{is_call, call_so, IsAtMost, AreApart, IsHeld, Queued, Flying, Ready, reply_mail, back_held, without_ours}
 use Rattle.sc_live_healed.proofs.ApartSlots.{IsCleared, apart_flown, apart_cleared, apart_voted, apart_decided, counts_by, decides, flown_held, call_flown, voted_held, decided_held}
-use Rattle.sc_live_healed.proofs.HeldRequests.{HasFew, HeldOr, IsTold, held_on, held_push, held_stops, held_offers, enters_leader, counted_other, learnt_held, learnt_apart, learnt_runs, learnt_mails, back_apart, back_runs}
+use Rattle.sc_live_healed.proofs.HeldRequests.{HasFew, HeldOr, held_on, held_push, held_stops, held_offers, enters_leader, counted_other, learnt_held, learnt_apart, learnt_runs, learnt_mails, back_runs}
 
 -- the request that goes back keeps the group
 back_group : (command : Command) (r : ReplicaState) → ((put_back command r).group ≡ r.group) × ((put_back command r).leader ≡ r.leader) × ((put_back command r).ready ≡ r.ready) × (next (put_back command r) ≡ next r) × ((put_back command r).sets ≡ r.sets) × ((put_back command r).me ≡ r.me)
@@ -178,7 +178,7 @@ module _ (base : Base) (me client seq : ℕ) (Elsewhere : Type 0) (f : FixedWalk
         fixed_cases base (λ (c : Command). command ≡ c → M (entered_place true command (r, mails))) command fixed
         (λ c s op same. answered_step c s op (answer_of (applied r.group command).1) refl same n)
         (λ same. other r e0 mails (ap (λ x. answered_or_put_back (answer_of (applied r.group command).1) x (e0, mails)) same ∙ filler_so (answer_of (applied r.group command).1) e0 mails)
-            refl refl refl refl refl parts.0 parts.1 (entered_next command r) parts.2 (parts.3 ∙ on) n (λ h. h) (λ mail a. a)) refl
+        refl refl refl refl refl parts.0 parts.1 (entered_next command r) parts.2 (parts.3 ∙ on) n (λ h. h) (λ mail a. a)) refl
 
     pub counts_entry : M (entered_place true command (r, mails))
     counts_entry = by (is_call client seq command) refl
@@ -195,7 +195,7 @@ module _ (base : Base) (me client seq : ℕ) (Elsewhere : Type 0) (f : FixedWalk
       subst M (sym is) (
         learnt_apart base me client seq Elsewhere command r mails k.1.0 many,
         held_by l k.1.1 after (learnt_runs base me client seq Elsewhere command r mails true) (learnt_mails base me client seq Elsewhere command r mails)
-        (λ n on held. learnt_held base me client seq Elsewhere command r (few r mails k.0) k.1.0 n (unready on) mails many held),
+            (λ n on held. learnt_held base me client seq Elsewhere command r (few r mails k.0) k.1.0 n (unready on) mails many held),
       )
     where
       held_by : Elsewhere ⊎ (is_call client seq command ≡ false) → HeldOr base me client seq Elsewhere (r, mails) → (after : Place) → (r.running ≡ true → after.0.running ≡ true) → after.1 ≡ mails → (is_call client seq command ≡ false → r.running ≡ true → IsHeld client seq r → IsHeld client seq after.0) → HeldOr base me client seq Elsewhere after
@@ -238,7 +238,7 @@ module _ (base : Base) (me client seq : ℕ) (Elsewhere : Type 0) (f : FixedWalk
   offers_head slot set command backlog r mails low near none e m = (
     apart_flown slot command (record r { backlog = backlog }) none low near (record { once = m.0.once; open_ = m.0.open_ }),
     held_on base me client seq Elsewhere r (record r { backlog = backlog; leader = with_flight_at slot command r.leader }) mails (sent_all r.me set (Accept r.group.core.id r.leader.ballot slot command) mails) (λ on. on) (λ _ h. call_flown client seq slot command backlog r e h)
-    (λ mail a. all_kept r.me (Accept r.group.core.id r.leader.ballot slot command) set mails mail a) m.1,
+        (λ mail a. all_kept r.me (Accept r.group.core.id r.leader.ballot slot command) set mails mail a) m.1,
   )
 
   pub stops_so : (hint : ℕ) (r : ReplicaState) (mails : List Mail) → r.me ≡ me → r.group.core.id ≡ base.core.id → M (r, mails) → M (stopped (Some hint) (r, mails))
@@ -305,9 +305,9 @@ module _ (base : Base) (me client seq : ℕ) (Elsewhere : Type 0) (f : FixedWalk
       by : IsHeld client seq r → IsHeld client seq (record r { backlog = without_request r.backlog c ++ Call c s op ∷ [] })
       by (Queued command a ours) =
           Queued command (among_push (without_request r.backlog c) (Call c s op) command (without_ours client seq c r.backlog command a ours (λ own q. (
-            let least = low (sym own) in
-            let same : other ≡ seq = one_number (sym e ∙ q) in
-            absurd (omega (arith, up, least, same)))))) ours
+          let least = low (sym own) in
+          let same : other ≡ seq = one_number (sym e ∙ q) in
+          absurd (omega (arith, up, least, same)))))) ours
       by (Flying x a ours) = Flying x a ours
       by (Ready en a ours) = Ready en a ours
 
@@ -333,8 +333,8 @@ module _ (base : Base) (me client seq : ℕ) (Elsewhere : Type 0) (f : FixedWalk
     overtaken = λ ballot r mails sees on low k. (
       f.overtaken ballot r mails sees on low k.0,
       (let mine = (f.frame (r, mails) k.0).me_is in let named = name_is (r, mails) k.0 in
-      cond_both (below r.top ballot) (record r { top = ballot }) r (λ (x : ReplicaState). M (stopped (Some ballot.node) (x, mails)))
-      (λ _. stops_so ballot.node (record r { top = ballot }) mails mine named (unchanged r (record r { top = ballot }) mails mails refl refl refl refl refl (λ on. on) (λ mail a. a) k.1)) (λ _. stops_so ballot.node r mails mine named k.1)),
+          cond_both (below r.top ballot) (record r { top = ballot }) r (λ (x : ReplicaState). M (stopped (Some ballot.node) (x, mails)))
+          (λ _. stops_so ballot.node (record r { top = ballot }) mails mine named (unchanged r (record r { top = ballot }) mails mails refl refl refl refl refl (λ on. on) (λ mail a. a) k.1)) (λ _. stops_so ballot.node r mails mine named k.1)),
     );
     polled = λ from group ballot reports r mails on h k. (
       f.polled from group ballot reports r mails on h.0 k.0,
@@ -343,12 +343,12 @@ module _ (base : Base) (me client seq : ℕ) (Elsewhere : Type 0) (f : FixedWalk
     counts = λ from group ballot slot set count r mails on h e k. (
       f.counts from group ballot slot set count r mails on h.0 e k.0,
       counts_by (λ l. M (record r { leader = l }, mails)) from ballot slot set count r.leader e k.1
-      (λ voters. (apart_voted slot voters r k.1.0, held_on base me client seq Elsewhere r (record r { leader = record r.leader { flights = with_voters slot voters r.leader.flights } }) mails mails (λ on. on) (λ _ held. voted_held client seq slot voters r held) (λ mail a. a) k.1.1)),
+          (λ voters. (apart_voted slot voters r k.1.0, held_on base me client seq Elsewhere r (record r { leader = record r.leader { flights = with_voters slot voters r.leader.flights } }) mails mails (λ on. on) (λ _ held. voted_held client seq slot voters r held) (λ mail a. a) k.1.1)),
     );
     chosen = λ from group ballot slot set command r mails on h e k. (
       f.chosen from group ballot slot set command r mails on h.0 e k.0,
       (let d = decides from ballot slot set command r.leader e in
-      (apart_decided slot command r (counted from ballot slot set r.leader).1 d k.1.0, held_on base me client seq Elsewhere r (record r { leader = (counted from ballot slot set r.leader).1; ready = with_slot r.ready slot command }) mails mails (λ on. on) (λ _ held. decided_held client seq slot command r (counted from ballot slot set r.leader).1 d k.1.0 held) (λ mail a. a) k.1.1)),
+          (apart_decided slot command r (counted from ballot slot set r.leader).1 d k.1.0, held_on base me client seq Elsewhere r (record r { leader = (counted from ballot slot set r.leader).1; ready = with_slot r.ready slot command }) mails mails (λ on. on) (λ _ held. decided_held client seq slot command r (counted from ballot slot set r.leader).1 d k.1.0 held) (λ mail a. a) k.1.1)),
     );
     promised = λ from group ballot from_slot r mails h top goes may k. (
       f.promised from group ballot from_slot r mails h.0 top goes may k.0,

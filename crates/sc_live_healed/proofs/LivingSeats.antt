@@ -1,9 +1,9 @@
 -- The actors of a scenario by their numbers: each node is found by its number, what is a node is one of these, and who lives may get mail.
-use Rattle.std.proofs.Common.{◌≡◌, ℕ, zero, suc, ◌+◌, ◌*◌, ◌<◌, ◌≤◌, ◌&&◌, not, nat_le, leb, eqb, Bool, true, false, cond, List, [], ◌∷◌, ◌++◌, map, filter, find, count_by, length, Option, Some, None, ◌⊎◌, inl, inr, refl, sym, ◌∙◌, ap, subst, arith}
+use Rattle.std.proofs.Common.{◌≡◌, ℕ, zero, suc, ◌+◌, ◌*◌, ◌<◌, ◌≤◌, ◌&&◌, not, nat_le, eqb, Bool, true, false, cond, List, [], ◌∷◌, ◌++◌, map, filter, find, length, Option, Some, None, inl, inr, refl, sym, ◌∙◌, ap, subst, arith}
 use Rattle.std.specs.List.{list_any}
-use Rattle.std.proofs.lemmas.Bool.{cond_both, and_parts, eqb-true, eq-eqb, leb-true, le-leb, true≢false, cases_Bool, or_left, ltb-true}
-use Rattle.sc_base.specs.Definitions.{Among, Each, is_majority, is_member, votes_of, most_nodes}
-use Rattle.sc_words.proofs.PaxosProofs.Lemmas.{Each-among, Each-append, find_found}
+use Rattle.std.proofs.lemmas.Bool.{cond_both, and_parts, eqb-true, eq-eqb, leb-true, le-leb, true≢false, cases_Bool, ltb-true}
+use Rattle.sc_base.specs.Definitions.{Among, is_majority, is_member, votes_of, most_nodes}
+use Rattle.sc_words.proofs.PaxosProofs.Lemmas.{Each-among}
 use Rattle.sc_paxos_law.proofs.Lemmas.{Among-either, from_map}
 use Rattle.sc_node_table.specs.Values.{Seat, Row, Base, OrderLine, Mail, Node, Client}
 use Rattle.sc_actor.specs.Definitions.{acted, input_of, replay, value, may_get, has_crashed, numbers_of}

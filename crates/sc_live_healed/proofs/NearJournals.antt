@@ -1,6 +1,5 @@
 -- In each lawful journal without orders and policy no slot is above four times the number of rows.
-use Rattle.std.proofs.Common.{◌≡◌, ℕ, ◌+◌, ◌*◌, ◌≤◌, ◌<◌, false, List, [], length, refl, arith}
-use Rattle.sc_base.specs.Definitions.{Each}
+use Rattle.std.proofs.Common.{◌≡◌, ℕ, ◌+◌, ◌*◌, ◌≤◌, ◌<◌, false, [], length, arith}
 use Rattle.sc_words.proofs.PaxosProofs.Lemmas.{Each-weaker}
 use Rattle.sc_node_table.specs.Values.{MailBody, Accept, Accepted, Learn, Install, Flight, Command}
 use Rattle.sc_node_table.specs.Definitions.{ReplicaState, Place, mailed, tick_row, slots_ahead}

@@ -1,5 +1,5 @@
 -- No round that a replica of a group that is not reshaped has seen or names in a row is above those of the mail that it takes, but for its election at a tick, which is in the next round.
-use Rattle.std.proofs.Common.{◌≡◌, ℕ, ◌+◌, ◌-◌, ◌≤◌, Bool, false, true, List, [], ◌∷◌, Option, Some, None, refl, sym, ◌∙◌, ap, subst, arith}
+use Rattle.std.proofs.Common.{◌≡◌, ℕ, ◌+◌, ◌-◌, ◌≤◌, Bool, false, true, List, [], ◌∷◌, Option, Some, ◌∙◌, arith}
 use Rattle.std.proofs.lemmas.Bool.{cond_both}
 use Rattle.sc_base.specs.Definitions.{Each, Drawer, client_actor}
 use Rattle.sc_words.proofs.PaxosProofs.Lemmas.{Each-append, Each-weaker}
@@ -8,7 +8,7 @@ use Rattle.sc_group_table.specs.machine.Definitions.{base_of}
 use Rattle.sc_words.specs.paxos.Definitions.{below, reports_from, after_promise, after_accept}
 use Rattle.sc_node_table.specs.Definitions.{ended, stopped, entered, forgotten, jumped, offered, put_back, answered_all, sent, under_way, hinted, mailed, tick_row, open_nodes, ReplicaState, Place, name_of, next}
 use Rattle.sc_law_walks.proofs.Talks.{all_sent, all_answered, all_dismissed, one_answered}
-use Rattle.sc_law_walks.proofs.Lemmas.{either_way, Talk, entered_place, elected_place}
+use Rattle.sc_law_walks.proofs.Lemmas.{Talk, entered_place, elected_place}
 use Rattle.sc_live_healed.proofs.FixedWalks.{IsFresh, IsFixedPlace, FixedWalk, FixedAskParts}
 use Rattle.sc_live_healed.proofs.FixedEntries.{FixedEntry, entry_keeps}
 use Rattle.sc_live_healed.proofs.FixedParts.{ready_fixed, applied_core}

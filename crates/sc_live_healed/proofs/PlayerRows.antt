@@ -1,17 +1,17 @@
 -- What an actor's row does to a group: its replica of the group moves, asks within the greatest ballot that it has seen, and promises nothing but what a mail brings.
-use Rattle.std.proofs.Common.{◌≡◌, ℕ, zero, suc, ◌<◌, ◌≤◌, Bool, false, true, List, [], ◌∷◌, ◌++◌, Option, Some, None, ◌⊎◌, inl, inr, refl, sym, ◌∙◌, ap, subst, arith}
+use Rattle.std.proofs.Common.{◌≡◌, ℕ, zero, suc, ◌<◌, ◌≤◌, Bool, false, List, [], ◌∷◌, ◌++◌, Option, Some, None, ◌⊎◌, inl, inr, refl, sym, ◌∙◌, subst, arith}
 use Rattle.std.specs.Option.{option_map}
 use Rattle.sc_base.specs.Definitions.{Among, Each, Drawer, same_draw}
 use Rattle.sc_base.proofs.Lemmas.{draw_is}
-use Rattle.sc_words.proofs.PaxosProofs.Lemmas.{Each-among, Each-append, Each-from, find_found}
+use Rattle.sc_words.proofs.PaxosProofs.Lemmas.{Each-among, Each-append, find_found}
 use Rattle.sc_paxos_law.proofs.Lemmas.{place_among}
-use Rattle.sc_node_table.specs.Values.{Draw, Row, Event, Deliver, Drop, Again, Crash, Input, Got, Base, OrderLine, Mail, MailBody, Ask, Node, Client}
+use Rattle.sc_node_table.specs.Values.{Event, Deliver, Drop, Again, Crash, Input, Got, Base, OrderLine, Mail, Ask, Node, Client}
 use Rattle.sc_actor.specs.declared.rows.Event.TheVariants.{Tick as TickEvent, Go as GoEvent, Told as ToldEvent}
 use Rattle.sc_actor.specs.declared.rows.Input.TheVariants.{Tick, Go, Told as ToldInput}
 use Rattle.sc_actor.specs.Definitions.{numbered, acted, input_of}
 use Rattle.sc_client_table.specs.table.Definitions.{Client as ClientState}
 use Rattle.sc_client_table.proofs.TableProofs.TurnLemmas.{sends_in_turn}
-use Rattle.sc_node_table.specs.Definitions.{NodeState, ReplicaState, Place, name_of, replica_of, group_of_mail, mailed, ticked, tick_row, node_table, next}
+use Rattle.sc_node_table.specs.Definitions.{NodeState, ReplicaState, Place, name_of, group_of_mail, mailed, ticked, tick_row, next}
 use Rattle.sc_scenario.specs.declared.scenario.scenarios.Scenario.{Scenario}
 use Rattle.sc_scenario.specs.scenario.Definitions.{IsBounded}
 use Rattle.sc_meaning.specs.sound.Definitions.{Player, player_table}
@@ -19,10 +19,10 @@ use Rattle.sc_live_healed.proofs.FixedWalks.{IsFixedPlace, IsMember, IsSaid}
 use Rattle.sc_live_healed.proofs.FixedNodes.{AreFresh, MayTake, IsOne, into, name_one}
 use Rattle.sc_live_healed.proofs.FixedBirths.{groups_fresh}
 use Rattle.sc_live_healed.proofs.FixedJournals.{IsFixedPlayer, Brings, given}
-use Rattle.sc_live_healed.proofs.MovedReplicas.{AsksWithin, Brings as BringsBallot, HasMoved, mailed_moves, ticked_moves}
+use Rattle.sc_live_healed.proofs.MovedReplicas.{AsksWithin, Brings as BringsBallot, mailed_moves, ticked_moves}
 use Rattle.sc_live_healed.proofs.NearJournals.{PlayerNear}
 use Rattle.sc_live_healed.proofs.NearSlots.{StaysNear}
-use Rattle.sc_live_healed.proofs.NodeViews.{TakesMail, PassesMail, mail_view}
+use Rattle.sc_live_healed.proofs.NodeViews.{mail_view}
 use Rattle.sc_live_healed.proofs.NodeTicks.{OneNamed, none_found, found_none, tick_none, others_say, one_of_all_ticks}
 use Rattle.sc_live_healed.proofs.DeliveredViews.{player_view}
 use Rattle.sc_live_healed.specs.Definitions.{IsFixedMail, IsFixedNode}

@@ -1,18 +1,18 @@
 -- After the turn of a node, which is its tick with the deliveries behind it, each replica of the node is settled or does not run; and it stays so in the turns that follow.
-use Rattle.std.proofs.Common.{◌≡◌, ℕ, ◌+◌, ◌*◌, ◌-◌, ◌^◌, ◌<◌, ◌≤◌, ◌&&◌, not, eqb, Bool, true, false, true≢false, List, [], ◌∷◌, ◌++◌, count_by, length, length-append, filter, find, Option, Some, None, ◌⊎◌, inl, inr, refl, sym, ◌∙◌, ap, subst, arith, append_assoc, append-nil}
+use Rattle.std.proofs.Common.{◌≡◌, ℕ, ◌+◌, ◌*◌, ◌-◌, ◌^◌, ◌<◌, ◌≤◌, not, eqb, Bool, true, false, true≢false, List, [], ◌∷◌, ◌++◌, count_by, length, length-append, filter, find, Option, Some, None, ◌⊎◌, inl, inr, refl, sym, ◌∙◌, ap, subst, arith, append_assoc, append-nil}
 use Rattle.std.specs.Option.{option_map}
 use Rattle.std.specs.List.{list_any}
-use Rattle.std.proofs.lemmas.Bool.{cond_both, cond-false, cases_Bool, eqb-true, eq-eqb, eqb-false, and_parts}
+use Rattle.std.proofs.lemmas.Bool.{cond_both, cond-false, cases_Bool, eqb-true, eq-eqb, and_parts}
 use Rattle.sc_base.specs.Definitions.{Among, Each}
 use Rattle.sc_base.proofs.Lemmas.{map-some}
-use Rattle.sc_words.proofs.PaxosProofs.Lemmas.{Each-among, Each-append, Each-filter, Each-from, Each-weaker, find_found, Among-filter}
+use Rattle.sc_words.proofs.PaxosProofs.Lemmas.{Each-among, Each-append, Each-filter, Each-weaker, find_found, Among-filter}
 use Rattle.sc_paxos_law.proofs.Lemmas.{Among-left, Among-right}
 use Rattle.sc_node_table.specs.Values.{Ballot, Draw, Seat, Row, Event, Base, Core, OrderLine, Mail, MailBody, Prepare, Install, Node, Client}
 use Rattle.sc_actor.specs.declared.rows.Event.TheVariants.{Tick as TickEvent, Go as GoEvent}
 use Rattle.sc_actor.specs.declared.rows.Input.TheVariants.{Go}
-use Rattle.sc_actor.specs.Definitions.{mails, acts, acted, input_of, value, may_get, has_crashed, has_started, numbers_of, row_of, is_quiet, line_row, place_after, System}
+use Rattle.sc_actor.specs.Definitions.{mails, acts, acted, input_of, value, has_crashed, has_started, numbers_of, row_of, is_quiet, line_row, place_after, System}
 use Rattle.sc_actor.proofs.Lemmas.{lawful-prefix, lawful-last, MayAdd-step, value-snoc}
-use Rattle.sc_node_table.specs.Definitions.{NodeState, ReplicaState, Place, name_of, replica_of, group_of_mail, tick_row, is_node, last_slot, next, settled, open_nodes}
+use Rattle.sc_node_table.specs.Definitions.{ReplicaState, Place, name_of, group_of_mail, tick_row, is_node, last_slot, next, settled, open_nodes}
 use Rattle.sc_law_walks.proofs.Talks.{all_sent}
 use Rattle.sc_law_walks.proofs.Lemmas.{elected_place}
 use Rattle.sc_scenario.specs.declared.scenario.scenarios.Scenario.{Scenario}
@@ -20,7 +20,7 @@ use Rattle.sc_scenario.specs.scenario.Definitions.{IsBounded}
 use Rattle.sc_meaning.specs.sound.Definitions.{Lawful, Player, as_nodes, births, player_table, schedule, system_of}
 use Rattle.sc_live_orderly.specs.Definitions.{Kick, Ticks, Starts, Turn, kick_line, pending_mail, AreDelivered, IsTurn, HasTurns}
 use Rattle.sc_live_orderly.specs.Turns.{as_list}
-use Rattle.sc_live_healed.proofs.FixedWalks.{IsFresh, IsFixedPlace, IsMember}
+use Rattle.sc_live_healed.proofs.FixedWalks.{IsFresh, IsMember}
 use Rattle.sc_live_healed.proofs.FixedNodes.{AreFresh}
 use Rattle.sc_live_healed.proofs.FixedBirths.{groups_fresh}
 use Rattle.sc_live_healed.proofs.FixedJournals.{Rows, IsOf, IsFixedJournal, AreUntold}
@@ -31,11 +31,11 @@ use Rattle.sc_live_healed.proofs.NearJournals.{IsNearJournal, PlayerNear, journa
 use Rattle.sc_live_healed.proofs.NearRounds.{rounds_grow}
 use Rattle.sc_live_healed.proofs.GrowingJournals.{PlayerGrown, journal_grown}
 use Rattle.sc_live_healed.proofs.FreshBallots.{HasFreshBallots, ballots_fresh, promised_before, seat_seen, seen_at}
-use Rattle.sc_live_healed.proofs.OwnTicks.{OwnTick, own_tick, ticks_get, pending_ticked}
+use Rattle.sc_live_healed.proofs.OwnTicks.{OwnTick, own_tick, pending_ticked}
 use Rattle.sc_live_healed.proofs.DeliveredViews.{view, alive, player_view}
 use Rattle.sc_live_healed.proofs.PollBegins.{next_ballot, elected_at_tick, members_are_asked}
 use Rattle.sc_live_healed.proofs.PollTurns.{FirstRound, first_begins}
-use Rattle.sc_live_healed.proofs.PollsEnd.{FitsSlots, Course, Progress, polls_end}
+use Rattle.sc_live_healed.proofs.PollsEnd.{FitsSlots, Progress, polls_end}
 use Rattle.sc_live_healed.proofs.SettledTicks.{tick_keeps_settled}
 use Rattle.sc_live_healed.specs.Definitions.{LivingMajority, IsSettledOrStopped}
 
@@ -78,7 +78,7 @@ module _ (words : ℕ → ℕ → ℕ × ℕ) (scenario : Scenario) (bounded : I
     abbrev seen : Rows → ℕ → Option ReplicaState
     seen rows who = view words scenario bounded base among rows who
 
-    abbrev gets : Rows → ℕ → Bool
+    abbrev pub gets : Rows → ℕ → Bool
     gets rows who = alive words scenario bounded base among rows who
 
     fresh : AreFresh scenario.groups
@@ -108,7 +108,7 @@ module _ (words : ℕ → ℕ → ℕ × ℕ) (scenario : Scenario) (bounded : I
       IsSettledAfter rows = (r : ReplicaState) → seen rows seat.who ≡ Some r → IsSettledOrStopped r
 
       -- who lives may get mail
-      abbrev MayGet : Rows → Type 0
+      abbrev pub MayGet : Rows → Type 0
       MayGet rows = (who : ℕ) → lives who ≡ true → gets rows who ≡ true
 
       enough : (rows : Rows) → MayGet rows → length base.core.members < 2 * count_by (gets rows) base.core.members
@@ -281,7 +281,7 @@ module _ (words : ℕ → ℕ → ℕ × ℕ) (scenario : Scenario) (bounded : I
             by false e = refl
             by true e = cc
 
-        turn_settles : (rows : Rows) (turn : Turn) (after later : Rows) → whole ≡ after ++ later → IsTurn s rows turn after → ((more rest : Rows) → after ≡ (rows ++ more) ++ rest → MayGet (rows ++ more)) → MayGet rows
+        pub turn_settles : (rows : Rows) (turn : Turn) (after later : Rows) → whole ≡ after ++ later → IsTurn s rows turn after → ((more rest : Rows) → after ≡ (rows ++ more) ++ rest → MayGet (rows ++ more)) → MayGet rows
             → IsSettledAfter rows ⊎ ((turn.kick ≡ Ticks) × (turn.who ≡ seat.who)) → IsSettledAfter after
         turn_settles rows turn after later e t gets_in may k =
             subst IsSettledAfter (sym t.after_is) (by k)

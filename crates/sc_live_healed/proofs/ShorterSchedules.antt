@@ -1,9 +1,9 @@
 -- A whole journal of a schedule has a first part that is a whole journal of the first lines alone, in which no line was cut off where none was in the journal.
-use Rattle.std.proofs.Common.{◌≡◌, ℕ, ◌+◌, List, [], ◌∷◌, ◌++◌, Bool, true, false, ◌||◌, refl, sym, ◌∙◌, ap, subst, append_assoc, append-nil}
+use Rattle.std.proofs.Common.{◌≡◌, ℕ, ◌+◌, List, [], ◌∷◌, ◌++◌, Bool, true, false, ◌||◌, refl, sym, ◌∙◌, ap, subst, append_assoc}
 use Rattle.std.specs.List.{flat_map}
 use Rattle.sc_actor.specs.declared.rows.Row.{Row}
 use Rattle.sc_actor.specs.declared.schedules.Line.{Line}
-use Rattle.sc_actor.specs.Definitions.{System, Task, IsLawful, IsWhole, is_over, cuts, skips, place_after, rest_of_task, tasks_of, unsettled}
+use Rattle.sc_actor.specs.Definitions.{System, Task, IsLawful, IsWhole, is_over, cuts, skips, rest_of_task, tasks_of, unsettled}
 use Rattle.sc_actor.proofs.Lemmas.{Stands, Stands-begin, Stands-row, Stands-over, Stands-whole}
 use Rattle.sc_live_orderly.proofs.PassedTasks.{flat_append, more_rows, next_row}
 use Rattle.sc_live_orderly.proofs.UncutPrefixes.{onward_cut, uncut_before}

@@ -67,7 +67,7 @@ abbrev pub AnswersTurns : (ℕ → ℕ → ℕ × ℕ) → (scenario : Scenario)
 AnswersTurns words scenario healed journal =
     (done rest : List ClientTurn) (turn : ClientTurn) (asks : Asks) → healed.asks ≡ done ++ turn ∷ rest → Among asks scenario.clients → asks.client ≡ turn.client
     → (early late : List (Row Mail OrderLine)) × IsAtEnd words scenario healed done journal early × IsAtEnd words scenario healed (done ++ turn ∷ []) journal late
-        × (IsKicked turn early → HasReplies scenario asks late ⊎ AskedACrashedNode scenario asks late)
+    × (IsKicked turn early → HasReplies scenario asks late ⊎ AskedACrashedNode scenario asks late)
 
 -- behind a turn that kicks its client, where no line crashes a node, the client has all its replies
 abbrev pub AnswersAll : (ℕ → ℕ → ℕ × ℕ) → (scenario : Scenario) → IsHealed scenario → List (Row Mail OrderLine) → Type 0
