@@ -30,9 +30,9 @@ pub mod FixedJournals
 pub mod HarmlessRows
 pub mod UntoldRows
 pub mod TakenJournals
+pub mod LivingActors
 pub mod VotesInTurns
 pub mod VotesOfTurns
-pub mod LivingActors
 pub mod IdleNodes
 pub mod FixedBesides
 pub mod MovedReplicas

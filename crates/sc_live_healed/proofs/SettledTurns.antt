@@ -24,7 +24,7 @@ use Rattle.sc_live_healed.proofs.FixedWalks.{IsFresh, IsMember}
 use Rattle.sc_live_healed.proofs.FixedNodes.{AreFresh}
 use Rattle.sc_live_healed.proofs.FixedBirths.{groups_fresh}
 use Rattle.sc_live_healed.proofs.FixedJournals.{Rows, IsOf, IsFixedJournal, AreUntold}
-use Rattle.sc_live_healed.proofs.LivingActors.{seats_stay_nodes, turns_get, turns_kind}
+use Rattle.sc_live_healed.proofs.LivingActors.{acts_row, seats_stay_nodes, turns_get, turns_kind}
 use Rattle.sc_live_healed.proofs.LivingMajorities.{passes_more}
 use Rattle.sc_live_healed.proofs.NearSlots.{NamesNear, StaysNear}
 use Rattle.sc_live_healed.proofs.NearJournals.{IsNearJournal, PlayerNear, journal_near}
@@ -252,20 +252,13 @@ module _ (words : ℕ → ℕ → ℕ × ℕ) (scenario : Scenario) (bounded : I
       start_same : (rows : Rows) → (acted player_table (value player_table seat rows) (Some Go)).0 ≡ value player_table seat rows
       start_same rows = (let was = seats_stay_nodes scenario bounded seat is_of node_is rows in ap (λ (p : Player). (acted player_table p (Some Go)).0) was.1 ∙ sym was.1)
 
-      -- the row of an actor's event
-      acts_row : (rows : Rows) (who : ℕ) (event : Event OrderLine) (row : Row Mail OrderLine) → acts s rows who event ≡ Some row → (row.who ≡ who) × (row.event ≡ event)
-      acts_row rows who event row e =
-          let m = map-some (λ (other : Seat Player). row_of player_table other rows event) (find (λ (other : Seat Player). eqb other.who who) (births as_nodes scenario)) row e in
-          let found = find_found (λ (other : Seat Player). eqb other.who who) (births as_nodes scenario) m.0 m.1 in
-          (sym (ap (λ (r : Row Mail OrderLine). r.who) m.2) ∙ eqb-true m.0.who who found.1, sym (ap (λ (r : Row Mail OrderLine). r.event) m.2))
-
       elsewhere : (rows : Rows) (kick : Kick) (who : ℕ) (first : Option (Row Mail OrderLine)) → line_row s rows (kick_line kick who) ≡ first → (kick ≡ Ticks → who ≡ seat.who → ⊥) → IsSettledAfter rows → IsSettledAfter (rows ++ as_list first)
       elsewhere rows kick who None e other k = subst IsSettledAfter (sym (append-nil rows)) k
       elsewhere rows Ticks who (Some row) e other k =
-          let a = acts_row rows who TickEvent row (cond_both (has_crashed rows who) None (acts s rows who TickEvent) (λ (o : Option (Row Mail OrderLine)). o ≡ Some row → acts s rows who TickEvent ≡ Some row) (λ _ q. cc) (λ _ q. q) e) in
+          let a = acts_row s rows who TickEvent row (cond_both (has_crashed rows who) None (acts s rows who TickEvent) (λ (o : Option (Row Mail OrderLine)). o ≡ Some row → acts s rows who TickEvent ≡ Some row) (λ _ q. cc) (λ _ q. q) e) in
           left_alone rows row (λ same. absurd (other refl (sym a.0 ∙ same))) k
       elsewhere rows Starts who (Some row) e other k =
-          let a = acts_row rows who GoEvent row (cond_both (has_started rows who) None (acts s rows who GoEvent) (λ (o : Option (Row Mail OrderLine)). o ≡ Some row → acts s rows who GoEvent ≡ Some row) (λ _ q. cc) (λ _ q. q) e) in
+          let a = acts_row s rows who GoEvent row (cond_both (has_started rows who) None (acts s rows who GoEvent) (λ (o : Option (Row Mail OrderLine)). o ≡ Some row → acts s rows who GoEvent ≡ Some row) (λ _ q. cc) (λ _ q. q) e) in
           left_alone rows row (λ same. ap (λ (event : Event OrderLine). (acted player_table (value player_table seat rows) (input_of (mails rows) event)).0) a.1 ∙ start_same rows) k
 
       -- ---- turns
