@@ -7,14 +7,15 @@ use Rattle.sc_base.proofs.Lemmas.{draw_is, same_name}
 use Rattle.sc_words.proofs.PaxosProofs.Lemmas.{Each-among, Each-from}
 use Rattle.sc_node_table.specs.Values.{Draw, Seat, Base, OrderLine, Mail, Node}
 use Rattle.sc_actor.specs.declared.schedules.Line.{Line}
+use Rattle.sc_actor.specs.declared.schedules.Line.TheVariants.{Settle as SettleLine}
 use Rattle.sc_actor.specs.Definitions.{value, is_quiet, may_get, numbers_of, unsettled, System, IsLawful, IsWhole}
 use Rattle.sc_actor.proofs.Lemmas.{lawful-prefix}
 use Rattle.sc_node_table.specs.Definitions.{NodeState, ReplicaState, name_of, replica_of, is_node, last_slot}
 use Rattle.sc_scenario.specs.declared.scenario.scenarios.Scenario.{Scenario}
-use Rattle.sc_scenario.specs.scenario.Definitions.{IsBounded}
+use Rattle.sc_scenario.specs.scenario.Definitions.{IsValid, IsBounded}
 use Rattle.sc_scenario.proofs.ScenarioProofs.Lemmas.{valid_scenarios_are_bounded}
 use Rattle.sc_meaning.specs.sound.Definitions.{Lawful, Player, as_nodes, births, line_of, player_table, schedule, system_of}
-use Rattle.sc_live_orderly.specs.Definitions.{Ticks, Turn, HasTurns}
+use Rattle.sc_live_orderly.specs.Definitions.{Ticks, Turn, turn_lines, HasTurns}
 use Rattle.sc_live_orderly.proofs.TakenTurns.{turns_taken}
 use Rattle.sc_live_healed.proofs.FixedNodes.{AreFresh, IsOne, name_one}
 use Rattle.sc_live_healed.proofs.FixedBirths.{groups_fresh}
@@ -30,10 +31,10 @@ use Rattle.sc_live_healed.proofs.NearRounds.{rounds_grow}
 use Rattle.sc_live_healed.proofs.NodeTicks.{OneNamed}
 use Rattle.sc_live_healed.proofs.PlayerRows.{HasOne}
 use Rattle.sc_live_healed.proofs.SettledTurns.{HasTicked, turns_settle}
-use Rattle.sc_live_healed.proofs.ShorterSchedules.{first_part}
+use Rattle.sc_live_healed.proofs.ShorterSchedules.{FirstPart, first_part}
 use Rattle.sc_live_healed.proofs.UntoldRows.{rows_untold}
 use Rattle.sc_live_healed.proofs.VotesOfTurns.{IsTicked}
-use Rattle.sc_live_healed.specs.Definitions.{lives, HasLivingMajorities, NodeTurn, client_lines, IsIdle, IsSettledOrStopped, IsIdleLeader, IsIdleStore, HealedStoresIdle}
+use Rattle.sc_live_healed.specs.Definitions.{lives, HasLivingMajorities, NodeTurn, ClientTurn, client_lines, IsHealed, IsIdle, IsSettledOrStopped, IsIdleLeader, IsIdleStore, IsAtEnd, HealedStoresIdle}
 
 -- one of some that are named once is found by its name
 found_once : (name : Draw) (replicas : List ReplicaState) (r : ReplicaState) → OneNamed name_of name replicas → Among r replicas → name_of r ≡ name → replica_of name replicas ≡ Some r
@@ -128,26 +129,54 @@ module _ (words : ℕ → ℕ → ℕ × ℕ) (scenario : Scenario) (bounded : I
         let mine : IsFixedPlayer scenario.groups seat.who (Node node) = subst (IsFixedPlayer scenario.groups seat.who) is ((journal_fixed words scenario bounded off rows untold lawful).players seat is_of) in
         Each-from (λ (r : ReplicaState). r.running ≡ true → IsIdleLeader r) node.replicas (replica_idle seat is_of node is (subst (λ (who : ℕ). lives scenario who ≡ true) mine.0 l))
 
+-- ---- the lines that heal
+
+module _ (words : ℕ → ℕ → ℕ × ℕ) (scenario : Scenario) (journal : Rows) (healed : IsHealed scenario) (valid : IsValid scenario) (majorities : HasLivingMajorities scenario) (lawful : Lawful as_nodes words scenario journal) (few : length journal ≤ 2 ^ 28) (done rest : List ClientTurn) where
+  abbrev system : System Player Mail OrderLine
+  system = system_of as_nodes words scenario
+
+  abbrev first : List (Line OrderLine)
+  first = map line_of (lines_to healed.before healed.most healed.sweep done)
+
+  abbrev others : List (Line OrderLine)
+  others = map line_of (flat_map client_lines rest)
+
+  abbrev turns : List Turn
+  turns = turns_of healed.sweep done
+
+  -- what these turns leave of a first part of the journal
+  abbrev Idle : Type 0
+  Idle = (rows : Rows) × IsAtEnd words scenario healed done journal rows × IsIdleStore scenario rows
+
+  module _ (is_lawful : IsLawful system (first ++ others) journal) (is_whole : IsWhole system (first ++ others) journal) (part : FirstPart system first others journal is_lawful is_whole) where
+    idle_by : (before : Rows) → HasTurns system before turns part.rows → Idle
+    idle_by before t =
+        let bounded : IsBounded scenario = valid_scenarios_are_bounded scenario valid in
+        let lawful_rows : Lawful as_nodes words scenario part.rows = lawful-prefix system (schedule scenario) part.rows part.more (subst (Lawful as_nodes words scenario) part.journal_is lawful) in
+        let untold_rows = rows_untold system (schedule scenario) part.rows (healed_untold scenario healed) lawful_rows in
+        let parts = ap length part.journal_is ∙ length-append part.rows part.more in (
+          part.rows,
+          record { later = part.more; goes_on = part.journal_is; lawful = part.lawful_first; whole = part.whole_first; quiet = ends_quiet system before turns part.rows t },
+          store_idle words scenario bounded healed.no_policy majorities before part.rows turns t lawful_rows untold_rows (omega (arith, parts, few))
+              (λ who l. (let swept = healed.swept who l in sweep_ticks who swept.0 healed.sweep (map client_turn done) swept.1 swept.2)),
+        )
+
+    part_idle : Idle
+    part_idle =
+        let turned : first ≡ map line_of healed.before ++ SettleLine healed.most ∷ flat_map turn_lines turns = lines_are_turns healed.before healed.most healed.sweep done in
+        let taken = turns_taken system (map line_of healed.before) healed.most turns part.rows (subst (λ ls. IsLawful system ls part.rows) turned part.lawful_first) (subst (λ ls. IsWhole system ls part.rows) turned part.whole_first)
+        (subst (λ ls. unsettled system ls part.rows ≡ false) turned part.uncut) in
+        idle_by taken.0 taken.1
+
 -- Behind the sweep, and behind each turn of a client, each replica that runs at a living node is settled and idle.
 pub healed_stores_stay_idle : HealedStoresIdle
 healed_stores_stay_idle words scenario journal healed valid majorities lawful whole uncut few done rest e =
     let system : System Player Mail OrderLine = system_of as_nodes words scenario in
-    let bounded : IsBounded scenario = valid_scenarios_are_bounded scenario valid in
     let first : List (Line OrderLine) = map line_of (lines_to healed.before healed.most healed.sweep done) in
     let others : List (Line OrderLine) = map line_of (flat_map client_lines rest) in
-    let turns : List Turn = turns_of healed.sweep done in
     let lines_are : schedule scenario ≡ first ++ others =
     ap (λ ls. map line_of ls) healed.lines_are
     ∙ (ap (λ asks. map line_of (lines_to healed.before healed.most healed.sweep asks)) e ∙ lines_go_on healed.before healed.most healed.sweep done rest) in
-    let part = first_part system first others journal (subst (λ ls. IsLawful system ls journal) lines_are lawful) (subst (λ ls. IsWhole system ls journal) lines_are whole) (subst (λ ls. unsettled system ls journal ≡ false) lines_are uncut) in
-    let turned = lines_are_turns healed.before healed.most healed.sweep done in
-    let taken = turns_taken system (map line_of healed.before) healed.most turns part.rows (subst (λ ls. IsLawful system ls part.rows) turned part.lawful_first) (subst (λ ls. IsWhole system ls part.rows) turned part.whole_first)
-    (subst (λ ls. unsettled system ls part.rows ≡ false) turned part.uncut) in
-    let lawful_rows : Lawful as_nodes words scenario part.rows = lawful-prefix system (schedule scenario) part.rows part.more (subst (Lawful as_nodes words scenario) part.journal_is lawful) in
-    let untold_rows = rows_untold system (schedule scenario) part.rows (healed_untold scenario healed) lawful_rows in
-    let parts = ap length part.journal_is ∙ length-append part.rows part.more in (
-      part.rows,
-      record { later = part.more; goes_on = part.journal_is; lawful = part.lawful_first; whole = part.whole_first; quiet = ends_quiet system taken.0 turns part.rows taken.1 },
-      store_idle words scenario bounded healed.no_policy majorities taken.0 part.rows turns taken.1 lawful_rows untold_rows (omega (arith, parts, few))
-          (λ who l. (let swept = healed.swept who l in sweep_ticks who swept.0 healed.sweep (map client_turn done) swept.1 swept.2)),
-    )
+    let is_lawful = subst (λ ls. IsLawful system ls journal) lines_are lawful in
+    let is_whole = subst (λ ls. IsWhole system ls journal) lines_are whole in
+    part_idle words scenario journal healed valid majorities lawful few done rest is_lawful is_whole (first_part system first others journal is_lawful is_whole (subst (λ ls. unsettled system ls journal ≡ false) lines_are uncut))

@@ -1,7 +1,6 @@
 -- A poll ends with two rounds of mail: first all members that may get mail answer, and then who polls has counted them all, or has stopped.
-use Rattle.std.proofs.Common.{◌≡◌, ℕ, ◌<◌, ◌≤◌, eqb, Bool, true, true≢false, List, [], ◌∷◌, ◌++◌, filter, Option, Some, ◌⊎◌, inl, inr, refl, sym, ◌∙◌, ap, subst, ◌*◌, length, count_by, cond, arith}
-use Rattle.std.proofs.lemmas.Bool.{cases_Bool, cond_both, cond-true, lt-ltb, eqb-true, eq-eqb}
-use Rattle.std.proofs.lemmas.List.Sums.{sum_by-cons}
+use Rattle.std.proofs.Common.{◌≡◌, ℕ, ◌<◌, ◌≤◌, eqb, Bool, true, true≢false, List, [], ◌∷◌, ◌++◌, filter, Option, Some, ◌⊎◌, inl, inr, refl, sym, ◌∙◌, ap, subst, ◌*◌, length, count_by, arith}
+use Rattle.std.proofs.lemmas.Bool.{cases_Bool, lt-ltb, eqb-true, eq-eqb}
 use Rattle.sc_base.specs.Definitions.{Among, Each, is_member, votes_of}
 use Rattle.sc_words.proofs.PaxosProofs.Lemmas.{Each-among, Each-append, Each-filter, Each-weaker, Among-filter}
 use Rattle.sc_paxos_law.proofs.Lemmas.{Among-left, Among-right, among-member}

@@ -1,10 +1,9 @@
 -- After the turn of a node, which is its tick with the deliveries behind it, each replica of the node is settled or does not run; and it stays so in the turns that follow.
-use Rattle.std.proofs.Common.{◌≡◌, ℕ, ◌+◌, ◌*◌, ◌-◌, ◌^◌, ◌<◌, ◌≤◌, not, eqb, Bool, true, false, true≢false, List, [], ◌∷◌, ◌++◌, count_by, length, length-append, filter, find, Option, Some, None, ◌⊎◌, inl, inr, refl, sym, ◌∙◌, ap, subst, arith, append_assoc, append-nil}
+use Rattle.std.proofs.Common.{◌≡◌, ℕ, ◌+◌, ◌*◌, ◌-◌, ◌^◌, ◌<◌, ◌≤◌, not, eqb, Bool, true, false, true≢false, List, [], ◌∷◌, ◌++◌, count_by, length, length-append, filter, Option, Some, None, ◌⊎◌, inl, inr, refl, sym, ◌∙◌, ap, subst, arith, append_assoc, append-nil}
 use Rattle.std.specs.Option.{option_map}
 use Rattle.std.specs.List.{list_any}
 use Rattle.std.proofs.lemmas.Bool.{cond_both, cond-false, cases_Bool, eqb-true, eq-eqb, and_parts}
 use Rattle.sc_base.specs.Definitions.{Among, Each}
-use Rattle.sc_base.proofs.Lemmas.{map-some}
 use Rattle.sc_words.proofs.PaxosProofs.Lemmas.{Each-among, Each-append, Each-filter, Each-weaker, find_found, Among-filter}
 use Rattle.sc_paxos_law.proofs.Lemmas.{Among-left, Among-right}
 use Rattle.sc_node_table.specs.Values.{Ballot, Draw, Seat, Row, Event, Base, Core, OrderLine, Mail, MailBody, Prepare, Install, Node, Client}
@@ -17,7 +16,7 @@ use Rattle.sc_law_walks.proofs.Talks.{all_sent}
 use Rattle.sc_law_walks.proofs.Lemmas.{elected_place}
 use Rattle.sc_scenario.specs.declared.scenario.scenarios.Scenario.{Scenario}
 use Rattle.sc_scenario.specs.scenario.Definitions.{IsBounded}
-use Rattle.sc_meaning.specs.sound.Definitions.{Lawful, Player, as_nodes, births, player_table, schedule, system_of}
+use Rattle.sc_meaning.specs.sound.Definitions.{Lawful, Player, as_nodes, player_table, schedule, system_of}
 use Rattle.sc_live_orderly.specs.Definitions.{Kick, Ticks, Starts, Turn, kick_line, pending_mail, AreDelivered, IsTurn, HasTurns}
 use Rattle.sc_live_orderly.specs.Turns.{as_list}
 use Rattle.sc_live_healed.proofs.FixedWalks.{IsFresh, IsMember}

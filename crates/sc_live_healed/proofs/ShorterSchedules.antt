@@ -61,11 +61,16 @@ module _ {A M O : Type 0} (s : System A M O) (first others : List (Line O)) (jou
     pub whole_first : IsWhole s first rows
     pub uncut : unsettled s first rows ≡ false
 
+  part_of : Passed → unsettled s (first ++ others) journal ≡ false → FirstPart
+  part_of at quiet =
+      let same : unsettled s all journal ≡ unsettled s all (at.rows ++ at.more) = ap (λ xs. unsettled s all xs) at.journal_is in
+      let now : unsettled s all at.rows ≡ false = uncut_before s all at.rows at.more (sym same ∙ quiet) in
+      let here : unsettled s all at.rows ≡ _ = ap (λ place. place.unsettled) at.long.place in
+      let none = onward_cut s at.rows back at.k at.c (sym here ∙ now) in
+      let end = Stands-whole s first at.rows at.k at.c at.short in
+      record { rows = at.rows; more = at.more; journal_is = at.journal_is; lawful_first = at.short.lawful; whole_first = end.0; uncut = end.2 ∙ none }
+
   pub first_part : unsettled s (first ++ others) journal ≡ false → FirstPart
   first_part quiet =
       let begins : Stands s all [] (flat_map (tasks_of s.words) first ++ back) 0 false = subst (λ ts. Stands s all [] ts 0 false) (flat_append (tasks_of s.words) first others) (Stands-begin s all) in
-      let at = passes journal [] (flat_map (tasks_of s.words) first) 0 false refl begins (Stands-begin s first) in
-      let now : unsettled s all at.rows ≡ false = uncut_before s all at.rows at.more (ap (λ xs. unsettled s all xs) (sym at.journal_is) ∙ quiet) in
-      let none = onward_cut s at.rows back at.k at.c (ap (λ place. place.unsettled) (sym at.long.place) ∙ now) in
-      let end = Stands-whole s first at.rows at.k at.c at.short in
-      record { rows = at.rows; more = at.more; journal_is = at.journal_is; lawful_first = at.short.lawful; whole_first = end.0; uncut = end.2 ∙ none }
+      part_of (passes journal [] (flat_map (tasks_of s.words) first) 0 false refl begins (Stands-begin s first)) quiet

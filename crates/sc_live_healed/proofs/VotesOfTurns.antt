@@ -1,5 +1,5 @@
 -- After the turn of a node the votes for what it has in flight are counted or under way, and stay so turn by turn; so where no mail is pending its settled replicas are idle.
-use Rattle.std.proofs.Common.{◌≡◌, ℕ, not, eqb, Bool, true, false, true≢false, List, [], ◌∷◌, ◌++◌, filter, find, Option, Some, None, ◌⊎◌, inl, inr, refl, sym, ◌∙◌, ap, subst, append-nil, append_assoc}
+use Rattle.std.proofs.Common.{◌≡◌, ℕ, not, eqb, Bool, true, false, true≢false, List, [], ◌∷◌, ◌++◌, filter, Option, Some, None, ◌⊎◌, inl, inr, refl, sym, ◌∙◌, ap, subst, append-nil, append_assoc}
 use Rattle.std.specs.Option.{option_map}
 use Rattle.std.specs.List.{list_any}
 use Rattle.std.proofs.lemmas.Bool.{cond_both, cond-true, cond-false, eqb-true, eq-eqb, and_parts}
@@ -9,13 +9,12 @@ use Rattle.sc_actor.specs.declared.rows.Event.TheVariants.{Tick as TickEvent, Go
 use Rattle.sc_actor.specs.declared.rows.Input.TheVariants.{Tick, Go}
 use Rattle.sc_actor.specs.Definitions.{mails, copies, counts_at, acted, input_of, value, may_get, has_crashed, has_started, numbers_of, row_of, acts, is_quiet, line_row, System}
 use Rattle.sc_actor.proofs.Lemmas.{value-snoc}
-use Rattle.sc_base.proofs.Lemmas.{map-some}
 use Rattle.sc_node_table.specs.Definitions.{NodeState, is_node, on_tick}
-use Rattle.sc_words.proofs.PaxosProofs.Lemmas.{find_found, Among-filter}
+use Rattle.sc_words.proofs.PaxosProofs.Lemmas.{Among-filter}
 use Rattle.sc_paxos_law.proofs.Lemmas.{Among-right}
 use Rattle.sc_scenario.specs.declared.scenario.scenarios.Scenario.{Scenario}
 use Rattle.sc_scenario.specs.scenario.Definitions.{IsBounded}
-use Rattle.sc_meaning.specs.sound.Definitions.{Player, as_nodes, births, player_table}
+use Rattle.sc_meaning.specs.sound.Definitions.{Player, player_table}
 use Rattle.sc_live_orderly.specs.Definitions.{Kick, Ticks, Starts, Turn, kick_line, mail_with, pending_mail, IsTurn, HasTurns}
 use Rattle.sc_live_orderly.specs.Turns.{as_list}
 use Rattle.sc_live_orderly.proofs.PendingMail.{none_pending}
