@@ -31,7 +31,7 @@ use Rattle.sc_live_healed.proofs.NearRounds.{rounds_grow}
 use Rattle.sc_live_healed.proofs.NodeTicks.{OneNamed}
 use Rattle.sc_live_healed.proofs.PlayerRows.{HasOne}
 use Rattle.sc_live_healed.proofs.SettledTurns.{HasTicked, turns_settle}
-use Rattle.sc_live_healed.proofs.ShorterSchedules.{FirstPart, first_part}
+use Rattle.sc_live_healed.proofs.ShorterSchedules.{WholePrefix, whole_prefix}
 use Rattle.sc_live_healed.proofs.UntoldRows.{rows_untold}
 use Rattle.sc_live_healed.proofs.VotesOfTurns.{IsTicked}
 use Rattle.sc_live_healed.specs.Definitions.{lives, HasLivingMajorities, NodeTurn, ClientTurn, client_lines, IsHealed, IsIdle, IsSettledOrStopped, IsIdleLeader, IsIdleStore, IsAtEnd, HealedStoresIdle}
@@ -144,11 +144,11 @@ module _ (words : ℕ → ℕ → ℕ × ℕ) (scenario : Scenario) (journal : R
   abbrev turns : List Turn
   turns = turns_of healed.sweep done
 
-  -- what these turns leave of a first part of the journal
+  -- what these turns leave of a prefix of the journal
   abbrev Idle : Type 0
   Idle = (rows : Rows) × IsAtEnd words scenario healed done journal rows × IsIdleStore scenario rows
 
-  module _ (is_lawful : IsLawful system (first ++ others) journal) (is_whole : IsWhole system (first ++ others) journal) (part : FirstPart system first others journal is_lawful is_whole) where
+  module _ (is_lawful : IsLawful system (first ++ others) journal) (is_whole : IsWhole system (first ++ others) journal) (part : WholePrefix system first others journal is_lawful is_whole) where
     idle_by : (before : Rows) → HasTurns system before turns part.rows → Idle
     idle_by before t =
         let bounded : IsBounded scenario = valid_scenarios_are_bounded scenario valid in
@@ -179,4 +179,4 @@ healed_stores_stay_idle words scenario journal healed valid majorities lawful wh
     ∙ (ap (λ asks. map line_of (lines_to healed.before healed.most healed.sweep asks)) e ∙ lines_go_on healed.before healed.most healed.sweep done rest) in
     let is_lawful = subst (λ ls. IsLawful system ls journal) lines_are lawful in
     let is_whole = subst (λ ls. IsWhole system ls journal) lines_are whole in
-    part_idle words scenario journal healed valid majorities lawful few done rest is_lawful is_whole (first_part system first others journal is_lawful is_whole (subst (λ ls. unsettled system ls journal ≡ false) lines_are uncut))
+    part_idle words scenario journal healed valid majorities lawful few done rest is_lawful is_whole (whole_prefix system first others journal is_lawful is_whole (subst (λ ls. unsettled system ls journal ≡ false) lines_are uncut))

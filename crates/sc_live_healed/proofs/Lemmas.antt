@@ -24,7 +24,7 @@ pub use Rattle.sc_live_healed.proofs.PlayerRows.{View, HasOne, Rises, AsksSo, Pl
 pub use Rattle.sc_live_healed.proofs.FreshBallots.{AsksSeen, HasFreshBallots, ballots_fresh}
 pub use Rattle.sc_live_healed.proofs.OwnTicks.{OwnTick, own_tick}
 pub use Rattle.sc_live_healed.proofs.SettledTurns.{IsSettledAfter, HasTicked, turn_settles, turns_settle}
-pub use Rattle.sc_live_healed.proofs.ShorterSchedules.{FirstPart, first_part}
+pub use Rattle.sc_live_healed.proofs.ShorterSchedules.{WholePrefix, whole_prefix}
 pub use Rattle.sc_live_healed.proofs.HealedLines.{turns_of, lines_to, lines_are_turns, lines_go_on, healed_untold, living_spared}
 pub use Rattle.sc_live_healed.proofs.LivingSeats.{node_found, node_is_found, living_bounds, living_node, living_gets, living_majority}
 pub use Rattle.sc_live_healed.proofs.HealedIdle.{store_idle, healed_stores_stay_idle}

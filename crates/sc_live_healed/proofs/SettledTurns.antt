@@ -47,7 +47,7 @@ module _ (words : ℕ → ℕ → ℕ × ℕ) (scenario : Scenario) (bounded : I
   abbrev s : System Player Mail OrderLine
   s = system_of as_nodes words scenario
 
-  -- ---- what holds after each first part of the journal
+  -- ---- what holds after each prefix of the journal
 
   -- What holds after these rows.
   record Stands (rows : Rows) : Type 0 where

@@ -1,4 +1,4 @@
--- A whole journal of a schedule has a first part that is a whole journal of the first lines alone, in which no line was cut off where none was in the journal.
+-- A whole journal of a schedule has a prefix that is a whole journal of the first lines alone, in which no line was cut off where none was in the journal.
 use Rattle.std.proofs.Common.{◌≡◌, ℕ, ◌+◌, List, [], ◌∷◌, ◌++◌, Bool, true, false, ◌||◌, refl, sym, ◌∙◌, ap, subst, append_assoc}
 use Rattle.std.specs.List.{flat_map}
 use Rattle.sc_actor.specs.declared.rows.Row.{Row}
@@ -52,8 +52,8 @@ module _ {A M O : Type 0} (s : System A M O) (first others : List (Line O)) (jou
   passes [] = at_end
   passes (row ∷ more) = at_row row more (passes more)
 
-  -- The first part that the first lines make.
-  pub record FirstPart : Type 0 where
+  -- The prefix that the first lines make.
+  pub record WholePrefix : Type 0 where
     pub rows : List (Row M O)
     pub more : List (Row M O)
     pub journal_is : journal ≡ rows ++ more
@@ -61,7 +61,7 @@ module _ {A M O : Type 0} (s : System A M O) (first others : List (Line O)) (jou
     pub whole_first : IsWhole s first rows
     pub uncut : unsettled s first rows ≡ false
 
-  part_of : Passed → unsettled s (first ++ others) journal ≡ false → FirstPart
+  part_of : Passed → unsettled s (first ++ others) journal ≡ false → WholePrefix
   part_of at quiet =
       let same : unsettled s all journal ≡ unsettled s all (at.rows ++ at.more) = ap (λ xs. unsettled s all xs) at.journal_is in
       let now : unsettled s all at.rows ≡ false = uncut_before s all at.rows at.more (sym same ∙ quiet) in
@@ -70,7 +70,7 @@ module _ {A M O : Type 0} (s : System A M O) (first others : List (Line O)) (jou
       let end = Stands-whole s first at.rows at.k at.c at.short in
       record { rows = at.rows; more = at.more; journal_is = at.journal_is; lawful_first = at.short.lawful; whole_first = end.0; uncut = end.2 ∙ none }
 
-  pub first_part : unsettled s (first ++ others) journal ≡ false → FirstPart
-  first_part quiet =
+  pub whole_prefix : unsettled s (first ++ others) journal ≡ false → WholePrefix
+  whole_prefix quiet =
       let begins : Stands s all [] (flat_map (tasks_of s.words) first ++ back) 0 false = subst (λ ts. Stands s all [] ts 0 false) (flat_append (tasks_of s.words) first others) (Stands-begin s all) in
       part_of (passes journal [] (flat_map (tasks_of s.words) first) 0 false refl begins (Stands-begin s first)) quiet
