@@ -1,18 +1,18 @@
 -- What offers, votes and entries do with the slots that a leader has taken, and with a request that it holds there.
-use Rattle.std.proofs.Common.{◌≡◌, ℕ, ◌+◌, ◌-◌, ◌<◌, ◌≤◌, eqb, Bool, true, false, true≢false, cond, List, [], ◌∷◌, ◌++◌, length, count_by, Option, Some, None, ◌⊎◌, inl, inr, refl, sym, ◌∙◌, ap, subst, arith}
+use Rattle.std.proofs.Common.{◌≡◌, ℕ, ◌+◌, ◌<◌, ◌≤◌, eqb, List, [], ◌∷◌, ◌++◌, length, Option, Some, None, ◌⊎◌, inl, inr, refl, sym, ◌∙◌, ap, subst, arith}
 use Rattle.std.specs.Option.{option_map}
-use Rattle.std.proofs.lemmas.Bool.{cond_both, cases_eq, cases_lt, eqb-true, eqb-false, eq-eqb, ne_eqb}
+use Rattle.std.proofs.lemmas.Bool.{cond_both, cases_eq, cases_lt, eqb-true, eq-eqb, ne_eqb}
 use Rattle.sc_base.specs.Definitions.{Among, same_ballot, is_majority}
 use Rattle.sc_node_table.specs.Values.{Ballot, Command, Flight, Counted, Chosen, NotYet}
-use Rattle.sc_words.specs.paxos.Definitions.{LeaderState, flight_at, without_flight, without_flight_at, with_flight_at, with_voters, counted, vote_at, tallied, voters_after, kept_voters}
+use Rattle.sc_words.specs.paxos.Definitions.{LeaderState, flight_at, without_flight, without_flight_at, with_flight_at, with_voters, counted, vote_at, voters_after, kept_voters}
 use Rattle.sc_words.proofs.PaxosProofs.Lemmas.{find_found}
 use Rattle.sc_node_table.specs.Definitions.{ReplicaState, next, taken_at, at_slot, with_slot, without_slot, either}
 use Rattle.sc_live_plain.specs.Definitions.{takers}
-use Rattle.sc_live_plain.proofs.RowsProofs.SlotCounts.{count-cons, count-push, one_if, one_yes, one_no, one_if_most, entries_at, at_found, at_only, at_nothing, out_here, out_other, out_none, out_among, with_count, with_it, with_among, find_some}
+use Rattle.sc_live_plain.proofs.RowsProofs.SlotCounts.{count-push, one_if, one_yes, one_no, one_if_most, entries_at, at_nothing, out_here, out_other, out_none, out_among, with_count, with_it, with_among, find_some}
 use Rattle.sc_live_plain.proofs.LeadersProofs.LeadingReplicas.{flights_at}
 use Rattle.sc_live_plain.proofs.LeadersProofs.Flights.{only_flight, voted_count, voted_value}
 use Rattle.sc_live_plain.proofs.RowsProofs.RepeatedMail.{among_push, last_among}
-use Rattle.sc_live_healed.proofs.TakenRequests.{AreApart, IsHeld, Queued, Flying, Ready, IsOurs, flight_counts, entry_counts}
+use Rattle.sc_live_healed.proofs.TakenRequests.{AreApart, IsHeld, Queued, Flying, Ready, IsOurs, flight_counts}
 
 abbrev Flights : Type 0
 Flights = List (Flight Command)
@@ -93,30 +93,30 @@ less_entry slot es most = elim (cases_lt 0 (entries_at slot es)) [
 pub apart_cleared : (before after : ReplicaState) → AreApart before → IsCleared (next before) before after → AreApart after
 apart_cleared before after p c =
     let counts : (s : ℕ) → takers after s ≡ flights_at s (without_flight (next before) before.leader.flights) + entries_at s (without_slot before.ready (next before)) =
-        λ s. (let f = ap (λ l. flights_at s l) c.flights in let e = ap (λ l. entries_at s l) c.ready in omega (arith, f, e)) in
+    λ s. (let f = ap (λ l. flights_at s l) c.flights in let e = ap (λ l. entries_at s l) c.ready in omega (arith, f, e)) in
     let up = c.next_is in
     let many = c.many in
     record {
       once = λ s. (let o = p.once s in let k = counts s in
           elim (cases_eq (next before) s) [
             | inl same ↦ (let o_next = p.once (next before) in
-              let f = less_flight (next before) before.leader.flights (omega (arith, o_next)) in
-              let e = less_entry (next before) before.ready (omega (arith, o_next)) in
-              subst (λ n. takers after n ≤ 1) same (let k_next = counts (next before) in omega (arith, k_next, f, e)))
+                let f = less_flight (next before) before.leader.flights (omega (arith, o_next)) in
+                let e = less_entry (next before) before.ready (omega (arith, o_next)) in
+                subst (λ n. takers after n ≤ 1) same (let k_next = counts (next before) in omega (arith, k_next, f, e)))
             | inr other ↦ (let f = out_flight (next before) s before.leader.flights other in let e = out_entry (next before) s before.ready other in omega (arith, o, k, f, e))
           ]);
       open_ = λ s some. (let k = counts s in
           elim (cases_eq (next before) s) [
             | inl same ↦ (let o_next = p.once (next before) in
-              let f = less_flight (next before) before.leader.flights (omega (arith, o_next)) in
-              let e = less_entry (next before) before.ready (omega (arith, o_next)) in
-              let k_next = counts (next before) in
-              let some_next : 1 ≤ takers after (next before) = subst (λ n. 1 ≤ takers after n) (sym same) some in
-              absurd (omega (arith, k_next, f, e, some_next)))
+                let f = less_flight (next before) before.leader.flights (omega (arith, o_next)) in
+                let e = less_entry (next before) before.ready (omega (arith, o_next)) in
+                let k_next = counts (next before) in
+                let some_next : 1 ≤ takers after (next before) = subst (λ n. 1 ≤ takers after n) (sym same) some in
+                absurd (omega (arith, k_next, f, e, some_next)))
             | inr other ↦ (let f = out_flight (next before) s before.leader.flights other in let e = out_entry (next before) s before.ready other in
-              let o = p.open_ s (omega (arith, k, f, e, some)) in
-              let low = o.0 in let high = o.1 in
-              (omega (arith, low, up, other), omega (arith, high, up, many)))
+                let o = p.open_ s (omega (arith, k, f, e, some)) in
+                let low = o.0 in let high = o.1 in
+                (omega (arith, low, up, other), omega (arith, high, up, many)))
           ]);
     }
 
@@ -177,12 +177,12 @@ apart_decided slot command r after d p =
     let none : entries_at slot r.ready ≡ 0 = omega (arith, some, most) in
     let out = out_here (λ (x : Flight Command). x.slot) (λ m xs. without_flight m xs) (λ m. refl) (λ m x xs. refl) slot r.leader.flights some in
     let same : (s : ℕ) → flights_at s (without_flight slot r.leader.flights) + entries_at s (with_slot r.ready slot command) ≡ takers r s =
-        λ s. (let more = with_count slot command r.ready s none in
-        elim (cases_eq slot s) [
-          | inl here ↦ (let one = one_yes (eqb slot s) (eq-eqb slot s here) in
-            let out_s = subst (λ n. flights_at n (without_flight slot r.leader.flights) + 1 ≡ flights_at n r.leader.flights) here out in omega (arith, more, one, out_s))
-          | inr other ↦ (let no_one = one_no (eqb slot s) (ne_eqb slot s other) in let stays = out_flight slot s r.leader.flights other in omega (arith, more, no_one, stays))
-        ]) in
+    λ s. (let more = with_count slot command r.ready s none in
+    elim (cases_eq slot s) [
+      | inl here ↦ (let one = one_yes (eqb slot s) (eq-eqb slot s here) in
+          let out_s = subst (λ n. flights_at n (without_flight slot r.leader.flights) + 1 ≡ flights_at n r.leader.flights) here out in omega (arith, more, one, out_s))
+      | inr other ↦ (let no_one = one_no (eqb slot s) (ne_eqb slot s other) in let stays = out_flight slot s r.leader.flights other in omega (arith, more, no_one, stays))
+    ]) in
     subst (λ (l : LeaderState Command). AreApart (record r { leader = l; ready = with_slot r.ready slot command })) (sym d.after_is) (record {
       once = λ s. (let o = p.once s in let k = same s in omega (arith, o, k));
       open_ = λ s many. (let k = same s in p.open_ s (omega (arith, k, many)));

@@ -1,27 +1,27 @@
 -- In each lawful journal every client rests or asks on, and has sent no request with a greater number than those that it has begun.
-use Rattle.std.proofs.Common.{◌≡◌, ℕ, zero, suc, ◌+◌, ◌-◌, ◌≤◌, ◌&&◌, ◌||◌, eqb, Bool, true, false, true≢false, cond, List, [], ◌∷◌, ◌++◌, map, find, length, Option, Some, None, ◌⊎◌, inl, inr, refl, sym, ◌∙◌, ap, subst, arith}
+use Rattle.std.proofs.Common.{◌≡◌, ℕ, ◌+◌, ◌-◌, ◌≤◌, ◌&&◌, ◌||◌, eqb, Bool, true, false, true≢false, cond, List, [], ◌∷◌, ◌++◌, map, find, length, Option, Some, None, ◌⊎◌, inl, inr, refl, sym, ◌∙◌, ap, subst, arith}
 use Rattle.std.specs.List.{list_any}
 use Rattle.std.specs.Prelude.{slice_get}
 use Rattle.std.specs.Option.{option_map}
-use Rattle.std.proofs.lemmas.Bool.{cond_both, cases_Bool, eqb-true, eq-eqb, and_parts, or_cases, both_ways}
+use Rattle.std.proofs.lemmas.Bool.{cond_both, eqb-true, eq-eqb, and_parts, or_cases}
 use Rattle.std.proofs.lemmas.List.{length_push}
 use Rattle.std.proofs.lemmas.List.Folds.{list_any-append}
-use Rattle.sc_base.specs.Definitions.{Among, Each, client_actor}
-use Rattle.sc_node_table.specs.Values.{Seat, Row, Event, Deliver, Drop, Again, Crash, Input, Got, OrderLine, Merge, Mail, MailBody, Request, Op, Base, Node, Client}
+use Rattle.sc_base.specs.Definitions.{Each, client_actor}
+use Rattle.sc_node_table.specs.Values.{Seat, Row, Event, Deliver, Drop, Again, Crash, Input, Got, OrderLine, Merge, Mail, Request, Op, Base, Node, Client}
 use Rattle.sc_actor.specs.declared.rows.Event.TheVariants.{Tick as TickEvent, Go as GoEvent, Told as ToldEvent}
 use Rattle.sc_actor.specs.declared.rows.Input.TheVariants.{Tick, Go, Told}
-use Rattle.sc_actor.specs.Definitions.{mails, numbered, acted, input_of, value, row_of, has_started, is_go, IsStep, IsOpen, IsLoose}
+use Rattle.sc_actor.specs.Definitions.{mails, numbered, acted, input_of, value, has_started, is_go, IsStep, IsOpen, IsLoose}
 use Rattle.sc_actor.proofs.Lemmas.{lawful-induction, value-snoc}
-use Rattle.sc_words.proofs.PaxosProofs.Lemmas.{Each-among, Each-append, Each-from, find_found}
+use Rattle.sc_words.proofs.PaxosProofs.Lemmas.{Each-among, Each-append, find_found}
 use Rattle.sc_scenario.specs.declared.scenario.scenarios.Scenario.{Scenario}
 use Rattle.sc_scenario.specs.declared.scenario.scenarios.Asks.{Asks as Requests}
-use Rattle.sc_client_table.specs.table.Definitions.{Client as ClientState, born_client, table, request_of, request_at, waiting_request, InTurn, SendsWaiting, Waits, Begins, TakesReply}
+use Rattle.sc_client_table.specs.table.Definitions.{Client as ClientState, table, request_at, InTurn, SendsWaiting, Waits, Begins, TakesReply}
 use Rattle.sc_client_table.proofs.TableProofs.TurnLemmas.{sends_in_turn}
-use Rattle.sc_meaning.specs.sound.Definitions.{Lawful, Player, as_nodes, births, client_seat, client_seats, node_seat, player_table, route_of, schedule, system_of, issues, asks_for, issue_row, issued_from}
+use Rattle.sc_meaning.specs.sound.Definitions.{Lawful, Player, as_nodes, births, client_seat, client_seats, node_seat, player_table, route_of, schedule, system_of, issues, asks_for, issued_from}
 use Rattle.sc_node_table.specs.Definitions.{numbers_from}
-use Rattle.sc_live_plain.specs.Definitions.{begun_ones, waiting_ones, IsResting}
+use Rattle.sc_live_plain.specs.Definitions.{begun_ones, waiting_ones}
 use Rattle.sc_live_healed.proofs.FixedJournals.{Rows, IsOf}
-use Rattle.sc_live_healed.specs.AskingClients.{IsAskingOn, IsAskingClient}
+use Rattle.sc_live_healed.specs.AskingClients.{IsAskingClient}
 use Rattle.sc_live_healed.proofs.AskingClientRows.{is_start, stays}
 
 -- a client, which has started or not, rests or asks on; and it has sent no request with a greater number than those that it has begun
@@ -130,14 +130,14 @@ module _ (words : ℕ → ℕ → ℕ × ℕ) (scenario : Scenario) where
         number = k.number ∙ ap client_actor (sym t.me);
         asks = subst (λ b. IsAskingClient b after) (sym now) kept;
         few = λ seq e. (
-          let e1 : list_any (issues client.me seq) rows || (issues client.me seq row || false) ≡ true = sym (issued_push rows row client.me seq) ∙ ap (λ n. list_any (issues n seq) (rows ++ row ∷ [])) (sym t.me) ∙ e in
-          elim (or_cases (list_any (issues client.me seq) rows) (issues client.me seq row || false) e1) [
-            | inl before ↦ (let low = k.few seq before in omega (arith, low, grows))
-            | inr new ↦
-                let sends : list_any (λ mail. asks_for client.me seq mail.body) row.sent ≡ true = (and_parts (eqb row.who (client_actor client.me)) (list_any (λ mail. asks_for client.me seq mail.body) row.sent) (sym (alone (issues client.me seq row)) ∙ new)).1 in
-                sent_begun after (table client input).1 (has_started rows who || is_start input) t.sends kept seq
-                (ap (λ n. list_any (λ mail. asks_for n seq mail.body) (table client input).1) t.me ∙ ap (λ ms. list_any (λ (mail : Mail). asks_for client.me seq mail.body) ms) (sym sent_is) ∙ sends)
-          ]);
+            let e1 : list_any (issues client.me seq) rows || (issues client.me seq row || false) ≡ true = sym (issued_push rows row client.me seq) ∙ ap (λ n. list_any (issues n seq) (rows ++ row ∷ [])) (sym t.me) ∙ e in
+            elim (or_cases (list_any (issues client.me seq) rows) (issues client.me seq row || false) e1) [
+              | inl before ↦ (let low = k.few seq before in omega (arith, low, grows))
+              | inr new ↦
+                  let sends : list_any (λ mail. asks_for client.me seq mail.body) row.sent ≡ true = (and_parts (eqb row.who (client_actor client.me)) (list_any (λ mail. asks_for client.me seq mail.body) row.sent) (sym (alone (issues client.me seq row)) ∙ new)).1 in
+                  sent_begun after (table client input).1 (has_started rows who || is_start input) t.sends kept seq
+                  (ap (λ n. list_any (λ mail. asks_for n seq mail.body) (table client input).1) t.me ∙ ap (λ ms. list_any (λ (mail : Mail). asks_for client.me seq mail.body) ms) (sym sent_is) ∙ sends)
+            ]);
       }
     where
       alone : (b : Bool) → b || false ≡ b
@@ -180,13 +180,13 @@ module _ (words : ℕ → ℕ → ℕ × ℕ) (scenario : Scenario) where
       by seat is_of (inl step) =
           cond_both (eqb row.who seat.who) (acted player_table (value player_table seat rows) (input_of (mails rows) row.event)).0 (value player_table seat rows) (IsAskingPlayer (rows ++ row ∷ []) seat.who)
           (λ t. (
-            let who_is : step.seat.who ≡ seat.who = sym (ap (λ (r : Row Mail OrderLine). r.who) step.row_is) ∙ eqb-true row.who seat.who t in
-            let one : step.seat ≡ seat = same_seat (sym step.born ∙ ap (λ n. find (λ (other : Seat Player). eqb other.who n) (births as_nodes scenario)) who_is ∙ is_of) in
-            let event_is : row.event ≡ step.event = ap (λ (r : Row Mail OrderLine). r.event) step.row_is in
-            subst (λ event. IsAskingPlayer (rows ++ row ∷ []) seat.who (acted player_table (value player_table seat rows) (input_of (mails rows) event)).0) (sym event_is)
-            (own_event rows row seat.who (value player_table seat rows) step.event (eqb-true row.who seat.who t) event_is
-            (ap (λ (r : Row Mail OrderLine). r.sent) step.row_is ∙ ap (λ (x : Seat Player). (acted player_table (value player_table x rows) (input_of (mails rows) step.event)).1) one)
-            (λ go. starts_once step.event go (subst (λ n. IsOpen (system_of as_nodes words scenario) rows n step.event) who_is step.open_)) (k.players seat is_of))))
+          let who_is : step.seat.who ≡ seat.who = sym (ap (λ (r : Row Mail OrderLine). r.who) step.row_is) ∙ eqb-true row.who seat.who t in
+          let one : step.seat ≡ seat = same_seat (sym step.born ∙ ap (λ n. find (λ (other : Seat Player). eqb other.who n) (births as_nodes scenario)) who_is ∙ is_of) in
+          let event_is : row.event ≡ step.event = ap (λ (r : Row Mail OrderLine). r.event) step.row_is in
+          subst (λ event. IsAskingPlayer (rows ++ row ∷ []) seat.who (acted player_table (value player_table seat rows) (input_of (mails rows) event)).0) (sym event_is)
+          (own_event rows row seat.who (value player_table seat rows) step.event (eqb-true row.who seat.who t) event_is
+          (ap (λ (r : Row Mail OrderLine). r.sent) step.row_is ∙ ap (λ (x : Seat Player). (acted player_table (value player_table x rows) (input_of (mails rows) step.event)).1) one)
+          (λ go. starts_once step.event go (subst (λ n. IsOpen (system_of as_nodes words scenario) rows n step.event) who_is step.open_)) (k.players seat is_of))))
           (λ other. other_row rows row seat.who (value player_table seat rows) other (k.players seat is_of))
         where
           same_seat : {a b : Seat Player} → Some a ≡ Some b → a ≡ b
@@ -236,9 +236,11 @@ module _ (words : ℕ → ℕ → ℕ × ℕ) (scenario : Scenario) where
       by (c ∷ cs) = (record { number = refl; asks = record { some = omega arith; state = inl (record { waits = refl; replies = inl (refl, refl) }) }; few = λ seq e. absurd (true≢false (sym e)) }, by cs)
 
   pub first_asking : IsAskingJournal []
-  first_asking = record { players = λ seat is_of. Each-among IsBornSeat (births as_nodes scenario) seat
-      (Each-append IsBornSeat (map (node_seat as_nodes scenario.groups scenario.policy) (numbers_from 1 scenario.nodes)) (client_seats scenario.groups scenario.clients) (nodes_born scenario.groups (numbers_from 1 scenario.nodes)) (clients_born scenario.groups scenario.clients))
-      (find_found (λ (other : Seat Player). eqb other.who seat.who) (births as_nodes scenario) seat is_of).0 }
+  first_asking = record {
+    players = λ seat is_of. Each-among IsBornSeat (births as_nodes scenario) seat
+        (Each-append IsBornSeat (map (node_seat as_nodes scenario.groups scenario.policy) (numbers_from 1 scenario.nodes)) (client_seats scenario.groups scenario.clients) (nodes_born scenario.groups (numbers_from 1 scenario.nodes)) (clients_born scenario.groups scenario.clients))
+        (find_found (λ (other : Seat Player). eqb other.who seat.who) (births as_nodes scenario) seat is_of).0;
+  }
 
   pub journal_asking : (rows : Rows) → Lawful as_nodes words scenario rows → IsAskingJournal rows
   journal_asking rows lawful = lawful-induction (system_of as_nodes words scenario) IsAskingJournal (λ xs row k step. next_asking xs row step k) (schedule scenario) rows first_asking lawful

@@ -135,10 +135,11 @@ module _ (words : ℕ → ℕ → ℕ × ℕ) (scenario : Scenario) (bounded : I
         let event_is : row.event ≡ Deliver t.number = ap (λ (r : Row Mail OrderLine). r.event) t.row_is in
         let who : row.who ≡ seat.who = ap (λ (r : Row Mail OrderLine). r.who) t.row_is in
         let acts : acted player_table (value player_table seat rows) (input_of {O = OrderLine} (mails rows) (Deliver t.number)) ≡ player_table p (Got t.mail) =
-        ap (λ (o : Option (Input Mail OrderLine)). acted player_table (value player_table seat rows) o) input_is ∙ ap (λ (q : Player). player_table q (Got t.mail)) is in
-        (sent_by ∙ ap (λ (x : Player × List Mail). x.1) acts,
-        value-snoc player_table seat rows row ∙ (cond-true (eqb row.who seat.who) _ _ (eq-eqb row.who seat.who who)
-        ∙ (ap (λ (event : Event OrderLine). (acted player_table (value player_table seat rows) (input_of (mails rows) event)).0) event_is ∙ ap (λ (x : Player × List Mail). x.0) acts)))
+        ap (λ (o : Option (Input Mail OrderLine)). acted player_table (value player_table seat rows) o) input_is ∙ ap (λ (q : Player). player_table q (Got t.mail)) is in (
+          sent_by ∙ ap (λ (x : Player × List Mail). x.1) acts,
+          value-snoc player_table seat rows row ∙ (cond-true (eqb row.who seat.who) _ _ (eq-eqb row.who seat.who who)
+              ∙ (ap (λ (event : Event OrderLine). (acted player_table (value player_table seat rows) (input_of (mails rows) event)).0) event_is ∙ ap (λ (x : Player × List Mail). x.0) acts)),
+        )
 
     -- every other actor stays
     others_stay : (who : ℕ) → (who ≡ t.mail.to → ⊥) → view (rows ++ row ∷ []) who ≡ view rows who

@@ -56,22 +56,22 @@ module _ (scenario : Scenario) (bounded : IsBounded scenario) where
   groups_fresh = record {
     each = λ base a me m. (let p = place_of base a in subst (λ (b : Base). IsMember b me → IsFresh b me) p.2 (λ is. record { free = refl; stands = refl; first = least_in (base_at bounded.starts p.0).core.members (some_members p.0 p.1); member = is }) m);
     apart = λ one other a b same.
-    (let x = place_of one a in
-    let y = place_of other b in
-    let names : x.0 + 1 ≡ y.0 + 1 = ap (λ (f : Base). f.core.id.count) x.2 ∙ (ap (λ (d : Draw). d.count) same ∙ sym (ap (λ (f : Base). f.core.id.count) y.2)) in
-    let k : x.0 ≡ y.0 = omega (arith, names) in
-    sym x.2 ∙ (ap (λ n. base_at bounded.starts n) k ∙ y.2));
+        (let x = place_of one a in
+        let y = place_of other b in
+        let names : x.0 + 1 ≡ y.0 + 1 = ap (λ (f : Base). f.core.id.count) x.2 ∙ (ap (λ (d : Draw). d.count) same ∙ sym (ap (λ (f : Base). f.core.id.count) y.2)) in
+        let k : x.0 ≡ y.0 = omega (arith, names) in
+        sym x.2 ∙ (ap (λ n. base_at bounded.starts n) k ∙ y.2));
     least = λ base a. (let p = place_of base a in subst (λ (b : Base). IsMember b (least_of b.core.members)) p.2 (least_in (base_at bounded.starts p.0).core.members (some_members p.0 p.1)));
     follows = λ base a.
-    (let p = place_of base a in
-    let right : ℕ = place_right bounded.starts p.0 in
-    subst (λ (b : Base). (other : Base) × Among other scenario.groups × (other.core.id ≡ b.core.succ.group) × (other.core.members ≡ b.core.succ.members)) p.2
-    (base_at bounded.starts right, subst (Among (base_at bounded.starts right)) (sym bounded.groups) (of_line bounded.starts (length bounded.starts) right (right_in bounded.starts p.0 p.1)), refl, refl));
+        (let p = place_of base a in
+        let right : ℕ = place_right bounded.starts p.0 in
+        subst (λ (b : Base). (other : Base) × Among other scenario.groups × (other.core.id ≡ b.core.succ.group) × (other.core.members ≡ b.core.succ.members)) p.2
+        (base_at bounded.starts right, subst (Among (base_at bounded.starts right)) (sym bounded.groups) (of_line bounded.starts (length bounded.starts) right (right_in bounded.starts p.0 p.1)), refl, refl));
     within = λ base a node m.
-    (let p = place_of base a in
-    let line = bounded.each p.0 (record { lo = 0; members = [] }) p.1 in
-    let up : IsUpTo scenario.nodes node = Each-among (IsUpTo scenario.nodes) (base_at bounded.starts p.0).core.members node (Each-from_All (IsUpTo scenario.nodes) (base_at bounded.starts p.0).core.members line.members_in)
+        (let p = place_of base a in
+        let line = bounded.each p.0 (record { lo = 0; members = [] }) p.1 in
+        let up : IsUpTo scenario.nodes node = Each-among (IsUpTo scenario.nodes) (base_at bounded.starts p.0).core.members node (Each-from_All (IsUpTo scenario.nodes) (base_at bounded.starts p.0).core.members line.members_in)
         (member-among (base_at bounded.starts p.0).core.members node (subst (λ (b : Base). IsMember b node) (sym p.2) m)) in
-    let most = bounded.nodes.1 in
-    both_so (nat_le 1 node) (nat_le node most_nodes) (le-leb 1 node up.0) (le-leb node most_nodes (omega (arith, up, most))));
+        let most = bounded.nodes.1 in
+        both_so (nat_le 1 node) (nat_le node most_nodes) (le-leb 1 node up.0) (le-leb node most_nodes (omega (arith, up, most))));
   }

@@ -145,29 +145,31 @@ module _ (base : Base) (me : ℕ) (fresh : IsFresh base me) where
     enters : (mails : List Mail) → F (start, mails) → Q (entered command start, mails)
     unfolding entered forgotten
     enters mails k =
-        let core : (applied start.group command).0.core ≡ base.core = parts.applied_core base command start.group f ∙ k.fixed.group in
-        (record {
-          me_is = k.me_is;
-          fixed = record {
-            group = core;
-            sets = ap (λ (sets : List (List ℕ)). rest_of sets ++ (applied start.group command).0.core.members ∷ []) k.fixed.sets ∙ ap (λ (c : Core). rest_of (replicate slots_ahead base.core.members) ++ c.members ∷ []) core;
-            acts = k.fixed.acts;
-            waits = ap (λ (c : Core). waits_in c.lock start.waits) core ∙ ap (λ (lock : Lock). waits_in lock start.waits) fresh.free;
-            backlog = k.fixed.backlog;
-            flights = k.fixed.flights;
-            ready = k.fixed.ready;
-            reports = k.fixed.reports;
-            accepted = Each-filter (λ (report : Report Command). Fixed report.value) (λ (report : Report Command). nat_lt (floor_of (next start)) report.slot) start.acceptor.accepted k.fixed.accepted;
-            entries = Each-drop Fixed (floor_of (next start) - (with_entry command start.log).base) (with_entry command start.log).entries (parts.logged_fixed base command start.log f k.fixed.entries);
-          };
-          ballots = record {
-            promised = k.ballots.promised;
-            asker = k.ballots.asker;
-            running = λ on. (let runs = k.ballots.running on in record { own = runs.own; seen = runs.seen; unpassed = runs.unpassed; hint = runs.hint });
-            stopped = λ off. (let s = k.ballots.stopped off in record { backlog = s.backlog; flights = s.flights; ready = s.ready; leader = s.leader; hint = s.hint; member = s.member });
-          };
-          said = k.said;
-        }, refl)
+        let core : (applied start.group command).0.core ≡ base.core = parts.applied_core base command start.group f ∙ k.fixed.group in (
+          record {
+            me_is = k.me_is;
+            fixed = record {
+              group = core;
+              sets = ap (λ (sets : List (List ℕ)). rest_of sets ++ (applied start.group command).0.core.members ∷ []) k.fixed.sets ∙ ap (λ (c : Core). rest_of (replicate slots_ahead base.core.members) ++ c.members ∷ []) core;
+              acts = k.fixed.acts;
+              waits = ap (λ (c : Core). waits_in c.lock start.waits) core ∙ ap (λ (lock : Lock). waits_in lock start.waits) fresh.free;
+              backlog = k.fixed.backlog;
+              flights = k.fixed.flights;
+              ready = k.fixed.ready;
+              reports = k.fixed.reports;
+              accepted = Each-filter (λ (report : Report Command). Fixed report.value) (λ (report : Report Command). nat_lt (floor_of (next start)) report.slot) start.acceptor.accepted k.fixed.accepted;
+              entries = Each-drop Fixed (floor_of (next start) - (with_entry command start.log).base) (with_entry command start.log).entries (parts.logged_fixed base command start.log f k.fixed.entries);
+            };
+            ballots = record {
+              promised = k.ballots.promised;
+              asker = k.ballots.asker;
+              running = λ on. (let runs = k.ballots.running on in record { own = runs.own; seen = runs.seen; unpassed = runs.unpassed; hint = runs.hint });
+              stopped = λ off. (let s = k.ballots.stopped off in record { backlog = s.backlog; flights = s.flights; ready = s.ready; leader = s.leader; hint = s.hint; member = s.member });
+            };
+            said = k.said;
+          },
+          refl,
+        )
 
     -- a request goes back to a replica that runs
     goes_back : (other : Command) (r : ReplicaState) (mails : List Mail) → Fixed other → start.running ≡ true → Q (r, mails) → Q (put_back other r, mails)
@@ -180,29 +182,31 @@ module _ (base : Base) (me : ℕ) (fresh : IsFresh base me) where
         call_back _ g = absurd g
 
     clears : (place : Place) → Q place → Q (cleared (next start) place)
-    clears (r, mails) k =
-        (record {
-          me_is = k.0.me_is;
-          fixed = record {
-            group = k.0.fixed.group;
-            sets = k.0.fixed.sets;
-            acts = k.0.fixed.acts;
-            waits = k.0.fixed.waits;
-            backlog = k.0.fixed.backlog;
-            flights = flight_without Fixed (next start) r.leader.flights k.0.fixed.flights;
-            ready = slot_without Fixed r.ready (next start) k.0.fixed.ready;
-            reports = k.0.fixed.reports;
-            accepted = k.0.fixed.accepted;
-            entries = k.0.fixed.entries;
-          };
-          ballots = record {
-            promised = k.0.ballots.promised;
-            asker = k.0.ballots.asker;
-            running = λ on. (let runs = k.0.ballots.running on in record { own = runs.own; seen = runs.seen; unpassed = runs.unpassed; hint = runs.hint });
-            stopped = λ off. (let s = k.0.ballots.stopped off in record { backlog = s.backlog; flights = ap (without_flight (next start)) s.flights; ready = ap (λ (es : List (ℕ × Command)). without_slot es (next start)) s.ready; leader = s.leader; hint = s.hint; member = s.member });
-          };
-          said = k.0.said;
-        }, k.1)
+    clears (r, mails) k = (
+      record {
+        me_is = k.0.me_is;
+        fixed = record {
+          group = k.0.fixed.group;
+          sets = k.0.fixed.sets;
+          acts = k.0.fixed.acts;
+          waits = k.0.fixed.waits;
+          backlog = k.0.fixed.backlog;
+          flights = flight_without Fixed (next start) r.leader.flights k.0.fixed.flights;
+          ready = slot_without Fixed r.ready (next start) k.0.fixed.ready;
+          reports = k.0.fixed.reports;
+          accepted = k.0.fixed.accepted;
+          entries = k.0.fixed.entries;
+        };
+        ballots = record {
+          promised = k.0.ballots.promised;
+          asker = k.0.ballots.asker;
+          running = λ on. (let runs = k.0.ballots.running on in record { own = runs.own; seen = runs.seen; unpassed = runs.unpassed; hint = runs.hint });
+          stopped = λ off. (let s = k.0.ballots.stopped off in record { backlog = s.backlog; flights = ap (without_flight (next start)) s.flights; ready = ap (λ (es : List (ℕ × Command)). without_slot es (next start)) s.ready; leader = s.leader; hint = s.hint; member = s.member });
+        };
+        said = k.0.said;
+      },
+      k.1,
+    )
 
     none_flies : (r : ReplicaState) (slot : ℕ) (other : Command) → r.leader.flights ≡ [] → flying r slot ≡ Some other → ⊥
     none_flies r slot other e is = (let none : flying r slot ≡ None = ap (λ (flights : List (Flight Command)). option_map (λ (flight : Flight Command). flight.value) (flight_at slot flights)) e in cc)

@@ -61,15 +61,19 @@ module _ (words : ℕ → ℕ → ℕ × ℕ) (scenario : Scenario) (bounded : I
 
   born_one : (base : Base) → Among base bases → (me : ℕ) → IsMember base me → IsOne bases fresh me (born_replica slots_ahead me base)
   born_one base a me m =
-      let f = fresh.each base a me m in
-      (base, a, m, refl,
+      let f = fresh.each base a me m in (
+        base,
+        a,
+        m,
+        refl,
         record { group = refl; sets = refl; acts = refl; waits = refl; backlog = tt; flights = tt; ready = tt; reports = tt; accepted = tt; entries = tt },
         record {
           promised = at_least_itself (first_ballot base.core);
           asker = f.first;
           running = λ on. (let mine : base.core.first ≡ me = eqb-true base.core.first me on in record { own = mine; seen = at_least_itself (first_ballot base.core); unpassed = at_least_itself (first_ballot base.core); hint = ap (λ (node : ℕ). Some node) mine });
           stopped = λ _. record { backlog = refl; flights = refl; ready = refl; leader = base.core.first; hint = refl; member = f.first };
-        })
+        },
+      )
 
   born_all : (me : ℕ) (some : List Base) → Each (λ (base : Base). Among base bases) some → Each (IsOne bases fresh me) (born_replicas slots_ahead me some)
   born_all me [] k = tt

@@ -80,6 +80,11 @@ pub record FixedWalk (base : Base) (me : ℕ) : Type 1 where
   pub requested_again : (from : ℕ) (group : Draw) (client seq other : ℕ) (op : Op) (r : ReplicaState) (mails : List Mail) → Hears from (Request group client seq op) → refused_at r.group.core.gone op r ≡ None → queued_number r.backlog client ≡ Some other → nat_le seq other ≡ false → P (r, mails)
       → P (record r { backlog = without_request r.backlog client ++ Call client seq op ∷ [] }, mails)
 
+-- That what is said again at a tick keeps the invariant.
+pub record FixedAskParts (base : Base) (me : ℕ) (P : Place → Type 0) : Type 0 where
+  pub reasks : (to slot : ℕ) (command : Command) (r : ReplicaState) (mails : List Mail) → IsMember base to → r.running ≡ true → flying r slot ≡ Some command → P (r, mails) → P (r, sent r.me to (Accept (name_of r) r.leader.ballot slot command) mails)
+  pub relearns : (to : ℕ) (command : Command) (r : ReplicaState) (mails : List Mail) → IsMember base to → settled r ≡ true → entry_at (next r - 1) r.log ≡ Some command → P (r, mails) → P (r, sent r.me to (Learn (name_of r) (next r - 1) command) mails)
+
 -- That ticks keep the invariant: elections, and what is said again.
 pub record FixedTickParts (base : Base) (me : ℕ) (P : Place → Type 0) : Type 0 where
   pub elected : (r : ReplicaState) (mails : List Mail) → settled r ≡ false → P (r, mails) → P (elected_place (r, mails))

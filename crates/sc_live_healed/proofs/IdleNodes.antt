@@ -74,7 +74,7 @@ module _ (words : ℕ → ℕ → ℕ × ℕ) (scenario : Scenario) (bounded : I
     rounds = rounds;
   }
 
-  -- a first part of a lawful journal without orders
+  -- a prefix of a lawful journal without orders
   taken_prefix : (rows later : Rows) → AreUntold words scenario bounded off (rows ++ later) → Lawful as_nodes words scenario (rows ++ later) → IsTakenJournal scenario rows × IsNearJournal scenario (1 + 4 * length rows) rows
   taken_prefix rows later untold lawful =
       let first = lawful-prefix (system_of as_nodes words scenario) (schedule scenario) rows later lawful in

@@ -50,7 +50,7 @@ at_least_round a b e = elim (not_below_parts a b e) [ inl lt ↦ omega (arith, l
 below_round : (a b : Ballot) → below a b ≡ true → a.round ≤ b.round
 below_round a b e = elim (below_parts a b e) [ inl lt ↦ omega (arith, lt) | inr p ↦ omega (arith, p.0) ]
 
-within_more : (low high : ℕ) (body : MailBody) → low ≤ high → AsksWithin low body → AsksWithin high body
+pub within_more : (low high : ℕ) (body : MailBody) → low ≤ high → AsksWithin low body → AsksWithin high body
 within_more low high (Prepare group ballot from_slot) up a = omega (arith, up, a)
 within_more low high (Accept group ballot slot command) up a = omega (arith, up, a)
 within_more low high _ up a = tt

@@ -1,28 +1,26 @@
 -- No replica of a group that is not reshaped knows a request of a client with a greater number than those that were heard: neither in its queue nor in flight, ready, reported, accepted, executed or noted.
-use Rattle.std.proofs.Common.{◌≡◌, ℕ, ◌+◌, ◌-◌, ◌<◌, ◌≤◌, ◌&&◌, not, nat_le, nat_lt, eqb, ltb, Bool, true, false, true≢false, cond, List, [], ◌∷◌, ◌++◌, length, Option, Some, None, refl, sym, ◌∙◌, ap, subst, arith, inl, inr}
+use Rattle.std.proofs.Common.{◌≡◌, ℕ, ◌-◌, ◌≤◌, nat_le, nat_lt, eqb, Bool, true, false, List, [], ◌∷◌, ◌++◌, Option, Some, None, sym, ◌∙◌, ap, subst, arith, inl, inr}
 use Rattle.std.specs.Prelude.{slice_get}
 use Rattle.std.specs.Cmp.{nat_cmp_total, unsigned_tied}
-use Rattle.std.specs.FinMap.{get, insert, get-insert}
+use Rattle.std.specs.FinMap.{get, get-insert}
 use Rattle.std.proofs.lemmas.Bool.{cond_both, eqb-true}
 use Rattle.sc_base.specs.Definitions.{Each, client_actor}
-use Rattle.sc_node_table.specs.Values.{Ballot, Draw, Noted, Op, Command, Noop, Call, Base, Lock, Free, Coordinating, Promised, Watching, Route, Effect, AnswerBody, NotLeader, Mail, MailBody, Request, Answer, Prepare, Promise, Accept, Accepted, Nack, Learn, Ask, Install, TxPrepare, TxVote, TxOutcome, TxElsewhere, TxWatch, TxWatched, Told, Flight, Report}
+use Rattle.sc_node_table.specs.Values.{Ballot, Noted, Op, Command, Noop, Call, Base, Lock, Free, Coordinating, Promised, Watching, Route, Effect, AnswerBody, NotLeader, Mail, MailBody, Request, Answer, Promise, Accept, Accepted, Learn, Install, Flight, Report}
 use Rattle.sc_words.specs.ideal.Definitions.{holds_key, key_of, reply_of}
-use Rattle.sc_words.proofs.PaxosProofs.Lemmas.{Each-append, Each-filter, Each-weaker}
+use Rattle.sc_words.proofs.PaxosProofs.Lemmas.{Each-append, Each-filter}
 use Rattle.sc_group_table.specs.machine.Definitions.{Group, group_of, base_of, done, served_by_note, served, called, applied}
-use Rattle.sc_words.specs.paxos.Definitions.{LeaderState, LogState, AcceptorState, entry_at, promise_counted, counted, reports_from, after_promise, after_accept, must, below, with_flight_at, without_flight}
-use Rattle.sc_node_table.specs.Definitions.{ReplicaState, Place, next, name_of, flying, sent, sent_all, stopped, ended, offered, answer_to, answered, entered, forgotten, floor_of, jumped, named, hinted, put_back, without_request, with_slot, without_slot, at_slot, under_way, answered_all, dismissed_all, with_entry}
+use Rattle.sc_words.specs.paxos.Definitions.{LeaderState, LogState, AcceptorState, entry_at, promise_counted, counted, reports_from, after_promise, after_accept, below, with_flight_at}
+use Rattle.sc_node_table.specs.Definitions.{ReplicaState, Place, next, name_of, flying, sent, sent_all, stopped, ended, offered, answered, entered, forgotten, floor_of, jumped, hinted, put_back, without_request, with_slot, at_slot, under_way, with_entry}
 use Rattle.sc_law_entries.specs.names.Definitions.{Opt}
 use Rattle.sc_law_entries.proofs.NamesProofs.EachFound.{Each-drop, opt_get, opt_slot, slot_with, slot_without, flight_without, report_with}
 use Rattle.sc_group_table.proofs.MachineProofs.Parts.{group_again}
 use Rattle.sc_law_refusal.proofs.HeldCommands as held
 use Rattle.sc_law_walks.proofs.Talks.{all_sent, one_answered, all_answered, all_dismissed}
-use Rattle.sc_law_walks.proofs.Places.{cleared}
 use Rattle.sc_law_walks.proofs.Lemmas.{Talk, either_way, back_any, entered_place, entry_is}
 use Rattle.sc_live_healed.specs.Definitions.{IsFixedCommand}
-use Rattle.sc_live_healed.proofs.FixedWalks.{FixedWalk, IsFixedPlace, IsFresh, IsMember}
 use Rattle.sc_live_healed.proofs.FixedEntries.{FixedEntry, entry_keeps}
 use Rattle.sc_live_healed.proofs.FixedParts.{opt_some, ready_fixed, applied_core}
-use Rattle.sc_live_healed.proofs.FixedBesides.{FixedFacts, FixedStates, both_walk}
+use Rattle.sc_live_healed.proofs.FixedBesides.{FixedFacts, FixedStates}
 use Rattle.sc_live_healed.proofs.EnteredPlaces.{entered_group}
 use Rattle.sc_live_healed.proofs.TakenRequests.{IsAtMost}
 
@@ -171,13 +169,16 @@ module _ (client bound : ℕ) where
       returned = λ r mails t q. (back_any (λ x. x.group.core ≡ base.core) (λ x acts backlog p. p) command r q.0, back_few command r mails c q.1);
       teaches = λ to r mails t m q. (q.0, said_few r mails to (Learn (name_of r) (next start) command) c q.1);
       flies = λ other r mails e q. opt_some C (flying r (next start)) other e (held.flying_held C r (next start) q.1.held);
-      landed = λ place q. (q.0, record {
-        held = (q.1.held.0, q.1.held.1, flight_without C (next start) place.0.leader.flights q.1.held.2, q.1.held.3, slot_without C place.0.ready (next start) q.1.held.4);
-        accepted = q.1.accepted;
-        entries = q.1.entries;
-        noted = q.1.noted;
-        said = q.1.said;
-      });
+      landed = λ place q. (
+        q.0,
+        record {
+          held = (q.1.held.0, q.1.held.1, flight_without C (next start) place.0.leader.flights q.1.held.2, q.1.held.3, slot_without C place.0.ready (next start) q.1.held.4);
+          accepted = q.1.accepted;
+          entries = q.1.entries;
+          noted = q.1.noted;
+          said = q.1.said;
+        },
+      );
       back = λ other r mails l q. (back_any (λ x. x.group.core ≡ base.core) (λ x acts backlog p. p) other r q.0, back_few other r mails l q.1);
     }
 

@@ -49,9 +49,10 @@ module _ (words : ℕ → ℕ → ℕ × ℕ) (scenario : Scenario) (bounded : I
           let found = find_found (λ (x : ReplicaState). same_draw (name_of x) base.core.id) node.replicas r q in
           let one : IsOne scenario.groups fresh node.me r = Each-among (IsOne scenario.groups fresh node.me) node.replicas r k.2.replicas found.0 in
           let same : one.0 ≡ base = fresh.apart one.0 base one.1 among (sym (name_one scenario.groups fresh node.me r one) ∙ draw_is (name_of r) base.core.id found.1) in
-          let me : node.me ≡ who = k.0 ∙ is in
-          (subst (λ (n : ℕ). IsFixedPlace base n (r, [])) me (subst (λ (b : Base). IsFixedPlace b node.me (r, [])) same (into scenario.groups fresh node.me r one)),
-          subst (IsMember base) me (subst (λ (b : Base). IsMember b node.me) same one.2))
+          let me : node.me ≡ who = k.0 ∙ is in (
+            subst (λ (n : ℕ). IsFixedPlace base n (r, [])) me (subst (λ (b : Base). IsFixedPlace b node.me (r, [])) same (into scenario.groups fresh node.me r one)),
+            subst (IsMember base) me (subst (λ (b : Base). IsMember b node.me) same one.2),
+          )
 
       by : (o : Option (Seat Player)) → find (λ (other : Seat Player). eqb other.who who) (births as_nodes scenario) ≡ o → seat_view words scenario bounded base among rows o ≡ Some r → IsFixedPlace base who (r, []) × IsMember base who
       by None f q = absurd (cc)

@@ -1,18 +1,17 @@
 -- Where a request stands at a leader: queued, in flight or ready; and what parts of a row do with it. No slot has two commands in flight or ready, and each that has one is open.
-use Rattle.std.proofs.Common.{◌≡◌, ℕ, zero, suc, ◌+◌, ◌-◌, ◌<◌, ◌≤◌, ◌&&◌, eqb, ltb, nat_le, Bool, true, false, true≢false, cond, List, [], ◌∷◌, ◌++◌, length, count_by, Option, Some, None, ◌⊎◌, inl, inr, refl, sym, ◌∙◌, ap, subst, arith}
+use Rattle.std.proofs.Common.{◌≡◌, ℕ, zero, suc, ◌+◌, ◌<◌, ◌≤◌, ◌&&◌, eqb, ltb, Bool, true, false, true≢false, List, [], ◌∷◌, ◌++◌, length, Option, Some, None, ◌⊎◌, inl, inr, refl, sym, ◌∙◌, ap, subst, arith}
 use Rattle.std.specs.Option.{option_map}
-use Rattle.std.proofs.lemmas.Bool.{cond_both, cond-true, cond-false, cases_eq, ltb-true, ltb-false, eqb-true, eqb-false, eq-eqb, ne_eqb, and_parts, and_from, both_ways}
+use Rattle.std.proofs.lemmas.Bool.{cond_both, cond-true, cond-false, cases_eq, ltb-true, ltb-false, eqb-true, eq-eqb, and_parts, and_from}
 use Rattle.sc_base.specs.Definitions.{Among, Each, client_actor}
-use Rattle.sc_node_table.specs.Values.{Draw, Op, Command, Noop, Call, Join, Leave, Split, Begin, Prepared, RecordVote, GiveUp, Finish, Watched, RecordWatch, AnswerBody, Mail, MailBody, Answer, Flight}
-use Rattle.sc_words.specs.paxos.Definitions.{LeaderState, flight_at, without_flight, without_flight_at, with_flight_at, with_voters}
+use Rattle.sc_node_table.specs.Values.{Draw, Op, Command, Noop, Call, Join, Leave, Split, Begin, Prepared, RecordVote, GiveUp, Finish, Watched, RecordWatch, AnswerBody, Mail, Answer, Flight}
+use Rattle.sc_words.specs.paxos.Definitions.{flight_at}
 use Rattle.sc_words.proofs.PaxosProofs.Lemmas.{Each-among}
-use Rattle.sc_node_table.specs.Definitions.{ReplicaState, next, taken_at, taken_from, open_slots, under_way, numbers_from, at_slot, with_slot, without_slot, either, listed, answered, answered_all, dismissed, dismissed_all, queued_number, without_request, is_request_of, put_back, request_before, slots_ahead}
+use Rattle.sc_node_table.specs.Definitions.{ReplicaState, next, taken_at, taken_from, open_slots, under_way, numbers_from, at_slot, either, listed, answered, answered_all, dismissed, dismissed_all, queued_number, without_request, is_request_of, put_back, request_before}
 use Rattle.sc_law_walks.proofs.Lemmas.{grows}
 use Rattle.sc_law_walks.proofs.Talks.{all_answered, all_dismissed}
 use Rattle.sc_live_plain.specs.Definitions.{takers}
-use Rattle.sc_live_plain.proofs.RowsProofs.SlotCounts.{count-cons, count-push, one_if, one_yes, one_no, entries_at, at_none, at_found, at_only, out_here, out_other, out_none, out_among, with_count, with_it, with_among, find_none}
+use Rattle.sc_live_plain.proofs.RowsProofs.SlotCounts.{count-cons, one_yes, one_no, entries_at, find_none}
 use Rattle.sc_live_plain.proofs.LeadersProofs.LeadingReplicas.{flights_at}
-use Rattle.sc_live_plain.proofs.LeadersProofs.Flights.{only_flight, voted_count, voted_value}
 use Rattle.sc_live_plain.proofs.RowsProofs.RepeatedMail.{mail_of, among_push, last_among}
 
 -- ---- whose request a command is
@@ -219,10 +218,10 @@ module _ (client seq : ℕ) where
   before_kept who number op (Some other) backlog command e low a ours =
       cond_both (ltb other number) (Call who number op ∷ without_request backlog who) backlog (Among command)
       (λ t. inr (without_ours who backlog command a ours (λ own q. (
-        let up = ltb-true other number t in
-        let least = low (sym own) in
-        let same : other ≡ seq = one_number (sym e ∙ q) in
-        absurd (omega (arith, up, least, same))))))
+      let up = ltb-true other number t in
+      let least = low (sym own) in
+      let same : other ≡ seq = one_number (sym e ∙ q) in
+      absurd (omega (arith, up, least, same))))))
       (λ _. a)
     where
       one_number : {a b : ℕ} → Some a ≡ Some b → a ≡ b
@@ -235,11 +234,11 @@ module _ (client seq : ℕ) where
       cond_both (ltb other seq) (Call client seq op ∷ without_request backlog client) backlog (λ (cs : List Command). (command : Command) × Among command cs × IsOurs command)
       (λ _. (Call client seq op, inl refl, ours_is op))
       (λ f. (
-        let there = queued_there client backlog other e in
-        let most : other ≤ seq = Each-among (IsAtMost client seq) backlog (Call client other there.0) few there.1 refl in
-        let least = ltb-false other seq f in
-        let same : other ≡ seq = omega (arith, most, least) in
-        (Call client seq there.0, subst (λ n. Among (Call client n there.0) backlog) same there.1, ours_is there.0)))
+      let there = queued_there client backlog other e in
+      let most : other ≤ seq = Each-among (IsAtMost client seq) backlog (Call client other there.0) few there.1 refl in
+      let least = ltb-false other seq f in
+      let same : other ≡ seq = omega (arith, most, least) in
+      (Call client seq there.0, subst (λ n. Among (Call client n there.0) backlog) same there.1, ours_is there.0)))
 
   -- another command goes back
   pub back_held : (command : Command) (r : ReplicaState) → IsAtMost client seq command → IsHeld r → IsHeld (put_back command r)
