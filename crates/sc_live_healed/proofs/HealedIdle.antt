@@ -2,7 +2,7 @@
 use Rattle.std.proofs.Common.{◌≡◌, ℕ, ◌+◌, ◌*◌, ◌-◌, ◌^◌, ◌≤◌, false, true, List, [], ◌∷◌, ◌++◌, length, length-append, map, Option, Some, ◌⊎◌, inl, inr, refl, sym, ◌∙◌, ap, subst, arith, append-nil}
 use Rattle.std.specs.List.{flat_map}
 use Rattle.std.proofs.lemmas.Bool.{cond_both, cond-true}
-use Rattle.sc_base.specs.Definitions.{Among, same_draw}
+use Rattle.sc_base.specs.Definitions.{Among, Each, same_draw}
 use Rattle.sc_base.proofs.Lemmas.{draw_is, same_name}
 use Rattle.sc_words.proofs.PaxosProofs.Lemmas.{Each-among, Each-from}
 use Rattle.sc_node_table.specs.Values.{Draw, Seat, Base, OrderLine, Mail, Node}
@@ -50,13 +50,13 @@ abbrev pub TicksOf : ℕ → List Turn → Type 0
 TicksOf who [] = ⊥
 TicksOf who (turn ∷ turns) = ((turn.kick ≡ Ticks) × (turn.who ≡ who)) ⊎ TicksOf who turns
 
-sweep_ticks : (who : ℕ) (turn : NodeTurn) (sweep : List NodeTurn) (more : List Turn) → Among turn sweep → turn.node ≡ who → TicksOf who (map node_turn sweep ++ more)
+pub sweep_ticks : (who : ℕ) (turn : NodeTurn) (sweep : List NodeTurn) (more : List Turn) → Among turn sweep → turn.node ≡ who → TicksOf who (map node_turn sweep ++ more)
 sweep_ticks who turn [] more a same = absurd a
 sweep_ticks who turn (x ∷ sweep) more (inl e) same = inl (refl, ap (λ (t : NodeTurn). t.node) e ∙ same)
 sweep_ticks who turn (x ∷ sweep) more (inr a) same = inr (sweep_ticks who turn sweep more a same)
 
 -- turns end where no mail is pending
-ends_quiet : {A M O : Type 0} (s : System A M O) (rows : List _) (turns : List Turn) (after : List _) → HasTurns s rows turns after → is_quiet s after ≡ true
+pub ends_quiet : {A M O : Type 0} (s : System A M O) (rows : List _) (turns : List Turn) (after : List _) → HasTurns s rows turns after → is_quiet s after ≡ true
 ends_quiet s rows [] after t = subst (λ rs. is_quiet s rs ≡ true) t.1 t.0
 ends_quiet s rows (turn ∷ turns) after t = ends_quiet s t.0 turns after t.2
 
@@ -109,8 +109,8 @@ module _ (words : ℕ → ℕ → ℕ × ℕ) (scenario : Scenario) (bounded : I
       k = subst (IsFixedPlayer scenario.groups seat.who) is ((journal_fixed words scenario bounded off rows untold lawful).players seat is_of)
 
       -- a replica of the node that runs is settled and idle
-      replica_idle : (r : ReplicaState) → Among r node.replicas → r.running ≡ true → IsIdleLeader r
-      replica_idle r a on =
+      replica_both : (r : ReplicaState) → Among r node.replicas → r.running ≡ true → IsIdleLeader r × IsIdle r
+      replica_both r a on =
           let one : IsOne scenario.groups fresh node.me r = Each-among (IsOne scenario.groups fresh node.me) node.replicas r k.2.replicas a in
           let base : Base = one.0 in
           let once : OneNamed name_of base.core.id node.replicas = subst (λ (p : Player). HasOne words scenario bounded off base one.1 p) is ((ballots_fresh words scenario bounded off base one.1 rows untold lawful).once seat is_of) in
@@ -121,7 +121,14 @@ module _ (words : ℕ → ℕ → ℕ × ℕ) (scenario : Scenario) (bounded : I
           r (seen_at words scenario bounded off base one.1 rows seat is_of ∙ (ap (λ (p : Player). player_view words scenario bounded base one.1 p) is ∙ found)) in
           let idle : IsIdle r =
           living_replicas_idle words scenario bounded off (lives scenario) are_nodes seat is_of living before turns rows t lawful untold gets few_slots rounds (ticks_voted turns (ticked seat.who living)) node is base one.1 most r found settles on in
-          record { leads = settles on; flights = idle.flights; ready = idle.ready; acts = idle.acts; backlog = idle.backlog }
+          (record { leads = settles on; flights = idle.flights; ready = idle.ready; acts = idle.acts; backlog = idle.backlog }, idle)
+
+      replica_idle : (r : ReplicaState) → Among r node.replicas → r.running ≡ true → IsIdleLeader r
+      replica_idle r a on = (replica_both r a on).0
+
+      -- each replica of the node that runs is idle, and has executed each slot that was reported to it
+      pub replicas_rest : Each (λ (r : ReplicaState). r.running ≡ true → IsIdle r) node.replicas
+      replicas_rest = Each-from (λ (r : ReplicaState). r.running ≡ true → IsIdle r) node.replicas (λ r a on. (replica_both r a on).1)
 
     pub store_idle : IsIdleStore scenario rows
     store_idle seat node a is l =

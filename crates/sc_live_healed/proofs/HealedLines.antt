@@ -38,7 +38,7 @@ client_line_is : (kick : Kick) (client : ℕ) → line_of (client_line kick clie
 client_line_is Ticks client = refl
 client_line_is Starts client = refl
 
-clients_are : (asks : List ClientTurn) → map line_of (flat_map client_lines asks) ≡ flat_map turn_lines (map client_turn asks)
+pub clients_are : (asks : List ClientTurn) → map line_of (flat_map client_lines asks) ≡ flat_map turn_lines (map client_turn asks)
 clients_are [] = refl
 clients_are (turn ∷ asks) =
     ap (λ l. l ∷ SettleLine turn.most ∷ map line_of (flat_map client_lines asks)) (client_line_is turn.kick turn.client)

@@ -77,3 +77,6 @@ pub mod LoneTurnClients
 pub mod LoneTurnRows
 pub mod LoneTurnStarts
 pub mod AnsweredTurns
+pub mod RemainingTurns
+pub mod CrashedNodes
+pub mod AnsweredStores

@@ -60,6 +60,9 @@ module _ {A M O : Type 0} (s : System A M O) (first others : List (Line O)) (jou
     pub lawful_first : IsLawful s first rows
     pub whole_first : IsWhole s first rows
     pub uncut : unsettled s first rows ≡ false
+    pub k : ℕ
+    pub c : Bool
+    pub stands : Stands s (first ++ others) rows (flat_map (tasks_of s.words) others) k c
 
   part_of : Passed → unsettled s (first ++ others) journal ≡ false → WholePrefix
   part_of at quiet =
@@ -68,7 +71,7 @@ module _ {A M O : Type 0} (s : System A M O) (first others : List (Line O)) (jou
       let here : unsettled s all at.rows ≡ _ = ap (λ place. place.unsettled) at.long.place in
       let none = onward_cut s at.rows back at.k at.c (sym here ∙ now) in
       let end = Stands-whole s first at.rows at.k at.c at.short in
-      record { rows = at.rows; more = at.more; journal_is = at.journal_is; lawful_first = at.short.lawful; whole_first = end.0; uncut = end.2 ∙ none }
+      record { rows = at.rows; more = at.more; journal_is = at.journal_is; lawful_first = at.short.lawful; whole_first = end.0; uncut = end.2 ∙ none; k = at.k; c = at.c; stands = at.long }
 
   pub whole_prefix : unsettled s (first ++ others) journal ≡ false → WholePrefix
   whole_prefix quiet =

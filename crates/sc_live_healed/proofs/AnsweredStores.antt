@@ -1,0 +1,114 @@
+-- A store that healed answers: each client that a turn kicks has all its replies behind the turn, or the node that it asked last has crashed; and where no line crashes a node, all its replies.
+use Rattle.std.proofs.Common.{◌≡◌, ℕ, ◌+◌, ◌*◌, ◌-◌, ◌^◌, ◌≤◌, ◌&&◌, ◌||◌, not, nat_le, eqb, false, true, true≢false, Bool, List, [], ◌∷◌, ◌++◌, length, length-append, map, Option, Some, ◌⊎◌, inl, inr, refl, sym, ◌∙◌, ap, subst, arith, append-nil, append_assoc}
+use Rattle.std.specs.List.{flat_map, list_any}
+use Rattle.std.proofs.lemmas.Bool.{cases_Bool, ne_eqb, and_from, le-leb}
+use Rattle.std.proofs.lemmas.List.Folds.{list_any-append}
+use Rattle.sc_base.specs.Definitions.{Among, Each, client_actor}
+use Rattle.sc_words.proofs.PaxosProofs.Lemmas.{Each-among, Each-from_All}
+use Rattle.sc_node_table.specs.Values.{Seat, Base, OrderLine, Mail, Node}
+use Rattle.sc_actor.specs.declared.schedules.Line.{Line}
+use Rattle.sc_actor.specs.declared.schedules.Line.TheVariants.{Settle as SettleLine, Crash as CrashLine}
+use Rattle.sc_actor.specs.Definitions.{value, is_quiet, has_crashed, has_started, unsettled, tasks_of, System, IsLawful, IsWhole}
+use Rattle.sc_actor.proofs.Lemmas.{lawful-prefix, Stands}
+use Rattle.sc_node_table.specs.Definitions.{NodeState, ReplicaState, is_node}
+use Rattle.sc_scenario.specs.declared.scenario.scenarios.Scenario.{Scenario}
+use Rattle.sc_scenario.specs.declared.scenario.scenarios.Asks.{Asks as Requests}
+use Rattle.sc_scenario.specs.declared.scenario.scenarios.SchedLine.{SchedLine}
+use Rattle.sc_scenario.specs.declared.scenario.scenarios.SchedLine.TheVariants.{Go, Deliver, Drop, Again, Tick, Crash, Told, Settle, Free, Storm}
+use Rattle.sc_scenario.specs.scenario.Definitions.{IsValid, IsBounded, IsBoundedLine, IsBoundedClient}
+use Rattle.sc_scenario.proofs.ScenarioProofs.Lemmas.{valid_scenarios_are_bounded}
+use Rattle.sc_meaning.specs.sound.Definitions.{Lawful, Whole, Player, as_nodes, births, line_of, player_table, schedule, system_of}
+use Rattle.sc_live_orderly.specs.Definitions.{Ticks, Turn, turn_lines, HasTurns, IsTurn}
+use Rattle.sc_live_orderly.proofs.PassedTasks.{flat_append}
+use Rattle.sc_live_orderly.proofs.TakenTurns.{turns_taken}
+use Rattle.sc_live_healed.proofs.FixedJournals.{Rows, IsOf, IsFixedPlayer, AreUntold, journal_fixed}
+use Rattle.sc_live_healed.proofs.HealedIdle.{TicksOf, sweep_ticks, ends_quiet, replicas_rest}
+use Rattle.sc_live_healed.proofs.HealedLines.{node_turn, client_turn, clients_are, turns_of, lines_to, lines_are_turns, lines_go_on, healed_untold}
+use Rattle.sc_live_healed.proofs.LivingSeats.{node_is_found, node_found}
+use Rattle.sc_live_healed.proofs.ShorterSchedules.{WholePrefix, whole_prefix}
+use Rattle.sc_live_healed.proofs.UntoldRows.{Spares, rows_untold, rows_spare}
+use Rattle.sc_live_healed.proofs.RemainingTurns.{turn_tasks, turns_from}
+use Rattle.sc_live_healed.proofs.CrashedNodes.{HasCrash, has_crash, line_crashes, asks_spare}
+use Rattle.sc_live_healed.proofs.LoneTurnStarts.{AreIdle}
+use Rattle.sc_live_healed.proofs.AnsweredTurns.{seat, is_of, turn_answers}
+use Rattle.sc_live_healed.specs.Definitions.{crashes, lives, HasLivingMajorities, NodeTurn, ClientTurn, node_lines, client_lines, IsHealed, IsIdle, IsIdleStore, IsAtEnd, IsKicked, HasReplies, AskedACrashedNode, AnswersTurns, AnswersAll, HealedStoresAnswer}
+
+module _ (words : ℕ → ℕ → ℕ × ℕ) (scenario : Scenario) (journal : Rows) (healed : IsHealed scenario) (valid : IsValid scenario) (majorities : HasLivingMajorities scenario) (lawful : Lawful as_nodes words scenario journal) (few : length journal ≤ 2 ^ 28) where
+  abbrev system : System Player Mail OrderLine
+  system = system_of as_nodes words scenario
+
+  bounded : IsBounded scenario
+  bounded = valid_scenarios_are_bounded scenario valid
+
+  abbrev lines_of : List ClientTurn → List (Line OrderLine)
+  lines_of done = map line_of (lines_to healed.before healed.most healed.sweep done)
+
+  -- ---- who has crashed
+
+  -- no line crashes a client
+  client_spared : (asks : Requests) → Among asks scenario.clients → Each (Spares {O = OrderLine} (client_actor asks.client)) (schedule scenario)
+  client_spared asks a = by scenario.lines (Each-from_All (IsBoundedLine scenario.nodes scenario.clients) scenario.lines bounded.lines)
+    where
+      least : 1 ≤ asks.client
+      least = (Each-among IsBoundedClient scenario.clients asks (Each-from_All IsBoundedClient scenario.clients bounded.clients) a).0.0
+
+      one : (line : SchedLine) → IsBoundedLine scenario.nodes scenario.clients line → Spares {O = OrderLine} (client_actor asks.client) (line_of line)
+      one (Crash node) b = (let high = b.1 in let most = bounded.nodes.1 in let up = least in ne_eqb node (client_actor asks.client) (λ e. absurd (omega (arith, high, most, up, e))))
+      one (Go client) b = tt
+      one (Deliver who k) b = tt
+      one (Drop who k) b = tt
+      one (Again mail) b = tt
+      one (Tick who) b = tt
+      one (Told node order) b = tt
+      one (Settle most) b = tt
+      one (Free most workers) b = tt
+      one (Storm number most) b = tt
+
+      by : (lines : List SchedLine) → Each (IsBoundedLine scenario.nodes scenario.clients) lines → Each (Spares {O = OrderLine} (client_actor asks.client)) (map line_of lines)
+      by [] b = tt
+      by (line ∷ lines) b = (one line b.0, by lines b.1)
+
+  -- ---- the ends of lines
+
+  module _ (done rest : List ClientTurn) (asks_are : healed.asks ≡ done ++ rest) (rows more : Rows) (journal_is : journal ≡ rows ++ more) (rows_lawful : IsLawful system (lines_of done) rows) (rows_whole : IsWhole system (lines_of done) rows) (rows_uncut : unsettled system (lines_of done) rows ≡ false) where
+    lawful_rows : Lawful as_nodes words scenario rows
+    lawful_rows = lawful-prefix system (schedule scenario) rows more (subst (Lawful as_nodes words scenario) journal_is lawful)
+
+    untold_rows : AreUntold words scenario bounded healed.no_policy rows
+    untold_rows = rows_untold system (schedule scenario) rows (healed_untold scenario healed) lawful_rows
+
+    few_rows : length rows ≤ 2 ^ 28
+    few_rows = (let parts = ap length journal_is ∙ length-append rows more in omega (arith, parts, few))
+
+    taken : (before : Rows) × HasTurns system before (turns_of healed.sweep done) rows
+    taken =
+        let turned = lines_are_turns healed.before healed.most healed.sweep done in
+        turns_taken system (map line_of healed.before) healed.most (turns_of healed.sweep done) rows (subst (λ ls. IsLawful system ls rows) turned rows_lawful) (subst (λ ls. IsWhole system ls rows) turned rows_whole)
+        (subst (λ ls. unsettled system ls rows ≡ false) turned rows_uncut)
+
+    quiet_rows : is_quiet system rows ≡ true
+    quiet_rows = ends_quiet system taken.0 (turns_of healed.sweep done) rows taken.1
+
+    -- whoever has not crashed lives
+    lives_so : (node : ℕ) → 1 ≤ node → node ≤ scenario.nodes → has_crashed rows node ≡ false → lives scenario node ≡ true
+    lives_so node low high alive = elim (cases_Bool (list_any (crashes node) scenario.lines)) [
+      | inr none ↦ and_from (nat_le 1 node && nat_le node scenario.nodes) (not (list_any (crashes node) scenario.lines)) (and_from (nat_le 1 node) (nat_le node scenario.nodes) (le-leb 1 node low) (le-leb node scenario.nodes high)) (ap not none)
+      | inl some ↦
+          let first : List SchedLine = lines_to healed.before healed.most healed.sweep done in
+          let parts : scenario.lines ≡ first ++ flat_map client_lines rest =
+          healed.lines_are ∙ ap (λ asks. lines_to healed.before healed.most healed.sweep asks) asks_are ∙ ap (λ ls. healed.before ++ (Settle healed.most ∷ flat_map node_lines healed.sweep) ++ ls) (flat_append client_lines done rest)
+          ∙ sym (append_assoc (healed.before ++ (Settle healed.most ∷ flat_map node_lines healed.sweep)) (flat_map client_lines done) (flat_map client_lines rest)) in
+          let any : list_any (crashes node) first || list_any (crashes node) (flat_map client_lines rest) ≡ true = sym (ap (λ ls. list_any (crashes node) ls) parts ∙ list_any-append (crashes node) first (flat_map client_lines rest)) ∙ some in
+          let here : list_any (crashes node) first ≡ true = alone (list_any (crashes node) first) (list_any (crashes node) (flat_map client_lines rest)) (asks_spare node rest) any in
+          let split = has_crash node first here in
+          let mapped : lines_of done ≡ map line_of split.pre ++ CrashLine node ∷ map line_of split.post = ap (λ ls. map line_of ls) split.lines_are ∙ map_parts split.pre (Crash node ∷ split.post) in
+          absurd (true≢false (sym (line_crashes system (map line_of split.pre) (map line_of split.post) node rows (subst (λ ls. IsLawful system ls rows) mapped rows_lawful) (subst (λ ls. IsWhole system ls rows) mapped rows_whole) _ (node_found scenario node low high)) ∙ alive))
+    ]
+      where
+        alone : (a b : Bool) → b ≡ false → (a || b) ≡ true → a ≡ true
+        alone true b f e = refl
+        alone false b f e = absurd (true≢false (sym e ∙ f))
+
+        map_parts : (xs ys : List SchedLine) → map line_of (xs ++ ys) ≡ map line_of xs ++ map line_of ys
+        map_parts [] ys = refl
+        map_parts (x ∷ xs) ys = ap (λ ls. line_of x ∷ ls) (map_parts xs ys)
