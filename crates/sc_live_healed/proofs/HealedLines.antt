@@ -117,7 +117,7 @@ line_spares who (Settle most) e = tt
 line_spares who (Free most workers) e = tt
 line_spares who (Storm number most) e = tt
 
-lines_spare : (who : ℕ) (lines : List SchedLine) → list_any (crashes who) lines ≡ false → Each (Spares who) (map line_of lines)
+pub lines_spare : (who : ℕ) (lines : List SchedLine) → list_any (crashes who) lines ≡ false → Each (Spares who) (map line_of lines)
 lines_spare who [] e = tt
 lines_spare who (line ∷ lines) e = (let p = or_none (crashes who line) (list_any (crashes who) lines) e in (line_spares who line p.0, lines_spare who lines p.1))
 

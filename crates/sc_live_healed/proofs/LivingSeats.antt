@@ -79,6 +79,20 @@ module _ (scenario : Scenario) where
         | inr c ↦ absurd (subst IsClientPlayer e (replays_client seat.who seat.actor [] rows (clients_are scenario.groups scenario.clients seat c)))
       ]
 
+  -- and has a node's number
+  pub node_numbered : (seat : Seat Player) → Among seat (births as_nodes scenario) → (rows : Rows) (node : NodeState) → value player_table seat rows ≡ Node node → (1 ≤ seat.who) × (seat.who ≤ scenario.nodes)
+  node_numbered seat a rows node e =
+      elim (Among-either seat (map (node_seat as_nodes scenario.groups scenario.policy) (numbers_from 1 scenario.nodes)) (client_seats scenario.groups scenario.clients) a) [
+        | inl n ↦ (
+            let m = from_map (node_seat as_nodes scenario.groups scenario.policy) (numbers_from 1 scenario.nodes) seat n in
+            let b = number_bounds 1 scenario.nodes m.0 m.1 in
+            let low = b.0 in
+            let high = b.1 in
+            let same = ap (λ (s : Seat Player). s.who) m.2 in
+            (omega (arith, low, same), omega (arith, high, same)))
+        | inr c ↦ absurd (subst IsClientPlayer e (replays_client seat.who seat.actor [] rows (clients_are scenario.groups scenario.clients seat c)))
+      ]
+
   -- who lives has a node's number
   pub living_bounds : (who : ℕ) → lives scenario who ≡ true → (1 ≤ who) × (who ≤ scenario.nodes)
   living_bounds who l =
