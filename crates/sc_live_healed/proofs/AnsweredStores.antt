@@ -1,5 +1,5 @@
 -- A store that healed answers: each client that a turn kicks has all its replies behind the turn, or the node that it asked last has crashed; and where no line crashes a node, all its replies.
-use Rattle.std.proofs.Common.{◌≡◌, ℕ, ◌+◌, ◌*◌, ◌-◌, ◌^◌, ◌≤◌, ◌&&◌, ◌||◌, not, nat_le, eqb, false, true, true≢false, Bool, List, [], ◌∷◌, ◌++◌, length, length-append, map, Option, Some, ◌⊎◌, inl, inr, refl, sym, ◌∙◌, ap, subst, arith, append-nil, append_assoc}
+use Rattle.std.proofs.Common.{◌≡◌, ℕ, ◌^◌, ◌≤◌, ◌&&◌, ◌||◌, not, nat_le, eqb, false, true, true≢false, Bool, List, [], ◌∷◌, ◌++◌, length, length-append, map, ◌⊎◌, inl, inr, refl, sym, ◌∙◌, ap, subst, arith, append_assoc}
 use Rattle.std.specs.List.{flat_map, list_any}
 use Rattle.std.proofs.lemmas.Bool.{cases_Bool, ne_eqb, and_from, le-leb}
 use Rattle.std.proofs.lemmas.List.Folds.{list_any-append}
@@ -7,10 +7,10 @@ use Rattle.sc_base.specs.Definitions.{Among, Each, client_actor}
 use Rattle.sc_words.proofs.PaxosProofs.Lemmas.{Each-among, Each-from_All, find_found}
 use Rattle.sc_node_table.specs.Values.{Seat, Base, OrderLine, Mail, Node}
 use Rattle.sc_actor.specs.declared.schedules.Line.{Line}
-use Rattle.sc_actor.specs.declared.schedules.Line.TheVariants.{Settle as SettleLine, Crash as CrashLine}
+use Rattle.sc_actor.specs.declared.schedules.Line.TheVariants.{Crash as CrashLine}
 use Rattle.sc_actor.specs.Definitions.{value, is_quiet, has_crashed, has_started, unsettled, tasks_of, System, IsLawful, IsWhole}
 use Rattle.sc_actor.proofs.Lemmas.{lawful-prefix, Stands}
-use Rattle.sc_node_table.specs.Definitions.{NodeState, ReplicaState, is_node}
+use Rattle.sc_node_table.specs.Definitions.{NodeState, ReplicaState}
 use Rattle.sc_scenario.specs.declared.scenario.scenarios.Scenario.{Scenario}
 use Rattle.sc_scenario.specs.declared.scenario.scenarios.Asks.{Asks as Requests}
 use Rattle.sc_scenario.specs.declared.scenario.scenarios.SchedLine.{SchedLine}
@@ -18,20 +18,19 @@ use Rattle.sc_scenario.specs.declared.scenario.scenarios.SchedLine.TheVariants.{
 use Rattle.sc_scenario.specs.scenario.Definitions.{IsValid, IsBounded, IsBoundedLine, IsBoundedClient}
 use Rattle.sc_scenario.proofs.ScenarioProofs.Lemmas.{valid_scenarios_are_bounded}
 use Rattle.sc_meaning.specs.sound.Definitions.{Lawful, Whole, Player, as_nodes, births, line_of, player_table, schedule, system_of}
-use Rattle.sc_live_orderly.specs.Definitions.{Ticks, Starts, Turn, turn_lines, HasTurns, IsTurn}
+use Rattle.sc_live_orderly.specs.Definitions.{Ticks, Starts, HasTurns, IsTurn}
 use Rattle.sc_live_orderly.proofs.PassedTasks.{flat_append}
 use Rattle.sc_live_orderly.proofs.TakenTurns.{turns_taken}
-use Rattle.sc_live_healed.proofs.FixedJournals.{Rows, IsOf, IsFixedPlayer, AreUntold, journal_fixed}
-use Rattle.sc_live_healed.proofs.HealedIdle.{TicksOf, sweep_ticks, ends_quiet, replicas_rest, healed_stores_stay_idle}
-use Rattle.sc_live_healed.proofs.HealedLines.{node_turn, client_turn, clients_are, lines_spare, turns_of, lines_to, lines_are_turns, lines_go_on, healed_untold}
+use Rattle.sc_live_healed.proofs.FixedJournals.{Rows, IsOf, AreUntold}
+use Rattle.sc_live_healed.proofs.HealedIdle.{sweep_ticks, ends_quiet, replicas_rest, healed_stores_stay_idle}
+use Rattle.sc_live_healed.proofs.HealedLines.{client_turn, clients_are, lines_spare, turns_of, lines_to, lines_are_turns, lines_go_on, healed_untold}
 use Rattle.sc_live_healed.proofs.LivingSeats.{node_found, node_numbered}
 use Rattle.sc_live_healed.proofs.ShorterSchedules.{WholePrefix, whole_prefix}
 use Rattle.sc_live_healed.proofs.UntoldRows.{Spares, rows_untold, rows_spare}
-use Rattle.sc_live_healed.proofs.RemainingTurns.{turn_tasks, turns_from}
-use Rattle.sc_live_healed.proofs.CrashedNodes.{HasCrash, has_crash, line_crashes, asks_spare}
-use Rattle.sc_live_healed.proofs.LoneTurnStarts.{AreIdle}
-use Rattle.sc_live_healed.proofs.AnsweredTurns.{seat, is_of, turn_answers}
-use Rattle.sc_live_healed.specs.Definitions.{crashes, lives, HasLivingMajorities, NodeTurn, ClientTurn, node_lines, client_lines, IsHealed, IsIdle, IsIdleStore, IsAtEnd, IsKicked, HasReplies, AskedACrashedNode, AnswersTurns, AnswersAll, HealedStoresAnswer}
+use Rattle.sc_live_healed.proofs.RemainingTurns.{turns_from}
+use Rattle.sc_live_healed.proofs.CrashedNodes.{has_crash, line_crashes, asks_spare}
+use Rattle.sc_live_healed.proofs.AnsweredTurns.{turn_answers}
+use Rattle.sc_live_healed.specs.Definitions.{crashes, lives, HasLivingMajorities, ClientTurn, node_lines, client_lines, IsHealed, IsIdle, IsAtEnd, IsKicked, HasReplies, AskedACrashedNode, HealedStoresAnswer}
 
 module _ (words : ℕ → ℕ → ℕ × ℕ) (scenario : Scenario) (journal : Rows) (healed : IsHealed scenario) (valid : IsValid scenario) (majorities : HasLivingMajorities scenario) (lawful : Lawful as_nodes words scenario journal) (few : length journal ≤ 2 ^ 28) where
   abbrev system : System Player Mail OrderLine

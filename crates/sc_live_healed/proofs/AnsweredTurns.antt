@@ -1,15 +1,15 @@
 -- At the end of a turn of a client that is kicked behind a sweep, the client has all replies, or the node that it asked last has crashed.
-use Rattle.std.proofs.Common.{◌≡◌, ℕ, ◌+◌, ◌≤◌, eqb, Bool, true, false, true≢false, cond, List, [], ◌∷◌, ◌++◌, length, map, find, Option, Some, None, ◌⊎◌, inl, inr, refl, sym, ◌∙◌, ap, subst, append-nil, append_assoc}
+use Rattle.std.proofs.Common.{◌≡◌, ℕ, eqb, true, false, true≢false, cond, List, [], ◌∷◌, ◌++◌, length, map, Option, Some, None, ◌⊎◌, inl, inr, refl, sym, ◌∙◌, ap, subst, append-nil, append_assoc}
 use Rattle.std.specs.Option.{option_map}
 use Rattle.std.proofs.lemmas.Bool.{cond_both, cond-false}
-use Rattle.sc_base.specs.Definitions.{Among, Each, client_actor, same_draw}
+use Rattle.sc_base.specs.Definitions.{Among, client_actor, same_draw}
 use Rattle.sc_words.proofs.PaxosProofs.Lemmas.{Each-among, find_found}
 use Rattle.sc_paxos_law.proofs.Lemmas.{Among-right}
 use Rattle.sc_node_table.specs.Values.{Seat, Row, Event, Op, Base, Command, Flight, OrderLine, Input, Mail, Node, Client}
 use Rattle.sc_actor.specs.declared.rows.Event.TheVariants.{Tick as TickEvent, Go as GoEvent}
 use Rattle.sc_actor.specs.Definitions.{acted, input_of, replay, value, has_started, has_crashed, is_quiet, acts, row_of, line_row}
-use Rattle.sc_node_table.specs.Definitions.{NodeState, ReplicaState, name_of, replica_of, numbers_from}
-use Rattle.sc_client_table.specs.table.Definitions.{Client as ClientState, table}
+use Rattle.sc_node_table.specs.Definitions.{ReplicaState, name_of, numbers_from}
+use Rattle.sc_client_table.specs.table.Definitions.{Client as ClientState}
 use Rattle.sc_client_table.proofs.TableProofs.TurnLemmas.{sends_in_turn}
 use Rattle.sc_scenario.specs.declared.scenario.scenarios.Scenario.{Scenario}
 use Rattle.sc_scenario.specs.declared.scenario.scenarios.Asks.{Asks as Requests}
@@ -20,14 +20,12 @@ use Rattle.sc_live_orderly.specs.Definitions.{Kick, Ticks, Starts, Turn, IsTurn,
 use Rattle.sc_live_orderly.specs.Turns.{as_list}
 use Rattle.sc_live_orderly.proofs.PendingMail.{none_pending}
 use Rattle.sc_live_orderly.proofs.SeatSums.{seat_found}
-use Rattle.sc_live_plain.specs.Definitions.{IsResting}
 use Rattle.sc_live_healed.specs.Definitions.{IsIdle, HasReplies, AskedACrashedNode}
 use Rattle.sc_live_healed.proofs.FixedJournals.{Rows, IsOf, IsFixedJournal, AreUntold}
 use Rattle.sc_live_healed.proofs.AskingJournals.{IsAskingPlayer, IsAskingAt}
 use Rattle.sc_live_healed.proofs.TakenRequests.{IsHeld, Queued, Flying, Ready}
-use Rattle.sc_live_healed.proofs.LoneRequests as lone
 use Rattle.sc_live_healed.proofs.LoneDeliveries.{S, pending}
-use Rattle.sc_live_healed.proofs.LoneTurns.{Where, IsSent, IsSentOn, IsHeldAt, HasCrashed, Stands, IsReplied, Waits, TurnHolds, TurnState, WaitsOn, HasAll}
+use Rattle.sc_live_healed.proofs.LoneTurns.{Where, IsSent, IsSentOn, IsHeldAt, HasCrashed, Stands, IsReplied, Waits, TurnState, WaitsOn, HasAll}
 use Rattle.sc_live_healed.proofs.LoneTurnRows.{Frames, frames_of, all_delivered}
 use Rattle.sc_live_healed.proofs.LoneTurnStarts.{AreIdle, ticked_turn, started_turn}
 
@@ -142,7 +140,7 @@ module _ (words : ℕ → ℕ → ℕ × ℕ) (scenario : Scenario) (bounded : I
           let is : after ≡ (rows ++ row ∷ []) ++ t.deliveries = t.after_is ∙ ap (λ (o : Option (Row Mail OrderLine)). (rows ++ as_list o) ++ t.deliveries) e in
           let delivered = subst (λ (o : Option (Row Mail OrderLine)). AreDelivered (S words scenario bounded) (rows ++ as_list o) t.deliveries) e t.delivered in
           let last = all_delivered words scenario bounded off asks.client seat is_of refl begun.0 (rows ++ row ∷ []) t.deliveries
-              (λ some later s. frames ((rows ++ row ∷ []) ++ some) later (is ∙ ap (λ (rs : Rows). (rows ++ row ∷ []) ++ rs) s ∙ sym (append_assoc (rows ++ row ∷ []) some later))) delivered begun.1 in
+          (λ some later s. frames ((rows ++ row ∷ []) ++ some) later (is ∙ ap (λ (rs : Rows). (rows ++ row ∷ []) ++ rs) s ∙ sym (append_assoc (rows ++ row ∷ []) some later))) delivered begun.1 in
           ends begun.0 after (subst (λ (rs : Rows). is_quiet (S words scenario bounded) rs ≡ true) (sym is) (delivered_quiet (rows ++ row ∷ []) t.deliveries delivered)) idle_then (subst (State begun.0) (sym is) last)
 
       fixed_of : (row : Row Mail OrderLine) → t.first ≡ Some row → IsFixedJournal scenario (rows ++ row ∷ [])

@@ -1,12 +1,11 @@
 -- A line that crashes a node is carried out: behind the lines that heal, each node that a line crashes has crashed.
-use Rattle.std.proofs.Common.{◌≡◌, ℕ, ◌+◌, ◌≤◌, ◌&&◌, ◌||◌, not, nat_le, eqb, Bool, true, false, true≢false, cond, List, [], ◌∷◌, ◌++◌, map, find, Option, Some, None, refl, sym, ◌∙◌, ap, subst, append_assoc}
+use Rattle.std.proofs.Common.{◌≡◌, ℕ, ◌&&◌, ◌||◌, eqb, Bool, true, false, true≢false, List, [], ◌∷◌, ◌++◌, find, Option, Some, None, refl, sym, ◌∙◌, ap, subst}
 use Rattle.std.specs.Prelude.{is_none}
 use Rattle.std.specs.List.{flat_map, list_any}
 use Rattle.std.specs.Option.{option_map}
-use Rattle.std.proofs.lemmas.Bool.{cond_both, eqb-true, eq-eqb, and_from, or_left, or_right, le-leb}
+use Rattle.std.proofs.lemmas.Bool.{cond_both, eqb-true, eq-eqb, and_from, or_left, or_right}
 use Rattle.std.proofs.lemmas.List.Folds.{list_any-append}
-use Rattle.sc_base.proofs.Lemmas.{map-some}
-use Rattle.sc_node_table.specs.Values.{Seat, Row, OrderLine, Mail}
+use Rattle.sc_node_table.specs.Values.{Seat, Row}
 use Rattle.sc_actor.specs.declared.rows.Event.TheVariants.{Crash as CrashEvent}
 use Rattle.sc_actor.specs.declared.schedules.Line.{Line}
 use Rattle.sc_actor.specs.declared.schedules.Line.TheVariants.{Crash as CrashLine}
@@ -15,7 +14,6 @@ use Rattle.sc_actor.proofs.Lemmas.{Stands, Stands-begin}
 use Rattle.sc_words.proofs.PaxosProofs.Lemmas.{find_found}
 use Rattle.sc_scenario.specs.declared.scenario.scenarios.SchedLine.{SchedLine}
 use Rattle.sc_scenario.specs.declared.scenario.scenarios.SchedLine.TheVariants.{Go, Deliver, Drop, Again, Tick, Crash, Told, Settle, Free, Storm}
-use Rattle.sc_meaning.specs.sound.Definitions.{line_of}
 use Rattle.sc_live_orderly.specs.Definitions.{Kick, Ticks, Starts}
 use Rattle.sc_live_orderly.proofs.PassedTasks.{flat_append, more_rows, next_row, reach}
 use Rattle.sc_live_healed.specs.Definitions.{crashes, ClientTurn, client_line, client_lines}

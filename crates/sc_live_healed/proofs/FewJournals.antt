@@ -1,27 +1,27 @@
 -- In each lawful journal without orders and policy no replica and no mail knows a request of a client with a greater number than those that the client has sent.
-use Rattle.std.proofs.Common.{◌≡◌, ℕ, zero, suc, ◌+◌, ◌-◌, ◌≤◌, ◌&&◌, ◌||◌, eqb, nat_cmp, Bool, true, false, true≢false, cond, List, [], ◌∷◌, ◌++◌, length, map, filter, Option, Some, None, refl, sym, ◌∙◌, ap, subst, inl, inr, ◌⊎◌}
+use Rattle.std.proofs.Common.{◌≡◌, ℕ, zero, suc, ◌+◌, ◌-◌, ◌≤◌, ◌&&◌, ◌||◌, eqb, nat_cmp, Bool, true, false, List, [], ◌∷◌, ◌++◌, map, filter, Option, Some, None, refl, sym, ◌∙◌, ap, subst, inl, inr, ◌⊎◌}
 use Rattle.std.specs.Option.{option_map}
 use Rattle.std.specs.List.{list_any}
-use Rattle.std.specs.FinMap.{get, get-empty}
+use Rattle.std.specs.FinMap.{get-empty}
 use Rattle.std.proofs.lemmas.Bool.{cond_both, eqb-true, eq-eqb, and_from, or_left, or_right}
 use Rattle.sc_base.specs.Definitions.{Among, Each, Drawer, same_draw, is_member, client_actor}
-use Rattle.sc_node_table.specs.Values.{Draw, Noted, Seat, Row, Event, Deliver, Drop, Again, Crash, Input, Got, Base, OrderLine, Mail, MailBody, Accept, Learn, Prepare, Request, Node, Client, Command}
+use Rattle.sc_node_table.specs.Values.{Draw, Seat, Row, Event, Deliver, Drop, Again, Crash, Input, Got, Base, OrderLine, Mail, MailBody, Accept, Learn, Prepare, Node, Client}
 use Rattle.sc_actor.specs.declared.rows.Event.TheVariants.{Tick as TickEvent, Go as GoEvent, Told as ToldEvent}
 use Rattle.sc_actor.specs.declared.rows.Input.TheVariants.{Tick, Go, Told as ToldInput}
 use Rattle.sc_actor.specs.Definitions.{mails, numbered, acted, input_of, value, IsStep}
 use Rattle.sc_actor.proofs.Lemmas.{lawful-induction, value-snoc, mails-snoc}
 use Rattle.sc_words.proofs.PaxosProofs.Lemmas.{Each-among, Each-append, find_found}
 use Rattle.sc_group_table.specs.machine.Definitions.{group_of}
-use Rattle.sc_node_table.specs.Definitions.{NodeState, ReplicaState, Place, next, name_of, flying, sent_all, open_nodes, with_replica, mailed, ticked, tick_row, names_after_tick, node_table, slots_ahead, born_replica, born_replicas, numbers_from}
+use Rattle.sc_node_table.specs.Definitions.{NodeState, ReplicaState, Place, next, name_of, flying, open_nodes, with_replica, mailed, ticked, tick_row, names_after_tick, node_table, slots_ahead, born_replica, born_replicas, numbers_from}
 use Rattle.sc_law_refusal.proofs.HeldCommands as held
 use Rattle.sc_law_walks.proofs.Talks.{all_sent}
 use Rattle.sc_law_walks.proofs.Lemmas.{either_way}
-use Rattle.sc_client_table.specs.table.Definitions.{Client as ClientState, table, request_of}
+use Rattle.sc_client_table.specs.table.Definitions.{Client as ClientState, table}
 use Rattle.sc_client_table.proofs.TableProofs.TurnLemmas.{sends_in_turn}
 use Rattle.sc_paxos_law.proofs.Lemmas.{place_among}
 use Rattle.sc_scenario.specs.declared.scenario.scenarios.Scenario.{Scenario}
 use Rattle.sc_scenario.specs.declared.scenario.scenarios.Asks.{Asks as Requests}
-use Rattle.sc_scenario.specs.scenario.Definitions.{IsBounded, base_at}
+use Rattle.sc_scenario.specs.scenario.Definitions.{IsBounded}
 use Rattle.sc_meaning.specs.sound.Definitions.{Lawful, Player, as_nodes, births, client_seat, client_seats, node_seat, player_table, route_of, schedule, system_of, issues, asks_for}
 use Rattle.sc_live_orderly.specs.Definitions.{is_told}
 use Rattle.sc_live_healed.specs.Definitions.{IsFixedMail, IsFixedNode, IsFixedBody}
@@ -252,9 +252,9 @@ module _ (client bound : ℕ) where
         (λ xs row keeps step. (
           next_asking words scenario xs row step keeps.0,
           λ more few. (
-            let parts = untold_parts xs row more in
-            next_few xs row parts.1 keeps.0 (keeps.1 parts.0 (λ seq e. few seq (issued_push words scenario xs row client seq ∙ or_left (list_any (issues client seq) xs) (issues client seq row || false) e))) step
-            (λ seq e. few seq (issued_push words scenario xs row client seq ∙ or_right (list_any (issues client seq) xs) (issues client seq row || false) (or_left (issues client seq row) false e)))),
+              let parts = untold_parts xs row more in
+              next_few xs row parts.1 keeps.0 (keeps.1 parts.0 (λ seq e. few seq (issued_push words scenario xs row client seq ∙ or_left (list_any (issues client seq) xs) (issues client seq row || false) e))) step
+              (λ seq e. few seq (issued_push words scenario xs row client seq ∙ or_right (list_any (issues client seq) xs) (issues client seq row || false) (or_left (issues client seq row) false e)))),
         )) (schedule scenario) rows (first_asking words scenario, λ _ _. first_few) lawful).1 untold few
       where
         untold_parts : (xs : Rows) (row : Row Mail OrderLine) → AreUntold words scenario bounded off (xs ++ row ∷ []) → AreUntold words scenario bounded off xs × (is_told row.event ≡ false)

@@ -28,3 +28,10 @@ pub use Rattle.sc_live_healed.proofs.ShorterSchedules.{WholePrefix, whole_prefix
 pub use Rattle.sc_live_healed.proofs.HealedLines.{turns_of, lines_to, lines_are_turns, lines_go_on, healed_untold, living_spared}
 pub use Rattle.sc_live_healed.proofs.LivingSeats.{node_found, node_is_found, living_bounds, living_node, living_gets, living_majority}
 pub use Rattle.sc_live_healed.proofs.HealedIdle.{store_idle, healed_stores_stay_idle}
+pub use Rattle.sc_live_healed.proofs.AskingJournals.{IsAskingAt, IsAskingJournal, journal_asking}
+pub use Rattle.sc_live_healed.proofs.FewJournals.{HasSentFew, IsFewJournal, journal_few}
+pub use Rattle.sc_live_healed.proofs.LoneRequestRows.{lone_walk}
+pub use Rattle.sc_live_healed.proofs.HeldRequestRows.{held_walk}
+pub use Rattle.sc_live_healed.proofs.LoneTurnRows.{all_delivered}
+pub use Rattle.sc_live_healed.proofs.AnsweredTurns.{turn_answers}
+pub use Rattle.sc_live_healed.proofs.AnsweredStores.{healed_stores_answer}

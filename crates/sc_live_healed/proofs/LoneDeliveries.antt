@@ -1,12 +1,12 @@
 -- What one delivery of a journal without orders does to the actors, to what is pending and to who has crashed.
-use Rattle.std.proofs.Common.{◌≡◌, ℕ, zero, suc, ◌+◌, ◌≤◌, ◌<◌, ◌&&◌, not, eqb, Bool, true, false, true≢false, cond, List, [], ◌∷◌, ◌++◌, filter, map, find, replicate, Option, Some, None, inl, inr, refl, sym, ◌∙◌, ap, subst, arith}
+use Rattle.std.proofs.Common.{◌≡◌, ℕ, zero, suc, not, eqb, Bool, true, false, true≢false, cond, List, [], ◌∷◌, ◌++◌, filter, map, find, replicate, Option, Some, inl, inr, refl, sym, ◌∙◌, ap, subst, arith}
 use Rattle.std.specs.List.{list_any}
 use Rattle.std.specs.Option.{option_map}
-use Rattle.std.proofs.lemmas.Bool.{cond_both, cond-true, cond-false, cases_Bool, eqb-true, eq-eqb, ne_eqb, and_parts, and_from, or_left, or_right}
-use Rattle.sc_base.specs.Definitions.{Among, Each, is_member}
+use Rattle.std.proofs.lemmas.Bool.{cond_both, cond-true, cond-false, eqb-true, eq-eqb, ne_eqb, and_parts, and_from, or_left, or_right}
+use Rattle.sc_base.specs.Definitions.{Among, Each}
 use Rattle.sc_node_table.specs.Values.{Seat, Row, Event, Deliver, Input, Got, Base, OrderLine, Mail}
 use Rattle.sc_actor.specs.Definitions.{mails, acted, input_of, value, may_get, has_crashed, is_crash, numbers_of, copies, System}
-use Rattle.sc_actor.proofs.Lemmas.{value-snoc, mails-snoc}
+use Rattle.sc_actor.proofs.Lemmas.{value-snoc}
 use Rattle.sc_node_table.specs.Definitions.{numbers_from}
 use Rattle.sc_words.proofs.PaxosProofs.Lemmas.{Each-among, Each-append, Each-filter, Each-from_All, Among-filter, find_found}
 use Rattle.sc_paxos_law.proofs.Lemmas.{Among-left, Among-right, member-among}

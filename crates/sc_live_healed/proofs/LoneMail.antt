@@ -1,11 +1,11 @@
 -- What a replica does with one mail while one client asks alone: its own requests are all that is under way, the request that waits stays held or its client is answered, and a request that is heard is held or its client is answered.
-use Rattle.std.proofs.Common.{◌≡◌, ℕ, ◌+◌, ◌≤◌, ◌<◌, ◌&&◌, not, nat_le, leb, ltb, eqb, Bool, true, false, true≢false, cond, List, [], ◌∷◌, ◌++◌, length, Option, Some, None, ◌⊎◌, inl, inr, refl, sym, ◌∙◌, ap, subst, arith}
-use Rattle.std.proofs.lemmas.Bool.{cond_both, leb-true, leb-false, ltb-true, and_parts, eq-eqb, and_from}
-use Rattle.sc_base.specs.Definitions.{Among, Each, client_actor}
-use Rattle.sc_node_table.specs.Values.{Draw, Op, Reply, Route, Command, Call, Base, Core, AnswerBody, Value, NotLeader, NotMine, Gone, Stale, Mail, MailBody, Request, Answer, Prepare, Promise, Accept, Accepted, Nack, Learn, Ask, Install}
+use Rattle.std.proofs.Common.{◌≡◌, ℕ, ◌+◌, ◌≤◌, ◌<◌, ◌&&◌, not, nat_le, leb, ltb, eqb, Bool, true, false, List, [], ◌∷◌, ◌++◌, length, Option, Some, None, ◌⊎◌, inl, inr, refl, sym, ap, subst, arith}
+use Rattle.std.proofs.lemmas.Bool.{cond_both, leb-true, ltb-true, and_parts, eq-eqb, and_from}
+use Rattle.sc_base.specs.Definitions.{Among}
+use Rattle.sc_node_table.specs.Values.{Draw, Op, Reply, Route, Command, Call, Base, Core, AnswerBody, Value, NotLeader, NotMine, Gone, Stale, Mail, MailBody, Request, Learn}
 use Rattle.sc_words.specs.ideal.Definitions.{holds_key, key_of}
 use Rattle.sc_words.proofs.PaxosProofs.Lemmas.{Each-among}
-use Rattle.sc_node_table.specs.Definitions.{ReplicaState, Place, next, name_of, at_slot, mailed, admits_requests, request_refusal, refused_at, requested, queued, request_row, queued_number, without_request, pumped, answer_to, slots_ahead}
+use Rattle.sc_node_table.specs.Definitions.{ReplicaState, Place, next, name_of, at_slot, mailed, admits_requests, request_refusal, refused_at, requested, queued, request_row, queued_number, without_request, pumped, answer_to}
 use Rattle.sc_live_plain.specs.Definitions.{takers}
 use Rattle.sc_live_plain.proofs.LeadersProofs.LeadingReplicas.{in_range}
 use Rattle.sc_live_plain.proofs.RowsProofs.SlotCounts.{at_none, one_if, one_if_most}
@@ -18,11 +18,11 @@ use Rattle.sc_live_healed.proofs.FixedRows.{takes_mail}
 use Rattle.sc_live_healed.proofs.FixedBesides.{both_walk}
 use Rattle.sc_live_healed.proofs.AskingClients.{redirects}
 use Rattle.sc_live_healed.proofs.TakenRequests.{is_call, AreApart, IsHeld, Queued, IsAtMost, reply_mail, queued_there}
-use Rattle.sc_live_healed.proofs.HeldRequests.{HasFew, HeldOr, IsTold, Answers}
+use Rattle.sc_live_healed.proofs.HeldRequests.{HasFew, HeldOr, Answers}
 use Rattle.sc_live_healed.proofs.HeldRequestRows.{held_walk}
 use Rattle.sc_live_healed.proofs.NumberedRequests.{IsFewBody, IsFewPlace, few_facts, few_states}
 use Rattle.sc_live_healed.proofs.LoneRequests as lone
-use Rattle.sc_live_healed.proofs.LoneRequestRows.{LoneHears, lone_walk, served_so}
+use Rattle.sc_live_healed.proofs.LoneRequestRows.{lone_walk, served_so}
 
 -- ---- slots
 
@@ -172,7 +172,7 @@ module _ (base : Base) (me : ℕ) (born : IsFresh base me) (client first seq : �
           answer,
           inl (refusal_redirects start.group.core.gone start.group.core start.running start.hint op answer e),
           subst (λ n. Among (reply_mail client seq n base.core.id answer) (answer_to start.me (name_of start) client seq answer [])) k.fixed.me_is
-          (subst (λ d. Among (reply_mail client seq start.me d answer) (answer_to start.me (name_of start) client seq answer [])) (ap (λ (core : Core). core.id) k.fixed.fixed.group) (inl refl)),
+              (subst (λ d. Among (reply_mail client seq start.me d answer) (answer_to start.me (name_of start) client seq answer [])) (ap (λ (core : Core). core.id) k.fixed.fixed.group) (inl refl)),
         )
     requested_served from group op start None h k hidden apart e =
         queued_served from group op start (queued_number start.backlog client) h k hidden apart (request_taken base me born client seq op start k.fixed.fixed.group e).0 e refl

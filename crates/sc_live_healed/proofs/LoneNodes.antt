@@ -1,16 +1,16 @@
 -- What a node does with one mail while one client asks alone.
-use Rattle.std.proofs.Common.{◌≡◌, ℕ, ◌≤◌, Bool, true, false, true≢false, cond, List, [], ◌∷◌, Option, Some, None, ◌⊎◌, inl, inr, refl, sym, ◌∙◌, ap, subst}
+use Rattle.std.proofs.Common.{◌≡◌, ℕ, Bool, true, false, true≢false, cond, List, [], ◌∷◌, Option, Some, None, ◌⊎◌, inl, inr, refl, sym, ◌∙◌, ap, subst}
 use Rattle.std.proofs.lemmas.Bool.{cond_both, cond-true, cond-false, cases_Bool}
-use Rattle.sc_base.specs.Definitions.{Among, Each, same_draw, is_member}
+use Rattle.sc_base.specs.Definitions.{Among, Each, same_draw}
 use Rattle.sc_base.proofs.Lemmas.{draw_is, same_name}
 use Rattle.sc_words.proofs.PaxosProofs.Lemmas.{Each-among, find_found}
-use Rattle.sc_node_table.specs.Values.{Draw, Op, Base, Core, Command, AnswerBody, Input, Got, Mail, MailBody, Request}
+use Rattle.sc_node_table.specs.Values.{Draw, Op, Base, Core, Command, AnswerBody, Got, Mail, MailBody, Request}
 use Rattle.sc_node_table.specs.Definitions.{NodeState, ReplicaState, Place, name_of, replica_of, with_replica, mailed, node_table, may_come, group_of_mail}
 use Rattle.sc_law_walks.proofs.Lemmas.{either_way}
 use Rattle.sc_live_healed.specs.Definitions.{IsFixedMail, IsFixedNode, IsFixedReplica, TakesSlots, AllTakeSlots}
 use Rattle.sc_live_healed.proofs.FixedNodes.{AreFresh}
 use Rattle.sc_live_healed.proofs.NodeMail.{TakesMail, PassesMail, mail_taken}
-use Rattle.sc_live_healed.proofs.TakenRequests.{AreApart, IsHeld, reply_mail}
+use Rattle.sc_live_healed.proofs.TakenRequests.{IsHeld, reply_mail}
 use Rattle.sc_live_healed.proofs.NumberedRequests.{IsFewBody, IsFewPlace}
 use Rattle.sc_live_healed.proofs.LoneRequests as lone
 use Rattle.sc_live_healed.proofs.LoneMail.{apart_of, unready_of, Tells, Finds, Heard, mailed_lone, mailed_held, mailed_asked}

@@ -53,7 +53,6 @@ module _ (client first : ℕ) where
   pub alone_push : (r : ReplicaState) (mails : List Mail) (to : ℕ) (body : MailBody) → IsLoneBody body → GoesToClient to body → IsAlone (r, mails) → IsAlone (r, sent r.me to body mails)
   alone_push r mails to body lone goes k = record { leads = k.leads; said = Each-append IsLoneMail mails (mail_of r.me to body ∷ []) k.said ((lone, goes), tt) }
 
-
   -- with the same leader's state and next slot
   pub leads_with : (r after : ReplicaState) → Each IsMine after.backlog → after.leader ≡ r.leader → after.ready ≡ r.ready → next after ≡ next r → LeadsAlone r → LeadsAlone after
   leads_with r after backlog leader ready at_next k = record {

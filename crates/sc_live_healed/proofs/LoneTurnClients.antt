@@ -1,8 +1,8 @@
 -- A delivery to a client in the turn of a client that asks alone: it sends its request on, sends the next one, has all replies, or takes no notice; other clients take none.
-use Rattle.std.proofs.Common.{◌≡◌, ℕ, ◌+◌, ◌≤◌, ◌&&◌, eqb, Bool, true, false, true≢false, cond, List, [], ◌∷◌, ◌++◌, Option, Some, None, ◌⊎◌, inl, inr, refl, sym, ◌∙◌, ap, subst, arith}
-use Rattle.std.proofs.lemmas.Bool.{cond_both, cond-true, cases_eq, cases_Bool, eqb-true, eq-eqb, and_parts}
+use Rattle.std.proofs.Common.{◌≡◌, ℕ, ◌+◌, ◌≤◌, ◌&&◌, eqb, Bool, true, false, true≢false, [], ◌∷◌, ◌++◌, Option, Some, None, ◌⊎◌, inl, inr, refl, sym, ◌∙◌, ap, subst, arith}
+use Rattle.std.proofs.lemmas.Bool.{cond-true, cases_eq, cases_Bool, eqb-true, eq-eqb, and_parts}
 use Rattle.sc_base.specs.Definitions.{Among, Each, client_actor}
-use Rattle.sc_node_table.specs.Values.{Seat, Row, Draw, Op, Base, Command, Noop, Call, Report, Reply, AnswerBody, Value, OrderLine, Input, Got, Mail, MailBody, Request, Answer, Prepare, Promise, Accept, Learn, Ask, Node, Client}
+use Rattle.sc_node_table.specs.Values.{Seat, Row, Draw, Op, Command, Call, Reply, AnswerBody, Value, OrderLine, Got, Mail, MailBody, Request, Answer, Learn, Ask, Node, Client}
 use Rattle.sc_actor.specs.Definitions.{mails, value, has_crashed}
 use Rattle.sc_actor.proofs.Lemmas.{mails-snoc}
 use Rattle.sc_node_table.specs.Definitions.{NodeState, ReplicaState, is_node}
@@ -13,9 +13,8 @@ use Rattle.sc_scenario.specs.declared.scenario.scenarios.Scenario.{Scenario}
 use Rattle.sc_scenario.specs.scenario.Definitions.{IsBounded}
 use Rattle.sc_meaning.specs.sound.Definitions.{Player, player_table}
 use Rattle.sc_live_orderly.specs.Definitions.{TakesLowest}
-use Rattle.sc_live_plain.specs.Definitions.{IsResting}
 use Rattle.sc_live_plain.proofs.Lemmas.{some_is}
-use Rattle.sc_live_healed.specs.Definitions.{IsFixedMail, IsFixedBody, IsAskingOn, IsAskingClient}
+use Rattle.sc_live_healed.specs.Definitions.{IsFixedMail, IsFixedBody, IsAskingOn}
 use Rattle.sc_live_healed.proofs.FixedJournals.{Rows, IsOf, IsFixedJournal, fresh, given}
 use Rattle.sc_live_healed.proofs.LivingActors.{seats_stay_nodes}
 use Rattle.sc_live_healed.proofs.FewJournals.{IsFewJournal, PlayerFew}
@@ -23,10 +22,10 @@ use Rattle.sc_live_healed.proofs.NumberedRequests.{IsFewBody, IsFewPlace}
 use Rattle.sc_live_healed.proofs.AskingJournals.{IsAskingAt}
 use Rattle.sc_live_healed.proofs.AskingClients.{Asks, Ends, Ignores, Does, AsksOn, AsksNext, EndsNow, TakesNoNotice, redirects, replied}
 use Rattle.sc_live_healed.proofs.AskingClientRows.{does}
-use Rattle.sc_live_healed.proofs.TakenRequests.{is_call, IsAtMost}
+use Rattle.sc_live_healed.proofs.TakenRequests.{IsAtMost}
 use Rattle.sc_live_healed.proofs.LoneRequests as lone
-use Rattle.sc_live_healed.proofs.LoneDeliveries.{S, pending, Gets, member_gets, pending_each, receiver_is, receiver_of, same_seat, sent_is, value_own, value_other, crashed_same, rest_stays, sent_stays, pending_then, pending_first}
-use Rattle.sc_live_healed.proofs.LoneTurns.{mail_at, AtNodes, Leads, Logs, Where, IsSent, IsSentOn, IsHeldAt, HasCrashed, Stands, IsReplied, Waits, TurnHolds, TurnState, WaitsOn, HasAll}
+use Rattle.sc_live_healed.proofs.LoneDeliveries.{S, member_gets, pending_each, receiver_is, receiver_of, same_seat, sent_is, value_own, value_other, crashed_same, rest_stays, sent_stays, pending_then, pending_first}
+use Rattle.sc_live_healed.proofs.LoneTurns.{AtNodes, Leads, Logs, Where, IsSent, IsSentOn, IsHeldAt, HasCrashed, Stands, IsReplied, Waits, TurnHolds, TurnState, WaitsOn, HasAll}
 
 -- a request with no greater number is another one than the next
 at_most_other : (client seq : ℕ) (command : Command) → IsAtMost client seq command → lone.IsOther client (seq + 1) command
@@ -216,7 +215,7 @@ module _ (words : ℕ → ℕ → ℕ × ℕ) (scenario : Scenario) (bounded : I
         asks_state (a.seq + 1) d (omega (arith, least))
         (Waits false (λ e. absurd (true≢false (sym e)))
         (nodes_same (λ n. LogsAt (a.seq + 1) false n) (λ other of node e lives off_. Each-weaker (λ (r : ReplicaState). IsFewPlace client a.seq (r, [])) (λ (r : ReplicaState). Each (λ (c : Command). lone.IsOther client (a.seq + 1) c) r.log.entries)
-            (λ r k. Each-weaker (IsAtMost client a.seq) (λ (c : Command). lone.IsOther client (a.seq + 1) c) (λ c low. at_most_other client a.seq c low) r.log.entries k.entries) node.replicas (subst (PlayerFew client a.seq) e (few.players other of))))
+        (λ r k. Each-weaker (IsAtMost client a.seq) (λ (c : Command). lone.IsOther client (a.seq + 1) c) (λ c low. at_most_other client a.seq c low) r.log.entries k.entries) node.replicas (subst (PlayerFew client a.seq) e (few.players other of))))
         (pending_then words scenario bounded rows row t U others (subst (Each U) (sym (sends_so (a.seq + 1) d)) (tt, tt))) (new_where (a.seq + 1) d))
 
     -- it has all replies

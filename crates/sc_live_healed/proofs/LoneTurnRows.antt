@@ -1,8 +1,8 @@
 -- What holds in the turn of a client that asks alone is kept by all its deliveries.
-use Rattle.std.proofs.Common.{◌≡◌, ℕ, ◌+◌, ◌≤◌, Bool, true, false, List, [], ◌∷◌, ◌++◌, length, Some, None, ◌⊎◌, inl, inr, refl, sym, ◌∙◌, ap, subst, arith, append-nil, append_assoc}
+use Rattle.std.proofs.Common.{◌≡◌, ℕ, true, false, [], ◌∷◌, ◌++◌, inl, inr, refl, sym, ◌∙◌, ap, subst, arith, append-nil, append_assoc}
 use Rattle.std.specs.List.{list_any}
 use Rattle.std.proofs.lemmas.Bool.{cases_eq}
-use Rattle.sc_base.specs.Definitions.{Each, client_actor}
+use Rattle.sc_base.specs.Definitions.{client_actor}
 use Rattle.sc_node_table.specs.Values.{Seat, Row, OrderLine, Got, Mail, Node, Client}
 use Rattle.sc_actor.specs.Definitions.{value}
 use Rattle.sc_actor.proofs.Lemmas.{lawful-prefix}
@@ -19,8 +19,8 @@ use Rattle.sc_live_healed.proofs.TakenJournals.{IsTakenJournal, journal_taken}
 use Rattle.sc_live_healed.proofs.FewJournals.{IsFewJournal, HasSentFew, journal_few}
 use Rattle.sc_live_healed.proofs.AskingJournals.{IsAskingJournal, IsAskingPlayer, IsAskingAt, journal_asking}
 use Rattle.sc_live_healed.proofs.AskingClientRows.{rests_on}
-use Rattle.sc_live_healed.proofs.LoneDeliveries.{S, same_seat, value_own, value_other}
-use Rattle.sc_live_healed.proofs.LoneTurns.{TurnState, WaitsOn, HasAll, TurnHolds, same_client, node_turn}
+use Rattle.sc_live_healed.proofs.LoneDeliveries.{S, value_own, value_other}
+use Rattle.sc_live_healed.proofs.LoneTurns.{TurnState, WaitsOn, HasAll, same_client, node_turn}
 use Rattle.sc_live_healed.proofs.LoneTurnClients.{other_turn, own_turn}
 
 module _ (words : ℕ → ℕ → ℕ × ℕ) (scenario : Scenario) (bounded : IsBounded scenario) (off : scenario.policy ≡ false) where

@@ -1,34 +1,34 @@
 -- The turn of a client begins where no mail is pending and each replica that runs is idle: behind its tick or start nothing but its own request is under way.
-use Rattle.std.proofs.Common.{◌≡◌, ℕ, ◌+◌, ◌≤◌, ◌&&◌, not, eqb, Bool, true, false, true≢false, cond, List, [], ◌∷◌, ◌++◌, filter, find, replicate, Option, Some, None, ◌⊎◌, inl, inr, refl, sym, ◌∙◌, ap, subst, arith}
+use Rattle.std.proofs.Common.{◌≡◌, ℕ, ◌≤◌, ◌&&◌, not, eqb, Bool, true, false, true≢false, cond, List, [], ◌∷◌, ◌++◌, filter, find, replicate, Option, Some, inl, inr, refl, sym, ◌∙◌, ap, subst, arith}
 use Rattle.std.specs.List.{list_any}
 use Rattle.std.proofs.lemmas.Bool.{cond-true, cond-false, cases_eq, cases_Bool, eq-eqb, ne_eqb}
 use Rattle.sc_base.specs.Definitions.{Among, Each, client_actor}
-use Rattle.sc_node_table.specs.Values.{Seat, Row, Event, Draw, Command, Flight, Report, OrderLine, Input, Mail, Node, Client}
+use Rattle.sc_node_table.specs.Values.{Seat, Row, Event, Draw, Command, Flight, OrderLine, Input, Mail, Node, Client}
 use Rattle.sc_actor.specs.declared.rows.Event.TheVariants.{Tick as TickEvent, Go as GoEvent}
 use Rattle.sc_actor.specs.declared.rows.Input.TheVariants.{Tick, Go}
 use Rattle.sc_actor.specs.Definitions.{mails, acted, input_of, value, may_get, numbers_of, has_started, has_crashed, is_crash, is_quiet, copies, counts_at, row_of}
 use Rattle.sc_actor.proofs.Lemmas.{value-snoc, mails-snoc}
-use Rattle.sc_node_table.specs.Definitions.{NodeState, ReplicaState, next}
+use Rattle.sc_node_table.specs.Definitions.{NodeState, ReplicaState}
 use Rattle.sc_words.proofs.PaxosProofs.Lemmas.{Each-among, Each-weaker, Each-filter, Among-filter}
 use Rattle.sc_paxos_law.proofs.Lemmas.{Among-right}
 use Rattle.sc_client_table.specs.table.Definitions.{Client as ClientState, ClientStep, table, request_of}
 use Rattle.sc_scenario.specs.declared.scenario.scenarios.Scenario.{Scenario}
 use Rattle.sc_scenario.specs.scenario.Definitions.{IsBounded}
 use Rattle.sc_meaning.specs.sound.Definitions.{Player, as_nodes, births, player_table}
-use Rattle.sc_live_orderly.specs.Definitions.{mail_with, pending_mail}
+use Rattle.sc_live_orderly.specs.Definitions.{mail_with}
 use Rattle.sc_live_orderly.proofs.PendingMail.{none_pending}
 use Rattle.sc_live_orderly.proofs.RemainingMail.{after-row}
 use Rattle.sc_live_plain.specs.Definitions.{IsResting}
 use Rattle.sc_live_plain.proofs.Lemmas.{some_is}
-use Rattle.sc_live_healed.specs.Definitions.{IsFixedMail, IsAskingOn, IsAskingClient, IsIdle}
+use Rattle.sc_live_healed.specs.Definitions.{IsFixedMail, IsIdle}
 use Rattle.sc_live_healed.proofs.FixedJournals.{Rows, IsOf, IsFixedJournal}
 use Rattle.sc_live_healed.proofs.LivingActors.{same_crashed}
 use Rattle.sc_live_healed.proofs.AskingJournals.{IsAskingAt}
-use Rattle.sc_live_healed.proofs.AskingClients.{Asks, Ends}
+use Rattle.sc_live_healed.proofs.AskingClients.{Asks}
 use Rattle.sc_live_healed.proofs.AskingClientRows.{starts, ticks, rests_ticked}
 use Rattle.sc_live_healed.proofs.LoneRequests as lone
-use Rattle.sc_live_healed.proofs.LoneDeliveries.{S, pending, Gets, member_gets}
-use Rattle.sc_live_healed.proofs.LoneTurns.{AtNodes, Leads, Where, IsSent, HasCrashed, Stands, Waits, TurnHolds, TurnState, WaitsOn, HasAll}
+use Rattle.sc_live_healed.proofs.LoneDeliveries.{S, pending, member_gets}
+use Rattle.sc_live_healed.proofs.LoneTurns.{AtNodes, Leads, Where, IsSent, HasCrashed, Stands, Waits, TurnState, WaitsOn, HasAll}
 use Rattle.sc_live_healed.proofs.LoneTurnClients.{first_of, second_of, none_some}
 
 with_agree : {M : Type 0} (p q : M → Bool) → ((m : M) → p m ≡ q m) → (sent : List M) (counts : List ℕ) → mail_with p sent counts ≡ mail_with q sent counts

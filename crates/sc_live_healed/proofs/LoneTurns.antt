@@ -1,8 +1,8 @@
 -- What holds in the turn of a client that asks alone, delivery by delivery: nothing but its own requests is under way, and the request that it waits for is pending, held by the node that it asked or answered, or that node has crashed.
-use Rattle.std.proofs.Common.{◌≡◌, ℕ, ◌+◌, ◌≤◌, eqb, Bool, true, false, true≢false, cond, List, [], ◌∷◌, ◌++◌, Option, Some, None, ◌⊎◌, inl, inr, refl, sym, ◌∙◌, ap, subst}
+use Rattle.std.proofs.Common.{◌≡◌, ℕ, ◌≤◌, eqb, Bool, true, false, List, [], ◌∷◌, ◌++◌, Some, ◌⊎◌, inl, inr, refl, sym, ◌∙◌, ap, subst}
 use Rattle.std.proofs.lemmas.Bool.{cases_eq}
 use Rattle.sc_base.specs.Definitions.{Among, Each, client_actor}
-use Rattle.sc_node_table.specs.Values.{Seat, Row, Draw, Op, Base, Command, Reply, AnswerBody, Value, OrderLine, Input, Got, Mail, MailBody, Request, Answer, Node, Client}
+use Rattle.sc_node_table.specs.Values.{Seat, Row, Draw, Op, Base, Command, AnswerBody, OrderLine, Got, Mail, MailBody, Request, Answer, Node, Client}
 use Rattle.sc_actor.specs.Definitions.{mails, value, has_crashed}
 use Rattle.sc_node_table.specs.Definitions.{NodeState, ReplicaState, replica_of, node_table}
 use Rattle.sc_words.proofs.PaxosProofs.Lemmas.{find_found}
@@ -23,7 +23,7 @@ use Rattle.sc_live_healed.proofs.AskingClients.{redirects}
 use Rattle.sc_live_healed.proofs.TakenRequests.{IsHeld, reply_mail}
 use Rattle.sc_live_healed.proofs.LoneRequests as lone
 use Rattle.sc_live_healed.proofs.LoneMail.{Tells}
-use Rattle.sc_live_healed.proofs.LoneNodes.{TakesAlone, step, node_alone, node_hidden, IsServedStep, node_held, node_asked}
+use Rattle.sc_live_healed.proofs.LoneNodes.{TakesAlone, node_alone, node_hidden, node_held, node_asked}
 use Rattle.sc_live_healed.proofs.LoneDeliveries.{S, pending, Gets, born_gets, pending_each, receiver_is, receiver_of, same_seat, sent_is, value_own, value_other, crashed_same, rest_stays, sent_stays, pending_then, pending_first, receiver_lives}
 
 module _ (words : ℕ → ℕ → ℕ × ℕ) (scenario : Scenario) (bounded : IsBounded scenario) (off : scenario.policy ≡ false) (client : ℕ) (seat : Seat Player) (is_of : IsOf scenario seat) (number : seat.who ≡ client_actor client) (first : ℕ) where
@@ -144,7 +144,7 @@ module _ (words : ℕ → ℕ → ℕ × ℕ) (scenario : Scenario) (bounded : I
             → ((r : ReplicaState) × (replica_of base.core.id stepped.0.replicas ≡ Some r) × (r.running ≡ true) × IsHeld client seq r) ⊎ ((answer : AnswerBody) × Tells answer × Among (reply_mail client seq node.me base.core.id answer) stepped.1) → Stands after seq group target
         served early late logs unlearnt base a id at (inl s) =
             Waits early late logs unlearnt (IsHeldAt t.seat (receiver_of words scenario bounded rows row t) at (crashed_same words scenario bounded rows row t t.seat.who ∙ receiver_lives words scenario bounded rows row t) stepped.0
-                (value_own words scenario bounded rows row t t.seat refl ∙ ap (λ (p : Player). (player_table p (Got t.mail)).0) here) base a id s.0 s.1 s.2 s.3)
+            (value_own words scenario bounded rows row t t.seat refl ∙ ap (λ (p : Player). (player_table p (Got t.mail)).0) here) base a id s.0 s.1 s.2 s.3)
         served early late logs unlearnt base a id at (inr (answer, inl red, said)) =
             let mail : Mail = reply_mail client seq node.me base.core.id answer in
             Waits early late logs unlearnt (IsSentOn mail (answer_pending mail said refl) (who_is.0 ∙ at) refl answer (ap (λ (d : Draw). Answer d seq answer) id) red)

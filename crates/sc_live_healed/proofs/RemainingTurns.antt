@@ -4,11 +4,10 @@ use Rattle.std.specs.Prelude.{is_none}
 use Rattle.std.specs.List.{flat_map}
 use Rattle.sc_actor.specs.declared.rows.Row.{Row}
 use Rattle.sc_actor.specs.declared.schedules.Line.{Line}
-use Rattle.sc_actor.specs.declared.schedules.Line.TheVariants.{Settle}
 use Rattle.sc_actor.specs.Definitions.{System, Task, Once, Settles, IsLawful, IsWhole, is_over, is_quiet, place_after, tasks_of, line_row, lowest, unsettled}
-use Rattle.sc_actor.proofs.Lemmas.{lawful-prefix, lawful-last, Stands, Stands-row, Stands-over, Stands-begin, Stands-ended}
+use Rattle.sc_actor.proofs.Lemmas.{lawful-prefix, lawful-last, Stands, Stands-row, Stands-over, Stands-ended}
 use Rattle.sc_live_orderly.proofs.UncutPrefixes.{onward_cut, uncut_before}
-use Rattle.sc_live_orderly.proofs.PassedTasks.{flat_append, more_rows, next_row, reach}
+use Rattle.sc_live_orderly.proofs.PassedTasks.{more_rows, next_row}
 use Rattle.sc_live_orderly.specs.Turns.{Kick, Ticks, Starts, Turn, kick_line, turn_lines, AreDelivered, IsTurn, HasTurns, as_list}
 
 module _ {A M O : Type 0} (s : System A M O) (all : List (Line O)) (journal : List (Row M O)) (lawful : IsLawful s all journal) (whole : IsWhole s all journal) (uncut : unsettled s all journal ≡ false) where
