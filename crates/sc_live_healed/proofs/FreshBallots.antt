@@ -18,7 +18,7 @@ use Rattle.sc_meaning.specs.sound.Definitions.{Lawful, Player, as_nodes, births,
 use Rattle.sc_live_orderly.specs.Definitions.{is_told}
 use Rattle.sc_live_healed.proofs.FixedNodes.{AreFresh, MayTake}
 use Rattle.sc_live_healed.proofs.FixedBirths.{groups_fresh, place_of}
-use Rattle.sc_live_healed.proofs.FixedJournals.{Rows, IsOf, IsFixedPlayer, Brings, AreUntold, brings, given}
+use Rattle.sc_live_healed.proofs.FixedJournals.{Rows, IsOf, IsFixedPlayer, Brings, AreUntold, untold_parts, brings, given}
 use Rattle.sc_live_healed.proofs.MovedReplicas.{AsksWithin, Brings as BringsBallot, within_more}
 use Rattle.sc_live_healed.proofs.NearJournals.{IsNearJournal, journal_near}
 use Rattle.sc_live_healed.proofs.NodeMail.{mail_taken}
@@ -290,10 +290,6 @@ module _ (words : ℕ → ℕ → ℕ × ℕ) (scenario : Scenario) (bounded : I
   ballots_fresh rows untold lawful =
       lawful-induction (system_of as_nodes words scenario) (λ (xs : Rows). AreUntold words scenario bounded off xs → Lawful as_nodes words scenario xs → HasFreshBallots xs)
       (λ xs row keeps step more l. (
-      let parts = untold_parts xs row more in
+      let parts = untold_parts words scenario bounded off xs row more in
       let first = lawful-prefix (system_of as_nodes words scenario) (schedule scenario) xs (row ∷ []) l in
       next_ballots xs row parts.1 (1 + 4 * length xs) (journal_near words scenario bounded off xs parts.0 first) (keeps parts.0 first) step)) (schedule scenario) rows (λ _ _. first_ballots) lawful untold lawful
-    where
-      untold_parts : (xs : Rows) (row : Row Mail OrderLine) → AreUntold words scenario bounded off (xs ++ row ∷ []) → AreUntold words scenario bounded off xs × (is_told row.event ≡ false)
-      untold_parts [] row untold = (tt, untold.0)
-      untold_parts (x ∷ xs) row untold = (let p = untold_parts xs row untold.1 in ((untold.0, p.0), p.1))

@@ -21,7 +21,7 @@ use Rattle.sc_scenario.specs.declared.scenario.scenarios.Asks.{Asks as Requests}
 use Rattle.sc_scenario.specs.scenario.Definitions.{IsBounded}
 use Rattle.sc_meaning.specs.sound.Definitions.{Lawful, Player, as_nodes, births, client_seat, client_seats, node_seat, player_table, route_of, schedule, system_of}
 use Rattle.sc_live_orderly.specs.Definitions.{is_told}
-use Rattle.sc_live_healed.proofs.FixedJournals.{Rows, IsFixedPlayer, IsOf, IsFixedJournal, Brings, fresh, given, first_fixed, brings, next_fixed, AreUntold}
+use Rattle.sc_live_healed.proofs.FixedJournals.{Rows, IsFixedPlayer, IsOf, IsFixedJournal, Brings, fresh, given, first_fixed, brings, next_fixed, AreUntold, untold_parts}
 use Rattle.sc_live_healed.specs.Definitions.{IsFixedBody, IsFixedMail, IsFixedNode}
 use Rattle.sc_live_healed.proofs.FixedNodes.{AreFresh, MayTake, One, into, one_ticks}
 use Rattle.sc_live_healed.proofs.NodeMail.{TakesMail, PassesMail, mail_taken}
@@ -211,10 +211,6 @@ module _ (g : Growth) (words : ℕ → ℕ → ℕ × ℕ) (scenario : Scenario)
   journal_grown rows untold lawful =
       lawful-induction (system_of as_nodes words scenario) (λ (xs : Rows). AreUntold words scenario bounded off xs → IsGrownJournal g scenario (g.bound_at (length xs)) xs)
       (λ xs row keeps step more. (
-      let parts = untold_parts xs row more in
+      let parts = untold_parts words scenario bounded off xs row more in
       let same : g.bound_at (length xs) + g.adds ≡ g.bound_at (length (xs ++ row ∷ [])) = g.then_ (length xs) ∙ ap g.bound_at (sym (length_push xs row)) in
       subst (λ (n : ℕ). IsGrownJournal g scenario n (xs ++ row ∷ [])) same (next_near (g.bound_at (length xs)) xs row parts.1 (keeps parts.0) step))) (schedule scenario) rows (λ _. first_near) lawful untold
-    where
-      untold_parts : (xs : Rows) (row : Row Mail OrderLine) → AreUntold words scenario bounded off (xs ++ row ∷ []) → AreUntold words scenario bounded off xs × (is_told row.event ≡ false)
-      untold_parts [] row untold = (tt, untold.0)
-      untold_parts (x ∷ xs) row untold = (let p = untold_parts xs row untold.1 in ((untold.0, p.0), p.1))

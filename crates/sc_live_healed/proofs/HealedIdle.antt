@@ -19,7 +19,7 @@ use Rattle.sc_live_orderly.specs.Definitions.{Ticks, Turn, turn_lines, HasTurns}
 use Rattle.sc_live_orderly.proofs.TakenTurns.{turns_taken}
 use Rattle.sc_live_healed.proofs.FixedNodes.{AreFresh, IsOne, name_one}
 use Rattle.sc_live_healed.proofs.FixedBirths.{groups_fresh}
-use Rattle.sc_live_healed.proofs.FixedJournals.{Rows, IsOf, IsFixedPlayer, AreUntold, journal_fixed}
+use Rattle.sc_live_healed.proofs.FixedJournals.{Rows, IsOf, IsFixedPlayer, AreUntold, untold_prefix, journal_fixed}
 use Rattle.sc_live_healed.proofs.FreshBallots.{ballots_fresh, seen_at}
 use Rattle.sc_live_healed.proofs.DeliveredViews.{player_view}
 use Rattle.sc_live_healed.proofs.GrowingJournals.{PlayerGrown, journal_grown}
@@ -82,14 +82,10 @@ module _ (words : ℕ → ℕ → ℕ × ℕ) (scenario : Scenario) (bounded : I
     gets : (who : ℕ) → lives scenario who ≡ true → may_get (numbers_of (births as_nodes scenario)) before who ≡ true
     gets who l = (let all = turns_kind s before turns rows t in living_gets scenario words before (lawful-prefix s (schedule scenario) before all.0 (subst (Lawful as_nodes words scenario) all.1 lawful)) who l)
 
-    first_untold : (xs ys : Rows) → AreUntold words scenario bounded off (xs ++ ys) → AreUntold words scenario bounded off xs
-    first_untold [] ys u = tt
-    first_untold (x ∷ xs) ys u = (u.0, first_untold xs ys u.1)
-
     rounds : (first later : Rows) → rows ≡ first ++ later → HaveRounds scenario first
     rounds first later e seat is_of node is =
         let l = lawful-prefix s (schedule scenario) first later (subst (Lawful as_nodes words scenario) e lawful) in
-        let u = first_untold first later (subst (AreUntold words scenario bounded off) e untold) in
+        let u = untold_prefix words scenario bounded off first later (subst (AreUntold words scenario bounded off) e untold) in
         let parts = ap length e ∙ length-append first later in
         let grown : PlayerGrown rounds_grow (1 + length first) (Node node) = subst (PlayerGrown rounds_grow (1 + length first)) is ((journal_grown rounds_grow words scenario bounded off first u l).players seat is_of) in
         Each-from (λ (r : ReplicaState). r.top.round ≡ 2 ^ 32 - 1 → ⊥) node.replicas (λ r a top. (let low : r.top.round ≤ 1 + length first = Each-among (λ (x : ReplicaState). x.top.round ≤ 1 + length first) node.replicas r grown a in omega (arith, low, top, parts, few)))

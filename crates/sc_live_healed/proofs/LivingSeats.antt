@@ -4,6 +4,8 @@ use Rattle.std.specs.List.{list_any}
 use Rattle.std.proofs.lemmas.Bool.{cond_both, and_parts, eqb-true, eq-eqb, leb-true, le-leb, true≢false, cases_Bool, ltb-true}
 use Rattle.sc_base.specs.Definitions.{Among, is_majority, is_member, votes_of, most_nodes}
 use Rattle.sc_words.proofs.PaxosProofs.Lemmas.{Each-among}
+use Rattle.sc_base.proofs.Lemmas.{and_both}
+use Rattle.sc_law_groups.proofs.GroupProofs.Lemmas.{among_numbers}
 use Rattle.sc_paxos_law.proofs.Lemmas.{Among-either, from_map}
 use Rattle.sc_node_table.specs.Values.{Seat, Row, Base, OrderLine, Mail, Node, Client}
 use Rattle.sc_actor.specs.Definitions.{acted, input_of, replay, value, may_get, has_crashed, numbers_of}
@@ -31,11 +33,6 @@ module _ (groups : List Base) (policy : Bool) where
     where
       above : (x y : ℕ) → x ≤ y → (x ≡ y → ⊥) → x + 1 ≤ y
       above x y le ne = omega (arith, le, ne)
-
-number_bounds : (from count n : ℕ) → Among n (numbers_from from count) → (from ≤ n) × (n < from + count)
-number_bounds from zero n a = absurd a
-number_bounds from (suc count) n (inl e) = (omega (arith, e), omega (arith, e))
-number_bounds from (suc count) n (inr a) = (let b = number_bounds (from + 1) count n a in let low = b.0 in let high = b.1 in (omega (arith, low), omega (arith, high)))
 
 -- ---- clients stay clients
 
@@ -72,7 +69,7 @@ module _ (scenario : Scenario) where
       elim (Among-either seat (map (node_seat as_nodes scenario.groups scenario.policy) (numbers_from 1 scenario.nodes)) (client_seats scenario.groups scenario.clients) a) [
         | inl n ↦ (
             let m = from_map (node_seat as_nodes scenario.groups scenario.policy) (numbers_from 1 scenario.nodes) seat n in
-            let b = number_bounds 1 scenario.nodes m.0 m.1 in
+            let b = among_numbers 1 scenario.nodes m.0 m.1 in
             let low = b.0 in
             let high = b.1 in
             subst (IsOf scenario) m.2 (node_found m.0 low (omega (arith, high))))
@@ -104,12 +101,7 @@ module _ (scenario : Scenario) where
       let b = living_bounds who l in
       let high = b.1 in
       let most = bounded.nodes.1 in
-      both (nat_le 1 who) (nat_le who most_nodes) (le-leb 1 who b.0) (le-leb who most_nodes (omega (arith, high, most)))
-    where
-      both : (a b : Bool) → a ≡ true → b ≡ true → (a && b) ≡ true
-      both true true e f = refl
-      both false b e f = absurd (cc)
-      both true false e f = absurd (cc)
+      and_both (nat_le 1 who) (nat_le who most_nodes) (le-leb 1 who b.0) (le-leb who most_nodes (omega (arith, high, most)))
 
   -- and may get mail, whatever the journal
   pub living_gets : (words : ℕ → ℕ → ℕ × ℕ) (rows : Rows) → Lawful as_nodes words scenario rows → (who : ℕ) → lives scenario who ≡ true → may_get (numbers_of (births as_nodes scenario)) rows who ≡ true

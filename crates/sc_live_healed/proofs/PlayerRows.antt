@@ -1,14 +1,14 @@
 -- What an actor's row does to a group: its replica of the group moves, asks within the greatest ballot that it has seen, and promises nothing but what a mail brings.
-use Rattle.std.proofs.Common.{◌≡◌, ℕ, zero, suc, ◌<◌, ◌≤◌, Bool, false, List, [], ◌∷◌, ◌++◌, Option, Some, None, ◌⊎◌, inl, inr, refl, sym, ◌∙◌, subst, arith}
+use Rattle.std.proofs.Common.{◌≡◌, ℕ, ◌<◌, ◌≤◌, Bool, false, List, [], ◌∷◌, ◌++◌, Option, Some, None, ◌⊎◌, inl, inr, refl, sym, ◌∙◌, subst, arith}
 use Rattle.std.specs.Option.{option_map}
 use Rattle.sc_base.specs.Definitions.{Among, Each, Drawer, same_draw}
 use Rattle.sc_base.proofs.Lemmas.{draw_is}
-use Rattle.sc_words.proofs.PaxosProofs.Lemmas.{Each-among, Each-append, find_found}
-use Rattle.sc_paxos_law.proofs.Lemmas.{place_among}
+use Rattle.sc_words.proofs.PaxosProofs.Lemmas.{Each-among, Each-append, find_found, Each-weaker}
+use Rattle.sc_law_groups.proofs.GroupProofs.Lemmas.{number_among}
 use Rattle.sc_node_table.specs.Values.{Event, Deliver, Drop, Again, Crash, Input, Got, Base, OrderLine, Mail, Ask, Node, Client}
 use Rattle.sc_actor.specs.declared.rows.Event.TheVariants.{Tick as TickEvent, Go as GoEvent, Told as ToldEvent}
 use Rattle.sc_actor.specs.declared.rows.Input.TheVariants.{Tick, Go, Told as ToldInput}
-use Rattle.sc_actor.specs.Definitions.{numbered, acted, input_of}
+use Rattle.sc_actor.specs.Definitions.{acted, input_of}
 use Rattle.sc_client_table.specs.table.Definitions.{Client as ClientState}
 use Rattle.sc_client_table.proofs.TableProofs.TurnLemmas.{sends_in_turn}
 use Rattle.sc_node_table.specs.Definitions.{NodeState, ReplicaState, Place, name_of, group_of_mail, mailed, ticked, tick_row, next}
@@ -31,10 +31,6 @@ use Rattle.sc_live_healed.specs.Definitions.{IsFixedMail, IsFixedNode}
 each_both : {X : Type 0} (P Q : X → Type 0) (xs : List X) → Each P xs → Each Q xs → Each (λ x. P x × Q x) xs
 each_both P Q [] p q = tt
 each_both P Q (x ∷ xs) p q = ((p.0, q.0), each_both P Q xs p.1 q.1)
-
-each_so : {X : Type 0} (P Q : X → Type 0) (xs : List X) → ((x : X) → P x → Q x) → Each P xs → Each Q xs
-each_so P Q [] f p = tt
-each_so P Q (x ∷ xs) f p = (f x p.0, each_so P Q xs f p.1)
 
 module _ (words : ℕ → ℕ → ℕ × ℕ) (scenario : Scenario) (bounded : IsBounded scenario) (off : scenario.policy ≡ false) (base : Base) (among : Among base scenario.groups) where
   fresh : AreFresh scenario.groups
@@ -80,12 +76,12 @@ module _ (words : ℕ → ℕ → ℕ × ℕ) (scenario : Scenario) (bounded : I
   -- what it says
   says : (who : ℕ) (place : Place) (after : Player) → View after ≡ Some place.0 → Each (IsSaid base who) place.1 → Each (λ (mail : Mail). AsksWithin place.0.top.round mail.body) place.1 → Each (AsksSo who after) place.1
   says who place after is said asks =
-      each_so (λ (mail : Mail). IsSaid base who mail × AsksWithin place.0.top.round mail.body) (AsksSo who after) place.1
-      (λ mail b of. inr (b.0.0, λ r e. subst (λ (x : ReplicaState). AsksWithin x.top.round mail.body) (one is e) b.1))
+      Each-weaker (λ (mail : Mail). IsSaid base who mail × AsksWithin place.0.top.round mail.body) (AsksSo who after)
+      (λ mail b of. inr (b.0.0, λ r e. subst (λ (x : ReplicaState). AsksWithin x.top.round mail.body) (one is e) b.1)) place.1
       (each_both (IsSaid base who) (λ (mail : Mail). AsksWithin place.0.top.round mail.body) place.1 said asks)
 
   says_no : (who : ℕ) (after : Player) (mails : List Mail) → Each (λ (m : Mail). group_of_mail m.body ≡ Some base.core.id → ⊥) mails → Each (AsksSo who after) mails
-  says_no who after mails none = each_so (λ (m : Mail). group_of_mail m.body ≡ Some base.core.id → ⊥) (AsksSo who after) mails (λ mail other of. absurd (other of)) none
+  says_no who after mails none = Each-weaker (λ (m : Mail). group_of_mail m.body ≡ Some base.core.id → ⊥) (AsksSo who after) (λ mail other of. absurd (other of)) mails none
 
   module _ (sent : List Mail) (node : NodeState) (me : ℕ) (mine : node.me ≡ me) (k : IsFixedNode scenario.groups node) (bound : ℕ) (near : PlayerNear bound (Node node)) (once : HasOne (Node node)) where
     low : (r : ReplicaState) → View (Node node) ≡ Some r → r.acceptor.floor < next r
@@ -153,14 +149,10 @@ module _ (words : ℕ → ℕ → ℕ × ℕ) (scenario : Scenario) (bounded : I
   takes sent who (Node node) Go bound may given_ k near once = rests sent who (Node node)
   takes sent who (Node node) (ToldInput line) bound may given_ k near once = absurd may
 
-  place_of_mail : (sent : List Mail) (number : ℕ) (mail : Mail) → numbered sent number ≡ Some mail → Among mail sent
-  place_of_mail sent zero mail e = absurd (cc)
-  place_of_mail sent (suc place) mail e = place_among sent place mail e
-
   pub player_rows : (sent : List Mail) (who : ℕ) (p : Player) (event : Event OrderLine) (bound : ℕ) → Each (IsFixedMail scenario.groups) sent → Brings sent who event → IsFixedPlayer scenario.groups who p → PlayerNear bound p → HasOne p → PlayerRow sent who p (acted player_table p (input_of sent event))
   player_rows sent who p (Deliver number) bound s b k near once =
       subst (λ (o : Option Mail). PlayerRow sent who p (acted player_table p (option_map Got o))) (sym b.1)
-      (takes sent who p (Got b.0) bound (given words scenario bounded off sent number b.0 s b.1, b.2) (λ mail e. (let same : b.0 ≡ mail = cc in subst (λ (m : Mail). Among m sent) same (place_of_mail sent number b.0 b.1))) k near once)
+      (takes sent who p (Got b.0) bound (given words scenario bounded off sent number b.0 s b.1, b.2) (λ mail e. (let same : b.0 ≡ mail = cc in subst (λ (m : Mail). Among m sent) same (number_among sent number b.0 b.1))) k near once)
   player_rows sent who p TickEvent bound s b k near once = takes sent who p Tick bound tt (λ mail e. absurd (cc)) k near once
   player_rows sent who p GoEvent bound s b k near once = takes sent who p Go bound tt (λ mail e. absurd (cc)) k near once
   player_rows sent who p (ToldEvent line) bound s b k near once = absurd b

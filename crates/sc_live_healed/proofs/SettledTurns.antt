@@ -22,7 +22,7 @@ use Rattle.sc_live_orderly.specs.Turns.{as_list}
 use Rattle.sc_live_healed.proofs.FixedWalks.{IsFresh, IsMember}
 use Rattle.sc_live_healed.proofs.FixedNodes.{AreFresh}
 use Rattle.sc_live_healed.proofs.FixedBirths.{groups_fresh}
-use Rattle.sc_live_healed.proofs.FixedJournals.{Rows, IsOf, IsFixedJournal, AreUntold}
+use Rattle.sc_live_healed.proofs.FixedJournals.{Rows, IsOf, IsFixedJournal, AreUntold, untold_prefix}
 use Rattle.sc_live_healed.proofs.LivingActors.{acts_row, seats_stay_nodes, turns_get, turns_kind}
 use Rattle.sc_live_healed.proofs.LivingMajorities.{passes_more}
 use Rattle.sc_live_healed.proofs.NearSlots.{NamesNear, StaysNear}
@@ -59,13 +59,9 @@ module _ (words : ℕ → ℕ → ℕ × ℕ) (scenario : Scenario) (bounded : I
   stands : (xs ys : Rows) → whole ≡ xs ++ ys → Stands xs
   stands xs ys e =
       let first = lawful-prefix s (schedule scenario) xs ys (subst (Lawful as_nodes words scenario) e is_lawful) in
-      let plain = first_untold xs (subst (AreUntold words scenario bounded off) e is_untold) in
+      let plain = untold_prefix words scenario bounded off xs ys (subst (AreUntold words scenario bounded off) e is_untold) in
       let parts : length whole ≡ length xs + length ys = ap length e ∙ length-append xs ys in
       record { lawful = first; untold = plain; few = omega (arith, are_few, parts); near = journal_near words scenario bounded off xs plain first }
-    where
-      first_untold : (zs : Rows) → AreUntold words scenario bounded off (zs ++ ys) → AreUntold words scenario bounded off zs
-      first_untold [] u = tt
-      first_untold (z ∷ zs) u = (u.0, first_untold zs u.1)
 
   fitting : (xs ys : Rows) → whole ≡ xs ++ ys → IsFixedJournal scenario xs × Each (λ (m : Mail). FitsSlots m.body) (mails xs)
   fitting xs ys e =
