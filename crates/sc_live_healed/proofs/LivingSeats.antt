@@ -82,7 +82,7 @@ module _ (scenario : Scenario) where
       elim (Among-either seat (map (node_seat as_nodes scenario.groups scenario.policy) (numbers_from 1 scenario.nodes)) (client_seats scenario.groups scenario.clients) a) [
         | inl n ↦ (
             let m = from_map (node_seat as_nodes scenario.groups scenario.policy) (numbers_from 1 scenario.nodes) seat n in
-            let b = number_bounds 1 scenario.nodes m.0 m.1 in
+            let b = among_numbers 1 scenario.nodes m.0 m.1 in
             let low = b.0 in
             let high = b.1 in
             let same = ap (λ (s : Seat Player). s.who) m.2 in
