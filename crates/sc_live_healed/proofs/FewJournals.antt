@@ -31,7 +31,7 @@ use Rattle.sc_live_healed.proofs.FixedRows.{takes_mail}
 use Rattle.sc_live_healed.proofs.FixedTicks.{ticks}
 use Rattle.sc_live_healed.proofs.FixedBesides.{FixedTickStates, both_walk, both_ticks}
 use Rattle.sc_live_healed.proofs.FixedBirths.{place_of}
-use Rattle.sc_live_healed.proofs.FixedJournals.{Rows, IsFixedPlayer, IsOf, IsFixedJournal, Brings, fresh, given, first_fixed, brings, next_fixed, AreUntold}
+use Rattle.sc_live_healed.proofs.FixedJournals.{Rows, IsFixedPlayer, IsOf, IsFixedJournal, Brings, fresh, given, first_fixed, brings, next_fixed, AreUntold, untold_parts}
 use Rattle.sc_live_healed.proofs.FixedNodes.{AreFresh, MayTake, One, into, one_ticks}
 use Rattle.sc_live_healed.proofs.NodeMail.{TakesMail, PassesMail, mail_taken}
 use Rattle.sc_live_healed.proofs.AskingJournals.{IsAskingJournal, IsAskingPlayer, next_asking, first_asking, issued_push}
@@ -252,11 +252,7 @@ module _ (client bound : ℕ) where
         (λ xs row keeps step. (
           next_asking words scenario xs row step keeps.0,
           λ more few. (
-              let parts = untold_parts xs row more in
+              let parts = untold_parts words scenario bounded off xs row more in
               next_few xs row parts.1 keeps.0 (keeps.1 parts.0 (λ seq e. few seq (issued_push words scenario xs row client seq ∙ or_left (list_any (issues client seq) xs) (issues client seq row || false) e))) step
               (λ seq e. few seq (issued_push words scenario xs row client seq ∙ or_right (list_any (issues client seq) xs) (issues client seq row || false) (or_left (issues client seq row) false e)))),
         )) (schedule scenario) rows (first_asking words scenario, λ _ _. first_few) lawful).1 untold few
-      where
-        untold_parts : (xs : Rows) (row : Row Mail OrderLine) → AreUntold words scenario bounded off (xs ++ row ∷ []) → AreUntold words scenario bounded off xs × (is_told row.event ≡ false)
-        untold_parts [] row untold = (tt, untold.0)
-        untold_parts (x ∷ xs) row untold = (let p = untold_parts xs row untold.1 in ((untold.0, p.0), p.1))
