@@ -30,7 +30,21 @@ use Rattle.sc_live_healed.proofs.UntoldRows.{Spares, rows_untold, rows_spare}
 use Rattle.sc_live_healed.proofs.RemainingTurns.{turns_from}
 use Rattle.sc_live_healed.proofs.CrashedNodes.{has_crash, line_crashes, asks_spare}
 use Rattle.sc_live_healed.proofs.AnsweredTurns.{turn_answers}
-use Rattle.sc_live_healed.specs.Definitions.{crashes, lives, HasLivingMajorities, ClientTurn, node_lines, client_lines, IsHealed, IsIdle, IsAtEnd, IsKicked, HasReplies, AskedACrashedNode, HealedStoresAnswer}
+use Rattle.sc_live_healed.specs.Definitions.{crashes, lives, HasLivingMajorities, NodeTurn, ClientTurn, node_lines, client_lines, IsHealed, IsIdle, IsAtEnd, IsKicked, HasReplies, AskedACrashedNode, HealedStoresAnswer}
+
+-- the lines up to some turns of clients, and those of the other turns
+lines_apart : (before : List SchedLine) (most : ℕ) (sweep : List NodeTurn) (done rest : List ClientTurn) → lines_to before most sweep (done ++ rest) ≡ lines_to before most sweep done ++ flat_map client_lines rest
+lines_apart before most sweep done rest =
+    let first : List SchedLine = before ++ (Settle most ∷ flat_map node_lines sweep) in
+    ap (λ ls. first ++ ls) (flat_append client_lines done rest) ∙ sym (append_assoc first (flat_map client_lines done) (flat_map client_lines rest))
+
+-- a line that crashes a node is among the prefix where it is not among the others
+crash_here : (node : ℕ) (lines first others : List SchedLine) → lines ≡ first ++ others → list_any (crashes node) others ≡ false → list_any (crashes node) lines ≡ true → list_any (crashes node) first ≡ true
+crash_here node lines first others e none some = alone (list_any (crashes node) first) (list_any (crashes node) others) none (sym (ap (λ ls. list_any (crashes node) ls) e ∙ list_any-append (crashes node) first others) ∙ some)
+  where
+    alone : (a b : Bool) → b ≡ false → (a || b) ≡ true → a ≡ true
+    alone true b f e = refl
+    alone false b f e = absurd (true≢false (sym e ∙ f))
 
 module _ (words : ℕ → ℕ → ℕ × ℕ) (scenario : Scenario) (journal : Rows) (healed : IsHealed scenario) (valid : IsValid scenario) (majorities : HasLivingMajorities scenario) (lawful : Lawful as_nodes words scenario journal) (few : length journal ≤ 2 ^ 28) where
   abbrev system : System Player Mail OrderLine
@@ -95,19 +109,13 @@ module _ (words : ℕ → ℕ → ℕ × ℕ) (scenario : Scenario) (journal : R
       | inl some ↦
           let first : List SchedLine = lines_to healed.before healed.most healed.sweep done in
           let parts : scenario.lines ≡ first ++ flat_map client_lines rest =
-          healed.lines_are ∙ ap (λ asks. lines_to healed.before healed.most healed.sweep asks) asks_are ∙ ap (λ ls. healed.before ++ (Settle healed.most ∷ flat_map node_lines healed.sweep) ++ ls) (flat_append client_lines done rest)
-          ∙ sym (append_assoc (healed.before ++ (Settle healed.most ∷ flat_map node_lines healed.sweep)) (flat_map client_lines done) (flat_map client_lines rest)) in
-          let any : list_any (crashes node) first || list_any (crashes node) (flat_map client_lines rest) ≡ true = sym (ap (λ ls. list_any (crashes node) ls) parts ∙ list_any-append (crashes node) first (flat_map client_lines rest)) ∙ some in
-          let here : list_any (crashes node) first ≡ true = alone (list_any (crashes node) first) (list_any (crashes node) (flat_map client_lines rest)) (asks_spare node rest) any in
+          healed.lines_are ∙ ap (λ asks. lines_to healed.before healed.most healed.sweep asks) asks_are ∙ lines_apart healed.before healed.most healed.sweep done rest in
+          let here : list_any (crashes node) first ≡ true = crash_here node scenario.lines first (flat_map client_lines rest) parts (asks_spare node rest) some in
           let split = has_crash node first here in
           let mapped : lines_of done ≡ map line_of split.pre ++ CrashLine node ∷ map line_of split.post = ap (λ ls. map line_of ls) split.lines_are ∙ map_parts split.pre (Crash node ∷ split.post) in
           absurd (true≢false (sym (line_crashes system (map line_of split.pre) (map line_of split.post) node rows (subst (λ ls. IsLawful system ls rows) mapped rows_lawful) (subst (λ ls. IsWhole system ls rows) mapped rows_whole) _ (node_found scenario node low high)) ∙ alive))
     ]
       where
-        alone : (a b : Bool) → b ≡ false → (a || b) ≡ true → a ≡ true
-        alone true b f e = refl
-        alone false b f e = absurd (true≢false (sym e ∙ f))
-
         map_parts : (xs ys : List SchedLine) → map line_of (xs ++ ys) ≡ map line_of xs ++ map line_of ys
         map_parts [] ys = refl
         map_parts (x ∷ xs) ys = ap (λ ls. line_of x ∷ ls) (map_parts xs ys)

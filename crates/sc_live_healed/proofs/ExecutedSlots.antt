@@ -141,7 +141,7 @@ module _ (base : Base) (me : ℕ) (ballot : Ballot) (Held : Flight Command → T
   abbrev S : ℕ → Place → Type 0
   S taken place = IsServing base me ballot Held taken place
 
-  -- what an entry of a replica that has taken so many slots leaves
+  -- what an entry of a replica that has taken this number of slots leaves
   pub record IsEntered (taken : ℕ) (before : ReplicaState) (place : Place) : Type 0 where
     pub serves : S (taken - 1) place
     pub same_next : next place.0 ≡ next before + 1

@@ -28,7 +28,7 @@ use Rattle.sc_live_healed.proofs.HeldRequestRows.{answers_so}
 use Rattle.sc_live_healed.proofs.NumberedRequests.{IsFewPlace, HasNoted}
 use Rattle.sc_live_healed.proofs.LoneRequests as lone
 
--- ---- the request is served
+-- ---- the request is answered with a reply
 
 -- an effect that answers with a reply
 abbrev Replied : Group × Effect → Type 0
@@ -81,7 +81,7 @@ module _ (base : Base) (me client first seq : ℕ) (early : Bool) (Elsewhere : T
   abbrev pub LoneHears : MailBody → Type 0
   LoneHears body = lone.IsLoneBody client first body × (Elsewhere ⊎ lone.IsUnlearnt client first seq early Elsewhere body)
 
-  -- the request is served
+  -- the request is answered with a reply
   pub served_so : (r : ReplicaState) (mails : List Mail) (op : Op) → f.P (r, mails) → at_slot r.ready (next r) ≡ Some (Call client seq op) → (reply : Reply) × (answer_of (applied r.group (Call client seq op)).1 ≡ Some (Value reply))
   served_so r mails op k e =
       let frame = f.frame (r, mails) k in

@@ -30,7 +30,7 @@ module _ (words : ℕ → ℕ → ℕ × ℕ) (scenario : Scenario) (bounded : I
     pub taken : IsTakenJournal scenario rows
     pub few : (bound : ℕ) → HasSentFew client bound rows → IsFewJournal client bound scenario rows
 
-  -- a first part of a lawful journal without orders
+  -- a prefix of a lawful journal without orders
   pub frames_of : (client : ℕ) (rows later : Rows) → AreUntold words scenario bounded off (rows ++ later) → Lawful as_nodes words scenario (rows ++ later) → Frames client rows
   frames_of client rows later untold lawful =
       let law = lawful-prefix (system_of as_nodes words scenario) (schedule scenario) rows later lawful in

@@ -29,7 +29,7 @@ pub record IsUnderWay (base : Base) (me : ℕ) (ballot : Ballot) (Held : Flight 
   pub undecided : IsUndecided base flight
   pub from : Held flight ⊎ IsAsked base me ballot mails flight
 
--- a replica of a group that is not reshaped, which runs with this ballot and has taken so many slots
+-- a replica of a group that is not reshaped, which runs with this ballot and has taken this number of slots
 pub record IsServing (base : Base) (me : ℕ) (ballot : Ballot) (Held : Flight Command → Type 0) (taken : ℕ) (place : Place) : Type 0 where
   pub running : place.0.running ≡ true
   pub me_is : place.0.me ≡ me
