@@ -1,18 +1,18 @@
 -- What offers, votes and entries do with the slots that a leader has taken, and with a request that it holds there.
-use Rattle.std.proofs.Common.{◌≡◌, ℕ, ◌+◌, ◌-◌, ◌<◌, ◌≤◌, eqb, Bool, true, false, true≢false, cond, List, [], ◌∷◌, ◌++◌, length, count_by, Option, Some, None, ◌⊎◌, inl, inr, refl, sym, ◌∙◌, ap, subst, arith}
+use Rattle.std.proofs.Common.{◌≡◌, ℕ, ◌+◌, ◌<◌, ◌≤◌, eqb, List, [], ◌∷◌, ◌++◌, length, Option, Some, None, ◌⊎◌, inl, inr, refl, sym, ◌∙◌, ap, subst, arith}
 use Rattle.std.specs.Option.{option_map}
-use Rattle.std.proofs.lemmas.Bool.{cond_both, cases_eq, cases_lt, eqb-true, eqb-false, eq-eqb, ne_eqb}
+use Rattle.std.proofs.lemmas.Bool.{cond_both, cases_eq, cases_lt, eqb-true, eq-eqb, ne_eqb}
 use Rattle.sc_base.specs.Definitions.{Among, same_ballot, is_majority}
 use Rattle.sc_node_table.specs.Values.{Ballot, Command, Flight, Counted, Chosen, NotYet}
-use Rattle.sc_words.specs.paxos.Definitions.{LeaderState, flight_at, without_flight, without_flight_at, with_flight_at, with_voters, counted, vote_at, tallied, voters_after, kept_voters}
+use Rattle.sc_words.specs.paxos.Definitions.{LeaderState, flight_at, without_flight, without_flight_at, with_flight_at, with_voters, counted, vote_at, voters_after, kept_voters}
 use Rattle.sc_words.proofs.PaxosProofs.Lemmas.{find_found}
 use Rattle.sc_node_table.specs.Definitions.{ReplicaState, next, taken_at, at_slot, with_slot, without_slot, either}
 use Rattle.sc_live_plain.specs.Definitions.{takers}
-use Rattle.sc_live_plain.proofs.RowsProofs.SlotCounts.{count-cons, count-push, one_if, one_yes, one_no, one_if_most, entries_at, at_found, at_only, at_nothing, out_here, out_other, out_none, out_among, with_count, with_it, with_among, find_some}
+use Rattle.sc_live_plain.proofs.RowsProofs.SlotCounts.{count-push, one_if, one_yes, one_no, one_if_most, entries_at, at_nothing, out_here, out_other, out_none, out_among, with_count, with_it, with_among, find_some}
 use Rattle.sc_live_plain.proofs.LeadersProofs.LeadingReplicas.{flights_at}
 use Rattle.sc_live_plain.proofs.LeadersProofs.Flights.{only_flight, voted_count, voted_value}
 use Rattle.sc_live_plain.proofs.RowsProofs.RepeatedMail.{among_push, last_among}
-use Rattle.sc_live_healed.proofs.TakenRequests.{AreApart, IsHeld, Queued, Flying, Ready, IsOurs, flight_counts, entry_counts}
+use Rattle.sc_live_healed.proofs.TakenRequests.{AreApart, IsHeld, Queued, Flying, Ready, IsOurs, flight_counts}
 
 abbrev Flights : Type 0
 Flights = List (Flight Command)

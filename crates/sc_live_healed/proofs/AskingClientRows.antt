@@ -1,12 +1,12 @@
 -- What a client does in each row, whatever comes: it rests, or asks a group that it knows.
-use Rattle.std.proofs.Common.{◌≡◌, ℕ, ◌+◌, ◌≤◌, ◌||◌, eqb, Bool, true, false, true≢false, cond, List, [], length, Option, Some, None, ◌⊎◌, inl, inr, refl, sym, ◌∙◌, ap, subst, arith}
+use Rattle.std.proofs.Common.{◌≡◌, ℕ, ◌≤◌, ◌||◌, Bool, true, false, true≢false, cond, [], length, Option, Some, None, ◌⊎◌, inl, inr, refl, sym, ◌∙◌, ap, subst, arith}
 use Rattle.std.proofs.lemmas.Bool.{cond_both, eqb-true, eq-eqb}
 use Rattle.sc_node_table.specs.Values.{Draw, OrderLine, AnswerBody, Input, Got, Mail, MailBody, Answer, Value}
 use Rattle.sc_actor.specs.declared.rows.Input.TheVariants.{Tick, Go, Told}
-use Rattle.sc_client_table.specs.table.Definitions.{Client, ClientStep, waits_for, answer_taken, got, client_ticked, turned_on, table}
+use Rattle.sc_client_table.specs.table.Definitions.{Client, ClientStep, waits_for, answer_taken, got, client_ticked, table}
 use Rattle.sc_live_plain.specs.Definitions.{IsResting}
 use Rattle.sc_live_healed.specs.AskingClients.{IsAskingOn, IsAskingClient}
-use Rattle.sc_live_healed.proofs.AskingClients.{Asks, Ends, Ignores, Does, AsksOn, AsksNext, EndsNow, TakesNoNotice, redirects, turned, begun_on, answered_on}
+use Rattle.sc_live_healed.proofs.AskingClients.{Asks, Ends, Ignores, Does, AsksOn, AsksNext, EndsNow, TakesNoNotice, turned, begun_on, answered_on}
 
 -- ---- a client that asks on
 
@@ -43,7 +43,7 @@ does client a mail some = by mail.body refl
 -- ---- any client, and any input
 
 -- a client that rests takes no notice of mail
-rests_on : (started_ : Bool) (client : Client) → IsResting started_ client → (mail : Mail) → got mail.from mail.body client ≡ (client, [])
+pub rests_on : (started_ : Bool) (client : Client) → IsResting started_ client → (mail : Mail) → got mail.from mail.body client ≡ (client, [])
 rests_on started_ client r mail = by mail.body
   where
     by : (body : MailBody) → got mail.from body client ≡ (client, [])
@@ -63,7 +63,7 @@ ticks client a some =
     subst (λ (x : ClientStep). Asks client a.seq x) (sym (ap (λ (o : Option ℕ). client_ticked client o client.asked) a.waits ∙ ap (client_ticked client (Some a.seq)) a.asked)) (turned client a some)
 
 -- one that rests does nothing
-rests_ticked : (started_ : Bool) (client : Client) → IsResting started_ client → table client Tick ≡ (client, [])
+pub rests_ticked : (started_ : Bool) (client : Client) → IsResting started_ client → table client Tick ≡ (client, [])
 rests_ticked started_ client r = ap (λ (o : Option ℕ). client_ticked client o client.asked) r.waits
 
 -- whether an input starts a client

@@ -1,5 +1,5 @@
 -- What a client does with each mail: it sends its request on, ends, or takes no notice; and it asks a group that it knows.
-use Rattle.std.proofs.Common.{◌≡◌, ℕ, ◌+◌, ◌-◌, ◌<◌, ◌≤◌, ◌&&◌, eqb, Bool, true, false, true≢false, cond, List, [], ◌∷◌, ◌++◌, length, Option, Some, None, ◌⊎◌, inl, inr, refl, sym, ◌∙◌, ap, subst, arith}
+use Rattle.std.proofs.Common.{◌≡◌, ℕ, ◌+◌, ◌-◌, ◌<◌, ◌≤◌, eqb, Bool, true, false, true≢false, cond, List, [], ◌∷◌, ◌++◌, length, Option, Some, None, ◌⊎◌, inl, inr, refl, sym, ◌∙◌, ap, subst, arith}
 use Rattle.std.specs.Prelude.{nat_le, slice_get, is_some}
 use Rattle.std.specs.Option.{option_map}
 use Rattle.std.specs.Map.{lookup}
@@ -8,13 +8,12 @@ use Rattle.std.proofs.lemmas.List.{length_push}
 use Rattle.std.proofs.lemmas.Option.{slice_get_within, slice_get_cases}
 use Rattle.sc_base.specs.Definitions.{Among, key_of, same_draw, pos_of}
 use Rattle.sc_base.proofs.Lemmas.{draw_is, same_name}
-use Rattle.sc_node_table.specs.Values.{Draw, Op, Reply, AnswerBody, Value, NotLeader, NotMine, Gone, Stale, Mail, MailBody, Answer}
+use Rattle.sc_node_table.specs.Values.{Draw, Op, Reply, AnswerBody, Value, NotLeader, NotMine, Gone, Stale, Mail, Answer}
 use Rattle.sc_client_table.specs.declared.lookup.ways.Way.{Way}
-use Rattle.sc_client_table.specs.lookup.Definitions.{KnownGroups, way_to, chosen, target_in, preferring, passed_on, learnt_from_not_mine, learnt_from_gone, changed, target_of, group_learnt, starting}
+use Rattle.sc_client_table.specs.lookup.Definitions.{KnownGroups, way_to, learnt_from_not_mine, learnt_from_gone, changed, target_of}
 use Rattle.sc_client_table.proofs.LookupProofs.KnownLemmas.{set_value-known, length-changed, some_learnt}
-use Rattle.sc_client_table.specs.table.Definitions.{Client, request_at, waiting_request, ClientStep, asked_of, sent_to, sent_where, chosen_for, request_sent, started, waits_for, was_asked, redirected, answer_taken, got, request_of, turned_on}
-use Rattle.sc_live_plain.specs.Definitions.{IsResting}
-use Rattle.sc_live_plain.proofs.PlainProofs.PlainKnownGroups.{one_chosen, chosen_is, IsChosen}
+use Rattle.sc_client_table.specs.table.Definitions.{Client, request_at, waiting_request, ClientStep, asked_of, sent_to, sent_where, chosen_for, request_sent, started, was_asked, redirected, answer_taken, request_of, turned_on}
+use Rattle.sc_live_plain.proofs.PlainProofs.PlainKnownGroups.{one_chosen, chosen_is}
 use Rattle.sc_live_healed.specs.AskingClients.{IsAskingOn, IsAskingClient}
 
 -- ---- groups that are known

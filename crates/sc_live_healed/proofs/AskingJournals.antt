@@ -1,27 +1,27 @@
 -- In each lawful journal every client rests or asks on, and has sent no request with a greater number than those that it has begun.
-use Rattle.std.proofs.Common.{◌≡◌, ℕ, zero, suc, ◌+◌, ◌-◌, ◌≤◌, ◌&&◌, ◌||◌, eqb, Bool, true, false, true≢false, cond, List, [], ◌∷◌, ◌++◌, map, find, length, Option, Some, None, ◌⊎◌, inl, inr, refl, sym, ◌∙◌, ap, subst, arith}
+use Rattle.std.proofs.Common.{◌≡◌, ℕ, ◌+◌, ◌-◌, ◌≤◌, ◌&&◌, ◌||◌, eqb, Bool, true, false, true≢false, cond, List, [], ◌∷◌, ◌++◌, map, find, length, Option, Some, None, ◌⊎◌, inl, inr, refl, sym, ◌∙◌, ap, subst, arith}
 use Rattle.std.specs.List.{list_any}
 use Rattle.std.specs.Prelude.{slice_get}
 use Rattle.std.specs.Option.{option_map}
-use Rattle.std.proofs.lemmas.Bool.{cond_both, cases_Bool, eqb-true, eq-eqb, and_parts, or_cases, both_ways}
+use Rattle.std.proofs.lemmas.Bool.{cond_both, eqb-true, eq-eqb, and_parts, or_cases}
 use Rattle.std.proofs.lemmas.List.{length_push}
 use Rattle.std.proofs.lemmas.List.Folds.{list_any-append}
-use Rattle.sc_base.specs.Definitions.{Among, Each, client_actor}
-use Rattle.sc_node_table.specs.Values.{Seat, Row, Event, Deliver, Drop, Again, Crash, Input, Got, OrderLine, Merge, Mail, MailBody, Request, Op, Base, Node, Client}
+use Rattle.sc_base.specs.Definitions.{Each, client_actor}
+use Rattle.sc_node_table.specs.Values.{Seat, Row, Event, Deliver, Drop, Again, Crash, Input, Got, OrderLine, Merge, Mail, Request, Op, Base, Node, Client}
 use Rattle.sc_actor.specs.declared.rows.Event.TheVariants.{Tick as TickEvent, Go as GoEvent, Told as ToldEvent}
 use Rattle.sc_actor.specs.declared.rows.Input.TheVariants.{Tick, Go, Told}
-use Rattle.sc_actor.specs.Definitions.{mails, numbered, acted, input_of, value, row_of, has_started, is_go, IsStep, IsOpen, IsLoose}
+use Rattle.sc_actor.specs.Definitions.{mails, numbered, acted, input_of, value, has_started, is_go, IsStep, IsOpen, IsLoose}
 use Rattle.sc_actor.proofs.Lemmas.{lawful-induction, value-snoc}
-use Rattle.sc_words.proofs.PaxosProofs.Lemmas.{Each-among, Each-append, Each-from, find_found}
+use Rattle.sc_words.proofs.PaxosProofs.Lemmas.{Each-among, Each-append, find_found}
 use Rattle.sc_scenario.specs.declared.scenario.scenarios.Scenario.{Scenario}
 use Rattle.sc_scenario.specs.declared.scenario.scenarios.Asks.{Asks as Requests}
-use Rattle.sc_client_table.specs.table.Definitions.{Client as ClientState, born_client, table, request_of, request_at, waiting_request, InTurn, SendsWaiting, Waits, Begins, TakesReply}
+use Rattle.sc_client_table.specs.table.Definitions.{Client as ClientState, table, request_at, InTurn, SendsWaiting, Waits, Begins, TakesReply}
 use Rattle.sc_client_table.proofs.TableProofs.TurnLemmas.{sends_in_turn}
-use Rattle.sc_meaning.specs.sound.Definitions.{Lawful, Player, as_nodes, births, client_seat, client_seats, node_seat, player_table, route_of, schedule, system_of, issues, asks_for, issue_row, issued_from}
+use Rattle.sc_meaning.specs.sound.Definitions.{Lawful, Player, as_nodes, births, client_seat, client_seats, node_seat, player_table, route_of, schedule, system_of, issues, asks_for, issued_from}
 use Rattle.sc_node_table.specs.Definitions.{numbers_from}
-use Rattle.sc_live_plain.specs.Definitions.{begun_ones, waiting_ones, IsResting}
+use Rattle.sc_live_plain.specs.Definitions.{begun_ones, waiting_ones}
 use Rattle.sc_live_healed.proofs.FixedJournals.{Rows, IsOf}
-use Rattle.sc_live_healed.specs.AskingClients.{IsAskingOn, IsAskingClient}
+use Rattle.sc_live_healed.specs.AskingClients.{IsAskingClient}
 use Rattle.sc_live_healed.proofs.AskingClientRows.{is_start, stays}
 
 -- a client, which has started or not, rests or asks on; and it has sent no request with a greater number than those that it has begun
@@ -96,7 +96,7 @@ module _ (words : ℕ → ℕ → ℕ × ℕ) (scenario : Scenario) where
   started_push : (rows : Rows) (row : Row Mail OrderLine) (who : ℕ) → has_started (rows ++ row ∷ []) who ≡ (has_started rows who || ((eqb row.who who && is_go row.event) || false))
   started_push rows row who = list_any-append (λ (r : Row Mail OrderLine). eqb r.who who && is_go r.event) rows (row ∷ [])
 
-  issued_push : (rows : Rows) (row : Row Mail OrderLine) (client seq : ℕ) → list_any (issues client seq) (rows ++ row ∷ []) ≡ (list_any (issues client seq) rows || (issues client seq row || false))
+  pub issued_push : (rows : Rows) (row : Row Mail OrderLine) (client seq : ℕ) → list_any (issues client seq) (rows ++ row ∷ []) ≡ (list_any (issues client seq) rows || (issues client seq row || false))
   issued_push rows row client seq = list_any-append (issues client seq) rows (row ∷ [])
 
   -- another actor's row
@@ -173,7 +173,7 @@ module _ (words : ℕ → ℕ → ℕ × ℕ) (scenario : Scenario) where
       by (Drop number) is sent_is once = silent (Drop number) refl is sent_is
       by (Again number) is sent_is once = silent (Again number) refl is sent_is
 
-  next_asking : (rows : Rows) (row : Row Mail OrderLine) → IsStep (system_of as_nodes words scenario) rows row → IsAskingJournal rows → IsAskingJournal (rows ++ row ∷ [])
+  pub next_asking : (rows : Rows) (row : Row Mail OrderLine) → IsStep (system_of as_nodes words scenario) rows row → IsAskingJournal rows → IsAskingJournal (rows ++ row ∷ [])
   next_asking rows row step k = record { players = λ seat is_of. subst (IsAskingPlayer (rows ++ row ∷ []) seat.who) (sym (value-snoc player_table seat rows row)) (by seat is_of step) }
     where
       by : (seat : Seat Player) → IsOf scenario seat → IsStep (system_of as_nodes words scenario) rows row → IsAskingPlayer (rows ++ row ∷ []) seat.who (cond (eqb row.who seat.who) (acted player_table (value player_table seat rows) (input_of (mails rows) row.event)).0 (value player_table seat rows))
@@ -235,7 +235,7 @@ module _ (words : ℕ → ℕ → ℕ × ℕ) (scenario : Scenario) where
       by [] = tt
       by (c ∷ cs) = (record { number = refl; asks = record { some = omega arith; state = inl (record { waits = refl; replies = inl (refl, refl) }) }; few = λ seq e. absurd (true≢false (sym e)) }, by cs)
 
-  first_asking : IsAskingJournal []
+  pub first_asking : IsAskingJournal []
   first_asking = record {
     players = λ seat is_of. Each-among IsBornSeat (births as_nodes scenario) seat
         (Each-append IsBornSeat (map (node_seat as_nodes scenario.groups scenario.policy) (numbers_from 1 scenario.nodes)) (client_seats scenario.groups scenario.clients) (nodes_born scenario.groups (numbers_from 1 scenario.nodes)) (clients_born scenario.groups scenario.clients))

@@ -1,5 +1,5 @@
 -- What an entry of a group that is not reshaped leaves: the replica with one more entry, whose slot is cleared; and of a counted one the answer and the Learns.
-use Rattle.std.proofs.Common.{◌≡◌, ℕ, ◌+◌, not, Bool, true, false, List, [], ◌∷◌, filter, Option, Some, None, refl, sym, ◌∙◌, ap}
+use Rattle.std.proofs.Common.{◌≡◌, ℕ, not, Bool, true, false, List, filter, Option, Some, None, refl, ◌∙◌, ap}
 use Rattle.sc_base.specs.Definitions.{is_member}
 use Rattle.sc_node_table.specs.Values.{Base, Core, Command, Effect, Mail, Learn, OrderResult}
 use Rattle.sc_group_table.specs.machine.Definitions.{Group, applied}

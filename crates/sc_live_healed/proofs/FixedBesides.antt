@@ -114,7 +114,7 @@ module _ (base : Base) (me : ℕ) (fresh : IsFresh base me) (x : FixedFacts) (t 
     wants = λ to slot group command r mails h p0 p1 k. (w.wants to slot group command r mails h.0 p0 p1 k.0, t.wants to slot group command r mails h p0 p1 k.0 k.1);
     stops = λ from r mails p0 p1 k. (w.stops from r mails p0 p1 k.0, t.stops from r mails p0 p1 k.0 k.1);
     jumps = λ from group slot sent sets r mails p0 p1 p2 k. (w.jumps from group slot sent sets r mails p0.0 p1 p2 k.0, t.jumps from group slot sent sets r mails p0 p1 p2 k.0 k.1);
-    refuses = λ client seq op answer r mails p0 k. (w.refuses client seq op answer r mails p0 k.0, t.refuses client seq op answer r mails p0 k.0 k.1);
+    refuses = λ from group client seq op answer r mails h p0 k. (w.refuses from group client seq op answer r mails h.0 p0 k.0, t.refuses client seq op answer r mails p0 k.0 k.1);
     requested = λ from group client seq op r mails p0 p1 p2 k. (w.requested from group client seq op r mails p0.0 p1 p2 k.0, t.requested from group client seq op r mails p0 p1 p2 k.0 k.1);
     requested_again = λ from group client seq other op r mails p0 p1 p2 p3 k. (w.requested_again from group client seq other op r mails p0.0 p1 p2 p3 k.0, t.requested_again from group client seq other op r mails p0 p1 p2 p3 k.0 k.1);
   }

@@ -203,11 +203,17 @@ module _ (words : ℕ → ℕ → ℕ × ℕ) (scenario : Scenario) (bounded : I
   abbrev pub AreUntold : Rows → Type 0
   AreUntold rows = Each (λ (row : Row Mail OrderLine). is_told row.event ≡ false) rows
 
+  -- of rows and one more
+  pub untold_parts : (xs : Rows) (row : Row Mail OrderLine) → AreUntold (xs ++ row ∷ []) → AreUntold xs × (is_told row.event ≡ false)
+  untold_parts [] row untold = (tt, untold.0)
+  untold_parts (x ∷ xs) row untold = (let p = untold_parts xs row untold.1 in ((untold.0, p.0), p.1))
+
+  -- and of rows and others
+  pub untold_prefix : (xs ys : Rows) → AreUntold (xs ++ ys) → AreUntold xs
+  untold_prefix [] ys untold = tt
+  untold_prefix (x ∷ xs) ys untold = (untold.0, untold_prefix xs ys untold.1)
+
   pub journal_fixed : (rows : Rows) → AreUntold rows → Lawful as_nodes words scenario rows → IsFixedJournal scenario rows
   journal_fixed rows untold lawful =
       lawful-induction (system_of as_nodes words scenario) (λ (xs : Rows). AreUntold xs → IsFixedJournal scenario xs)
       (λ xs row keeps step more. (let parts = untold_parts xs row more in next_fixed xs row parts.1 (keeps parts.0) step)) (schedule scenario) rows (λ _. first_fixed) lawful untold
-    where
-      untold_parts : (xs : Rows) (row : Row Mail OrderLine) → AreUntold (xs ++ row ∷ []) → AreUntold xs × (is_told row.event ≡ false)
-      untold_parts [] row untold = (tt, untold.0)
-      untold_parts (x ∷ xs) row untold = (let p = untold_parts xs row untold.1 in ((untold.0, p.0), p.1))

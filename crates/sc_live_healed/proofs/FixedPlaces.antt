@@ -76,7 +76,7 @@ module _ (base : Base) (me : ℕ) (fresh : IsFresh base me) where
     wants = λ to slot group command r mails h m low k. changes.sends base me fresh r to (Ask (name_of r) (next r)) mails (changes.name_is base me fresh r k.fixed, (fresh.member, m)) k;
     stops = λ from r mails m on k. changes.stops_at base me fresh from r mails m k;
     jumps = λ from group slot sent sets r mails h later off k. changes.jumps base me fresh from slot sent sets r mails h.1.0 h.2 h.3 off k;
-    refuses = λ client seq op answer r mails e k. changes.answers_client base me fresh r client seq answer mails (parts.refused_fine base me fresh op r answer k.fixed.group (leader_of r k.ballots) e) k;
+    refuses = λ from group client seq op answer r mails h e k. changes.answers_client base me fresh r client seq answer mails (parts.refused_fine base me fresh op r answer k.fixed.group (leader_of r k.ballots) e) k;
     requested = λ from group client seq op r mails h e none k. (let t = parts.request_taken base me fresh client seq op r k.fixed.group e in
         changes.with_backlog base me fresh r mails (r.backlog ++ Call client seq op ∷ []) t.0 (Each-append (IsFixedRequest base) r.backlog (Call client seq op ∷ []) k.fixed.backlog (t.1, tt)) k);
     requested_again = λ from group client seq other op r mails h e some more k. (let t = parts.request_taken base me fresh client seq op r k.fixed.group e in

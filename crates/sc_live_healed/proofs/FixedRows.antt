@@ -87,7 +87,7 @@ module _ (base : Base) (me : ℕ) (w : FixedWalk base me) where
 
   requests_by : (o : Option AnswerBody) (from : ℕ) (group : Draw) (client seq : ℕ) (op : Op) (place : Place) → refused_at place.0.group.core.gone op place.0 ≡ o → Hears from (Request group client seq op) → P place → P (requested o client seq op place)
   unfolding requested
-  requests_by (Some answer) from group client seq op (r, mails) e h k = w.refuses client seq op answer r mails e k
+  requests_by (Some answer) from group client seq op (r, mails) e h k = w.refuses from group client seq op answer r mails h e k
   requests_by None from group client seq op (r, mails) e h k = queues (queued_number r.backlog client) from group client seq op (r, mails) refl h e k
 
   requests : (from : ℕ) (group : Draw) (client seq : ℕ) (op : Op) (place : Place) → Hears from (Request group client seq op) → P place → P (request_row client seq op place)

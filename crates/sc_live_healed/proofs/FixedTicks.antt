@@ -9,7 +9,7 @@ use Rattle.sc_group_table.specs.machine.Definitions.{Group}
 use Rattle.sc_words.specs.paxos.Definitions.{entry_at, has_counted}
 use Rattle.sc_node_table.specs.Definitions.{elected, sent_all, sent_others, sent, pumped, wishing, reminded, reminders, waited_in, ReplicaState, Place, name_of, next, members, settled, is_idle, may_offer, first_set, tick_row, asked_again, uncounted, last_entry_sent, flying}
 use Rattle.sc_law_walks.proofs.Lemmas.{either_way, elected_place}
-use Rattle.sc_live_healed.proofs.FixedWalks.{FixedWalk, FixedTickParts, IsMember}
+use Rattle.sc_live_healed.proofs.FixedWalks.{FixedWalk, FixedAskParts, FixedTickParts, IsMember}
 use Rattle.sc_live_healed.proofs.FixedPumps.{OfMembers, open_members, pumps, set_members}
 
 not_so : (b : Bool) → not b ≡ false → b ≡ true
@@ -50,7 +50,7 @@ unfolding wishing reminded
 tick_alone drawer (r, mails) e =
     ap (λ (ms : List Mail). (waited_in r.group.core.lock r, ms)) (reminds_none r.group.core.lock r.me r.group mails e) ∙ ap (λ (x : ReplicaState). (x, mails)) (waits_none r.group.core.lock r e)
 
-module _ (base : Base) (me : ℕ) (w : FixedWalk base me) (t : FixedTickParts base me w.P) where
+module _ (base : Base) (me : ℕ) (w : FixedWalk base me) (t : FixedAskParts base me w.P) where
   abbrev P : Place → Type 0
   P place = w.P place
 
@@ -79,15 +79,17 @@ module _ (base : Base) (me : ℕ) (w : FixedWalk base me) (t : FixedTickParts ba
       let free = ap (λ (core : Core). core.lock) (w.frame place k).fixed.group ∙ w.fresh.free in
       pumps base me w (wishing false drawer (reminded place)) (subst P (sym (tick_alone drawer place free)) k)
 
-  elects : (r : ReplicaState) (mails : List Mail) → settled r ≡ false → P (r, mails) → P (elected (r, mails))
-  unfolding elected
-  elects r mails off k = either_way P (eqb r.top.round (2 ^ 32 - 1)) (r, mails) (elected_place (r, mails)) k (t.elected r mails off k)
-
-  pub ticks : (drawer : Drawer) (place : Place) → P place → P (tick_row false drawer place)
-  unfolding tick_row
-  ticks drawer (r, mails) k =
-      either_way P (is_some r.group.core.gone || not (is_member (members r) r.me)) (r, mails) _ k
-      (cond_both (not (settled r)) (elected (r, mails)) _ P (λ off. elects r mails (so_not (settled r) off) k)
+  -- a tick elects the replica once, or asks again
+  pub ticks_once : (Q : Place → Type 0) → ((place : Place) → P place → Q place) → ((r : ReplicaState) (mails : List Mail) → settled r ≡ false → P (r, mails) → Q (elected_place (r, mails))) → (drawer : Drawer) (place : Place) → P place → Q (tick_row false drawer place)
+  unfolding tick_row elected
+  ticks_once Q stays elects drawer (r, mails) k =
+      either_way Q (is_some r.group.core.gone || not (is_member (members r) r.me)) (r, mails) _ (stays (r, mails) k)
+      (cond_both (not (settled r)) (elected (r, mails)) _ Q
+      (λ off. either_way Q (eqb r.top.round (2 ^ 32 - 1)) (r, mails) (elected_place (r, mails)) (stays (r, mails) k) (elects r mails (so_not (settled r) off) k))
       (λ f. (let on = not_so (settled r) f in
-      either_way P (is_idle r) _ _ (pumps_then drawer (r, last_entry_sent (entry_at (next r - 1) r.log) r mails) (last_said (entry_at (next r - 1) r.log) r mails on refl k))
-      (pumps_then drawer (r, asked_again r (next r) r.sets mails) (again_said r (next r) r.sets mails (and_parts r.running (may_offer r (first_set r.sets)) on).0 (open_members base me w (r, mails) k) k)))))
+      either_way Q (is_idle r) _ _ (stays _ (pumps_then drawer (r, last_entry_sent (entry_at (next r - 1) r.log) r mails) (last_said (entry_at (next r - 1) r.log) r mails on refl k)))
+      (stays _ (pumps_then drawer (r, asked_again r (next r) r.sets mails) (again_said r (next r) r.sets mails (and_parts r.running (may_offer r (first_set r.sets)) on).0 (open_members base me w (r, mails) k) k))))))
+
+module _ (base : Base) (me : ℕ) (w : FixedWalk base me) (t : FixedTickParts base me w.P) where
+  pub ticks : (drawer : Drawer) (place : Place) → w.P place → w.P (tick_row false drawer place)
+  ticks drawer place k = ticks_once base me w (record { reasks = t.reasks; relearns = t.relearns }) w.P (λ other q. q) t.elected drawer place k

@@ -75,10 +75,15 @@ pub record FixedWalk (base : Base) (me : ℕ) : Type 1 where
   pub stops : (from : ℕ) (r : ReplicaState) (mails : List Mail) → IsMember base from → r.running ≡ true → P (r, mails) → P (stopped (Some from) (r, mails))
   pub jumps : (from : ℕ) (group : Draw) (slot : ℕ) (sent : Base) (sets : List (List ℕ)) (r : ReplicaState) (mails : List Mail) → Hears from (Install group slot sent sets) → next r ≤ slot → r.running ≡ false → P (r, mails) → P (record (jumped slot sent sets r) { hint = Some from }, mails)
   -- requests
-  pub refuses : (client seq : ℕ) (op : Op) (answer : AnswerBody) (r : ReplicaState) (mails : List Mail) → refused_at r.group.core.gone op r ≡ Some answer → P (r, mails) → P (r, answer_to r.me (name_of r) client seq answer mails)
+  pub refuses : (from : ℕ) (group : Draw) (client seq : ℕ) (op : Op) (answer : AnswerBody) (r : ReplicaState) (mails : List Mail) → Hears from (Request group client seq op) → refused_at r.group.core.gone op r ≡ Some answer → P (r, mails) → P (r, answer_to r.me (name_of r) client seq answer mails)
   pub requested : (from : ℕ) (group : Draw) (client seq : ℕ) (op : Op) (r : ReplicaState) (mails : List Mail) → Hears from (Request group client seq op) → refused_at r.group.core.gone op r ≡ None → queued_number r.backlog client ≡ None → P (r, mails) → P (record r { backlog = r.backlog ++ Call client seq op ∷ [] }, mails)
   pub requested_again : (from : ℕ) (group : Draw) (client seq other : ℕ) (op : Op) (r : ReplicaState) (mails : List Mail) → Hears from (Request group client seq op) → refused_at r.group.core.gone op r ≡ None → queued_number r.backlog client ≡ Some other → nat_le seq other ≡ false → P (r, mails)
       → P (record r { backlog = without_request r.backlog client ++ Call client seq op ∷ [] }, mails)
+
+-- That what is said again at a tick keeps the invariant.
+pub record FixedAskParts (base : Base) (me : ℕ) (P : Place → Type 0) : Type 0 where
+  pub reasks : (to slot : ℕ) (command : Command) (r : ReplicaState) (mails : List Mail) → IsMember base to → r.running ≡ true → flying r slot ≡ Some command → P (r, mails) → P (r, sent r.me to (Accept (name_of r) r.leader.ballot slot command) mails)
+  pub relearns : (to : ℕ) (command : Command) (r : ReplicaState) (mails : List Mail) → IsMember base to → settled r ≡ true → entry_at (next r - 1) r.log ≡ Some command → P (r, mails) → P (r, sent r.me to (Learn (name_of r) (next r - 1) command) mails)
 
 -- That ticks keep the invariant: elections, and what is said again.
 pub record FixedTickParts (base : Base) (me : ℕ) (P : Place → Type 0) : Type 0 where

@@ -1,8 +1,8 @@
 -- The walk of a request that a leader holds: each row of mail leaves it held, or its client answered.
-use Rattle.std.proofs.Common.{◌≡◌, ℕ, ◌+◌, ◌-◌, ◌<◌, ◌≤◌, eqb, ltb, nat_le, ◌&&◌, not, Bool, true, false, true≢false, cond, List, [], ◌∷◌, ◌++◌, length, Option, Some, None, ◌⊎◌, inl, inr, refl, sym, ◌∙◌, ap, subst, arith}
-use Rattle.std.proofs.lemmas.Bool.{cond_both, cases_Bool, leb-false, both_ways}
+use Rattle.std.proofs.Common.{◌≡◌, ℕ, ◌+◌, ◌<◌, ◌≤◌, ◌&&◌, not, Bool, true, false, true≢false, List, [], ◌∷◌, ◌++◌, length, Option, Some, None, ◌⊎◌, inl, inr, refl, sym, ◌∙◌, ap, subst, arith}
+use Rattle.std.proofs.lemmas.Bool.{cond_both, leb-false}
 use Rattle.sc_base.specs.Definitions.{Among, Each, same_ballot, is_member, client_actor}
-use Rattle.sc_node_table.specs.Values.{Ballot, Draw, Base, Core, Op, Reply, Command, Noop, Call, AnswerBody, Value, NotLeader, Mail, MailBody, Request, Answer, Prepare, Promise, Accept, Accepted, Nack, Learn, Ask, Install, Flight, Report}
+use Rattle.sc_node_table.specs.Values.{Ballot, Draw, Base, Core, Op, Reply, Command, Noop, Call, AnswerBody, Value, Mail, MailBody, Request, Answer, Accept, Learn, Flight, Report}
 use Rattle.sc_group_table.specs.machine.Definitions.{Group, applied}
 use Rattle.sc_words.specs.paxos.Definitions.{LeaderState, with_flight_at, without_flight, promise_counted, counted, below, with_voters, after_promise, after_accept}
 use Rattle.sc_node_table.specs.Definitions.{ReplicaState, Place, next, jumped, with_slot, without_request, taken_at, sent, sent_all, ended, at_slot, without_slot, stopped, offered, entered, answer_of, answered_or_put_back, put_back, landed, hinted, forgotten, request_before, queued_number, slots_ahead}
@@ -12,20 +12,20 @@ use Rattle.sc_words.proofs.PaxosProofs.Lemmas.{Each-among}
 use Rattle.sc_live_plain.proofs.RowsProofs.SlotCounts.{at_found, entries_at}
 use Rattle.sc_live_plain.proofs.LeadersProofs.LeadingReplicas.{flights_at}
 use Rattle.sc_live_plain.proofs.RowsProofs.RepeatedMail.{mail_of, among_push, last_among, all_kept, others_kept}
-use Rattle.sc_live_healed.specs.Definitions.{IsFixedCommand, IsFixedRequest, IsFixedReplica}
-use Rattle.sc_live_healed.proofs.FixedWalks.{FixedWalk, IsFixedPlace}
+use Rattle.sc_live_healed.specs.Definitions.{IsFixedCommand, IsFixedRequest}
+use Rattle.sc_live_healed.proofs.FixedWalks.{FixedWalk}
 use Rattle.sc_live_healed.proofs.FixedParts.{ready_fixed, never_turned, applied_core}
 use Rattle.sc_live_healed.proofs.EnteredPlaces.{entered_group, learnt_is, counted_is, learning}
-use Rattle.sc_live_healed.proofs.TakenRequests.{is_call, call_so, IsAtMost, AreApart, IsOurs, IsHeld, Queued, Flying, Ready, reply_mail, back_held, without_ours}
+use Rattle.sc_live_healed.proofs.TakenRequests.{is_call, call_so, IsAtMost, AreApart, IsHeld, Queued, Flying, Ready, reply_mail, back_held, without_ours}
 use Rattle.sc_live_healed.proofs.ApartSlots.{IsCleared, apart_flown, apart_cleared, apart_voted, apart_decided, counts_by, decides, flown_held, call_flown, voted_held, decided_held}
-use Rattle.sc_live_healed.proofs.HeldRequests.{HasFew, HeldOr, IsTold, held_on, held_push, held_stops, held_offers, enters_leader, counted_other, learnt_held, learnt_apart, learnt_runs, learnt_mails, back_apart, back_runs}
+use Rattle.sc_live_healed.proofs.HeldRequests.{HasFew, HeldOr, held_on, held_push, held_stops, held_offers, enters_leader, counted_other, learnt_held, learnt_apart, learnt_runs, learnt_mails, back_runs}
 
 -- the request that goes back keeps the group
 back_group : (command : Command) (r : ReplicaState) → ((put_back command r).group ≡ r.group) × ((put_back command r).leader ≡ r.leader) × ((put_back command r).ready ≡ r.ready) × (next (put_back command r) ≡ next r) × ((put_back command r).sets ≡ r.sets) × ((put_back command r).me ≡ r.me)
 back_group command r = back_any (λ x. (x.group ≡ r.group) × (x.leader ≡ r.leader) × (x.ready ≡ r.ready) × (next x ≡ next r) × (x.sets ≡ r.sets) × (x.me ≡ r.me)) (λ x acts backlog k. k) command r (refl, refl, refl, refl, refl, refl)
 
 -- the parts of an answer to an entry
-answers_so : (client seq : ℕ) (op : Op) (answer : AnswerBody) (r : ReplicaState) (mails : List Mail) → answered_or_put_back (Some answer) (Call client seq op) (r, mails) ≡ (r, mails ++ mail_of r.me (client_actor client) (Answer r.group.core.id seq answer) ∷ [])
+pub answers_so : (client seq : ℕ) (op : Op) (answer : AnswerBody) (r : ReplicaState) (mails : List Mail) → answered_or_put_back (Some answer) (Call client seq op) (r, mails) ≡ (r, mails ++ mail_of r.me (client_actor client) (Answer r.group.core.id seq answer) ∷ [])
 unfolding answered_or_put_back
 answers_so client seq op answer r mails = refl
 
@@ -42,7 +42,7 @@ same_backlog : (client seq : ℕ) (op : Op) (r other : ReplicaState) → other.b
 unfolding put_back
 same_backlog client seq op r other e = ap (λ (cs : List Command). request_before (queued_number cs client) client seq (Call client seq op) cs) e
 
-enters_me : (command : Command) (r : ReplicaState) → (entered command r).me ≡ r.me
+pub enters_me : (command : Command) (r : ReplicaState) → (entered command r).me ≡ r.me
 unfolding entered forgotten
 enters_me command r = refl
 
@@ -364,7 +364,7 @@ module _ (base : Base) (me client seq : ℕ) (Elsewhere : Type 0) (f : FixedWalk
     wants = λ to slot group command r mails h m low k. (f.wants to slot group command r mails h.0 m low k.0, pushed r mails to _ k.1);
     stops = λ from r mails m on k. (f.stops from r mails m on k.0, stops_so from r mails (f.frame (r, mails) k.0).me_is (name_is (r, mails) k.0) k.1);
     jumps = λ from group slot sent_ sets r mails h later off k. (f.jumps from group slot sent_ sets r mails h.0 later off k.0, jumps_so from slot sent_ sets r mails off k.0 k.1);
-    refuses = λ c s op answer r mails e k. (f.refuses c s op answer r mails e k.0, pushed r mails (client_actor c) _ k.1);
+    refuses = λ from group c s op answer r mails h e k. (f.refuses from group c s op answer r mails h.0 e k.0, pushed r mails (client_actor c) _ k.1);
     requested = λ from group c s op r mails h e none k. (f.requested from group c s op r mails h.0 e none k.0, queued_last c s op r mails k.1);
     requested_again = λ from group c s other op r mails h e some more k. (
       f.requested_again from group c s other op r mails h.0 e some more k.0,

@@ -1,25 +1,20 @@
 -- A request that a leader holds stays held while a row lasts, or its client is answered.
-use Rattle.std.proofs.Common.{◌≡◌, ℕ, ◌+◌, ◌-◌, ◌<◌, ◌≤◌, eqb, ltb, nat_le, Bool, true, false, true≢false, cond, List, [], ◌∷◌, ◌++◌, length, Option, Some, None, ◌⊎◌, inl, inr, refl, sym, ◌∙◌, ap, subst, arith}
+use Rattle.std.proofs.Common.{◌≡◌, ℕ, ◌≤◌, eqb, Bool, true, false, List, [], length, Option, Some, None, ◌⊎◌, inl, inr, refl, sym, ◌∙◌, ap, subst, arith}
 use Rattle.std.specs.Option.{option_map}
-use Rattle.std.proofs.lemmas.Bool.{cond_both, cases_Bool, leb-false, both_ways}
-use Rattle.sc_base.specs.Definitions.{Among, Each, client_actor}
-use Rattle.sc_node_table.specs.Values.{Ballot, Draw, Base, Op, Reply, Command, Noop, Call, AnswerBody, Value, NotLeader, NotMine, Gone, Stale, Mail, MailBody, Request, Answer, Prepare, Promise, Accept, Accepted, Nack, Learn, Ask, Install, TxPrepare, TxVote, TxOutcome, TxElsewhere, TxWatch, TxWatched, Told, Flight, Report}
-use Rattle.sc_group_table.specs.machine.Definitions.{applied}
-use Rattle.sc_words.specs.paxos.Definitions.{LeaderState, without_flight, without_flight_at, flight_at, promise_counted, counted, below}
+use Rattle.std.proofs.lemmas.Bool.{cond_both, both_ways}
+use Rattle.sc_base.specs.Definitions.{Among, Each}
+use Rattle.sc_node_table.specs.Values.{Draw, Base, Command, AnswerBody, Value, NotLeader, NotMine, Gone, Stale, Mail, MailBody, Accept, Flight}
+use Rattle.sc_words.specs.paxos.Definitions.{LeaderState, without_flight, flight_at}
 use Rattle.sc_words.proofs.PaxosProofs.Lemmas.{Each-among, find_found}
-use Rattle.sc_node_table.specs.Definitions.{ReplicaState, Place, next, at_slot, without_slot, flying, sent, sent_all, stopped, offered, entered, forgotten, answer_of, answered_or_put_back, put_back, slot_lost, landed, same_command, ended, under_way, answered_all, dismissed_all, hinted, queued_number, without_request}
+use Rattle.sc_node_table.specs.Definitions.{ReplicaState, Place, next, at_slot, without_slot, flying, sent, stopped, offered, entered, forgotten, put_back, slot_lost, landed, same_command, ended, under_way, answered_all, dismissed_all}
 use Rattle.sc_node_table.proofs.Lemmas.{tells_commands}
 use Rattle.sc_law_walks.proofs.Talks.{all_answered, all_dismissed}
-use Rattle.sc_law_walks.proofs.Lemmas.{grows, either_way, back_any, entered_next, cleared, entered_place}
+use Rattle.sc_law_walks.proofs.Lemmas.{grows, either_way, back_any, entered_next, cleared}
 use Rattle.sc_live_plain.proofs.RowsProofs.SlotCounts.{at_only, at_found, at_nothing, entries_at}
 use Rattle.sc_live_plain.proofs.LeadersProofs.LeadingReplicas.{flights_at}
-use Rattle.sc_live_plain.proofs.RowsProofs.RepeatedMail.{mail_of, among_push, last_among, all_kept, others_kept}
-use Rattle.sc_live_healed.specs.Definitions.{IsFixedCommand, IsFixedReplica}
-use Rattle.sc_live_healed.proofs.FixedWalks.{FixedWalk, IsFixedPlace}
-use Rattle.sc_live_healed.proofs.FixedParts.{ready_fixed, never_turned}
-use Rattle.sc_live_healed.proofs.EnteredPlaces.{learnt_is, counted_is, learning}
-use Rattle.sc_live_healed.proofs.TakenRequests.{is_call, call_so, IsAtMost, AreApart, IsOurs, IsHeld, Queued, Flying, Ready, reply_mail, flight_found, held_answered, back_held, ours_back, flight_counts, entry_counts}
-use Rattle.sc_live_healed.proofs.ApartSlots.{IsCleared, apart_flown, apart_cleared, apart_voted, apart_decided, counts_by, decides, flown_held, call_flown, voted_held, decided_held, cleared_held}
+use Rattle.sc_live_plain.proofs.RowsProofs.RepeatedMail.{mail_of, among_push, all_kept}
+use Rattle.sc_live_healed.proofs.TakenRequests.{is_call, IsAtMost, AreApart, IsOurs, IsHeld, reply_mail, flight_found, held_answered, back_held, ours_back, flight_counts, entry_counts}
+use Rattle.sc_live_healed.proofs.ApartSlots.{IsCleared, apart_cleared, cleared_held}
 
 -- an answer that a client which waits takes notice of, from the node that it asked
 abbrev pub Answers : AnswerBody → Type 0

@@ -14,7 +14,7 @@ use Rattle.sc_live_orderly.specs.Definitions.{Turn, HasTurns}
 use Rattle.sc_live_orderly.proofs.PendingMail.{none_pending}
 use Rattle.sc_live_healed.specs.Definitions.{IsFixedReplica, VotesAreUnderWay, LivingMajority, IsIdle, IsSettledOrStopped}
 use Rattle.sc_live_healed.proofs.FixedNodes.{IsOne, name_one}
-use Rattle.sc_live_healed.proofs.FixedJournals.{Rows, IsOf, fresh, AreUntold}
+use Rattle.sc_live_healed.proofs.FixedJournals.{Rows, IsOf, fresh, AreUntold, untold_prefix}
 use Rattle.sc_live_healed.proofs.LivingActors.{seats_stay_nodes, turns_kind, turns_get}
 use Rattle.sc_live_healed.proofs.NodeSlots.{found_takes}
 use Rattle.sc_live_healed.proofs.TakenJournals.{groups_rosters, IsTakenJournal, journal_taken}
@@ -78,11 +78,7 @@ module _ (words : ℕ → ℕ → ℕ × ℕ) (scenario : Scenario) (bounded : I
   taken_prefix : (rows later : Rows) → AreUntold words scenario bounded off (rows ++ later) → Lawful as_nodes words scenario (rows ++ later) → IsTakenJournal scenario rows × IsNearJournal scenario (1 + 4 * length rows) rows
   taken_prefix rows later untold lawful =
       let first = lawful-prefix (system_of as_nodes words scenario) (schedule scenario) rows later lawful in
-      (journal_taken words scenario bounded off rows (first_untold rows untold) first, journal_near words scenario bounded off rows (first_untold rows untold) first)
-    where
-      first_untold : (xs : Rows) → AreUntold words scenario bounded off (xs ++ later) → AreUntold words scenario bounded off xs
-      first_untold [] u = tt
-      first_untold (x ∷ xs) u = (u.0, first_untold xs u.1)
+      (journal_taken words scenario bounded off rows (untold_prefix words scenario bounded off rows later untold) first, journal_near words scenario bounded off rows (untold_prefix words scenario bounded off rows later untold) first)
 
   -- Behind turns of a lawful journal without orders, of which one is the tick of a node that is alive, each replica of the node that runs, and is settled where it runs, is idle.
   pub living_replicas_idle : (rows : Rows) (turns : List Turn) (after : Rows) → Has rows turns after → Lawful as_nodes words scenario after → AreUntold words scenario bounded off after

@@ -9,6 +9,7 @@ use Rattle.sc_base.proofs.Lemmas.{map-some}
 use Rattle.sc_node_table.specs.Values.{Seat, Row, Event, OrderLine, Base, Mail, Node, Client}
 use Rattle.sc_actor.specs.declared.rows.Event.TheVariants.{Tick as TickEvent, Go as GoEvent}
 use Rattle.sc_actor.specs.Definitions.{acted, input_of, replay, value, may_get, has_crashed, has_started, is_crash, numbers_of, acts, row_of, line_row, System}
+use Rattle.sc_actor.proofs.Lemmas.{find-who}
 use Rattle.sc_words.proofs.PaxosProofs.Lemmas.{Each-among, Each-append, Each-from_All, find_found}
 use Rattle.sc_node_table.specs.Definitions.{NodeState, is_node, numbers_from}
 use Rattle.sc_scenario.specs.declared.scenario.scenarios.Scenario.{Scenario}
@@ -86,9 +87,14 @@ module _ (s : System Player Mail OrderLine) where
   delivered_kind rows [] d = tt
   delivered_kind rows (row ∷ more) d = (let t = takes_lowest s rows row d.0 in (ap (λ (r : Row Mail OrderLine). is_crash r.event) t.row_is, delivered_kind (rows ++ row ∷ []) more d.1))
 
+  -- the row of an actor's event
+  pub acts_row : (rows : Rows) (who : ℕ) (event : Event OrderLine) (row : Row Mail OrderLine) → acts s rows who event ≡ Some row → (row.who ≡ who) × (row.event ≡ event)
+  acts_row rows who event row e =
+      let m = map-some (λ (seat : Seat Player). row_of s.table seat rows event) (find (λ (seat : Seat Player). eqb seat.who who) s.births) row e in
+      (sym (ap (λ (r : Row Mail OrderLine). r.who) m.2) ∙ find-who s.births who m.0 m.1, sym (ap (λ (r : Row Mail OrderLine). r.event) m.2))
+
   acts_kind : (rows : Rows) (who : ℕ) (event : Event OrderLine) (row : Row Mail OrderLine) → is_crash event ≡ false → acts s rows who event ≡ Some row → is_crash row.event ≡ false
-  acts_kind rows who event row kind e =
-      let m = map-some (λ (seat : Seat Player). row_of s.table seat rows event) (find (λ (seat : Seat Player). eqb seat.who who) s.births) row e in ap (λ (r : Row Mail OrderLine). is_crash r.event) (sym m.2) ∙ kind
+  acts_kind rows who event row kind e = ap (λ (x : Event OrderLine). is_crash x) (acts_row rows who event row e).1 ∙ kind
 
   first_kind : (rows : Rows) (kick : Kick) (who : ℕ) (first : Option (Row Mail OrderLine)) → line_row s rows (kick_line kick who) ≡ first → AreKind (as_list first)
   first_kind rows kick who None e = tt
@@ -118,7 +124,7 @@ module _ (s : System Player Mail OrderLine) where
   or_none true = refl
   or_none false = refl
 
-  same_crashed : (who : ℕ) (rows more : Rows) → AreKind more → has_crashed (rows ++ more) who ≡ has_crashed rows who
+  pub same_crashed : (who : ℕ) (rows more : Rows) → AreKind more → has_crashed (rows ++ more) who ≡ has_crashed rows who
   same_crashed who rows more k =
       list_any-append (λ (row : Row Mail OrderLine). eqb row.who who && is_crash row.event) rows more
       ∙ (ap (λ b. has_crashed rows who || b) (none_crash who more k) ∙ or_none (has_crashed rows who))

@@ -6,7 +6,7 @@ use Rattle.sc_live_plain.proofs.Lemmas.{count-cons, one_yes, one_no}
 use Rattle.sc_live_healed.specs.Definitions.{LivingMajority}
 
 -- what passes another test too counts no more
-passes_more : (p q : ℕ → Bool) (xs : List ℕ) → ((x : ℕ) → Among x xs → p x ≡ true → q x ≡ true) → count_by p xs ≤ count_by q xs
+pub passes_more : (p q : ℕ → Bool) (xs : List ℕ) → ((x : ℕ) → Among x xs → p x ≡ true → q x ≡ true) → count_by p xs ≤ count_by q xs
 passes_more p q [] f = omega arith
 passes_more p q (x ∷ xs) f =
     let c = count-cons p x xs in

@@ -2,14 +2,14 @@
 use Rattle.std.proofs.Common.{◌≡◌, ℕ, ◌+◌, ◌-◌, ◌<◌, ◌≤◌, ◌&&◌, not, Bool, true, false, true≢false, List, [], ◌∷◌, ◌++◌, Option, Some, None, ◌⊎◌, inl, inr, refl, sym, ◌∙◌, ap, subst, arith}
 use Rattle.std.proofs.lemmas.Bool.{cond_both}
 use Rattle.sc_base.specs.Definitions.{Each, Drawer, same_ballot, is_majority, is_member, client_actor}
-use Rattle.sc_words.proofs.PaxosProofs.Lemmas.{Each-append, Each-weaker, not_below_parts, below_parts}
+use Rattle.sc_words.proofs.PaxosProofs.Lemmas.{Each-append, Each-weaker, not_below_parts}
 use Rattle.sc_paxos_law.proofs.Lemmas.{Among-left, among-member, member-among}
 use Rattle.sc_node_table.specs.Values.{Ballot, Command, Noop, Base, AnswerBody, Counted, Mail, MailBody, Answer, Prepare, Promise, Accept, Accepted, Nack, Learn, Ask, Install, Flight, TxPrepare, TxVote, TxOutcome, TxElsewhere, TxWatch, TxWatched, Told, Report}
 use Rattle.sc_group_table.specs.machine.Definitions.{base_of}
 use Rattle.sc_words.specs.paxos.Definitions.{IsAtLeast, AcceptorState, LeaderState, below, after_promise, after_accept, reports_from, kept_voters, voters_after, promise_counted, counted, vote_at, flight_at}
 use Rattle.sc_node_table.specs.Definitions.{ended, stopped, entered, forgotten, jumped, offered, put_back, answered_all, sent, under_way, hinted, mailed, pumped, tick_row, open_nodes, ReplicaState, Place, name_of, next}
 use Rattle.sc_law_walks.proofs.Talks.{all_sent, all_answered, all_dismissed, one_answered}
-use Rattle.sc_law_walks.proofs.Lemmas.{either_way, Talk, counted_ballot, promise_ballot, floor_under, entered_next, entered_place}
+use Rattle.sc_law_walks.proofs.Lemmas.{either_way, below_round, Talk, counted_ballot, promise_ballot, floor_under, entered_next, entered_place}
 use Rattle.sc_live_healed.proofs.FixedWalks.{IsFresh, IsFixedPlace, FixedWalk}
 use Rattle.sc_live_healed.proofs.FixedEntries.{FixedEntry, entry_keeps}
 use Rattle.sc_live_healed.proofs.FixedParts.{ready_fixed, applied_core}
@@ -47,10 +47,7 @@ HasMoved Elects start body (r, mails) = Moves Elects start body r.top r.acceptor
 pub at_least_round : (a b : Ballot) → IsAtLeast a b → b.round ≤ a.round
 at_least_round a b e = elim (not_below_parts a b e) [ inl lt ↦ omega (arith, lt) | inr p ↦ omega (arith, p.0) ]
 
-below_round : (a b : Ballot) → below a b ≡ true → a.round ≤ b.round
-below_round a b e = elim (below_parts a b e) [ inl lt ↦ omega (arith, lt) | inr p ↦ omega (arith, p.0) ]
-
-within_more : (low high : ℕ) (body : MailBody) → low ≤ high → AsksWithin low body → AsksWithin high body
+pub within_more : (low high : ℕ) (body : MailBody) → low ≤ high → AsksWithin low body → AsksWithin high body
 within_more low high (Prepare group ballot from_slot) up a = omega (arith, up, a)
 within_more low high (Accept group ballot slot command) up a = omega (arith, up, a)
 within_more low high _ up a = tt

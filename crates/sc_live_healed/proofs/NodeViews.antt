@@ -33,7 +33,7 @@ comes bases fresh base a from to (TxWatched tx coord part vote) h = absurd h
 comes bases fresh base a from to (Told order result) h = absurd h
 
 -- what a member sends of its group is of no other
-said_of : (base : Base) (me : ℕ) (mail : Mail) (name : Draw) → (base.core.id ≡ name → ⊥) → IsSaid base me mail → group_of_mail mail.body ≡ Some name → ⊥
+pub said_of : (base : Base) (me : ℕ) (mail : Mail) (name : Draw) → (base.core.id ≡ name → ⊥) → IsSaid base me mail → group_of_mail mail.body ≡ Some name → ⊥
 said_of base me mail name other s e = by mail.body s.1 e
   where
     by : (body : MailBody) → IsFixedBody base me mail.to body → group_of_mail body ≡ Some name → ⊥

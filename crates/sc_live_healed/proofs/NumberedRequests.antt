@@ -1,28 +1,26 @@
 -- No replica of a group that is not reshaped knows a request of a client with a greater number than those that were heard: neither in its queue nor in flight, ready, reported, accepted, executed or noted.
-use Rattle.std.proofs.Common.{◌≡◌, ℕ, ◌+◌, ◌-◌, ◌<◌, ◌≤◌, ◌&&◌, not, nat_le, nat_lt, eqb, ltb, Bool, true, false, true≢false, cond, List, [], ◌∷◌, ◌++◌, length, Option, Some, None, refl, sym, ◌∙◌, ap, subst, arith, inl, inr}
+use Rattle.std.proofs.Common.{◌≡◌, ℕ, ◌-◌, ◌≤◌, nat_le, nat_lt, eqb, Bool, true, false, List, [], ◌∷◌, ◌++◌, Option, Some, None, sym, ◌∙◌, ap, subst, arith, inl, inr}
 use Rattle.std.specs.Prelude.{slice_get}
 use Rattle.std.specs.Cmp.{nat_cmp_total, unsigned_tied}
-use Rattle.std.specs.FinMap.{get, insert, get-insert}
+use Rattle.std.specs.FinMap.{get, get-insert}
 use Rattle.std.proofs.lemmas.Bool.{cond_both, eqb-true}
 use Rattle.sc_base.specs.Definitions.{Each, client_actor}
-use Rattle.sc_node_table.specs.Values.{Ballot, Draw, Noted, Op, Command, Noop, Call, Base, Lock, Free, Coordinating, Promised, Watching, Route, Effect, AnswerBody, NotLeader, Mail, MailBody, Request, Answer, Prepare, Promise, Accept, Accepted, Nack, Learn, Ask, Install, TxPrepare, TxVote, TxOutcome, TxElsewhere, TxWatch, TxWatched, Told, Flight, Report}
+use Rattle.sc_node_table.specs.Values.{Ballot, Noted, Op, Command, Noop, Call, Base, Lock, Free, Coordinating, Promised, Watching, Route, Effect, AnswerBody, NotLeader, Mail, MailBody, Request, Answer, Promise, Accept, Accepted, Learn, Install, Flight, Report}
 use Rattle.sc_words.specs.ideal.Definitions.{holds_key, key_of, reply_of}
-use Rattle.sc_words.proofs.PaxosProofs.Lemmas.{Each-append, Each-filter, Each-weaker}
+use Rattle.sc_words.proofs.PaxosProofs.Lemmas.{Each-append, Each-filter}
 use Rattle.sc_group_table.specs.machine.Definitions.{Group, group_of, base_of, done, served_by_note, served, called, applied}
-use Rattle.sc_words.specs.paxos.Definitions.{LeaderState, LogState, AcceptorState, entry_at, promise_counted, counted, reports_from, after_promise, after_accept, must, below, with_flight_at, without_flight}
-use Rattle.sc_node_table.specs.Definitions.{ReplicaState, Place, next, name_of, flying, sent, sent_all, stopped, ended, offered, answer_to, answered, entered, forgotten, floor_of, jumped, named, hinted, put_back, without_request, with_slot, without_slot, at_slot, under_way, answered_all, dismissed_all, with_entry}
+use Rattle.sc_words.specs.paxos.Definitions.{LeaderState, LogState, AcceptorState, entry_at, promise_counted, counted, reports_from, after_promise, after_accept, below, with_flight_at}
+use Rattle.sc_node_table.specs.Definitions.{ReplicaState, Place, next, name_of, flying, sent, sent_all, stopped, ended, offered, answered, entered, forgotten, floor_of, jumped, hinted, put_back, without_request, with_slot, at_slot, under_way, with_entry}
 use Rattle.sc_law_entries.specs.names.Definitions.{Opt}
 use Rattle.sc_law_entries.proofs.NamesProofs.EachFound.{Each-drop, opt_get, opt_slot, slot_with, slot_without, flight_without, report_with}
 use Rattle.sc_group_table.proofs.MachineProofs.Parts.{group_again}
 use Rattle.sc_law_refusal.proofs.HeldCommands as held
 use Rattle.sc_law_walks.proofs.Talks.{all_sent, one_answered, all_answered, all_dismissed}
-use Rattle.sc_law_walks.proofs.Places.{cleared}
 use Rattle.sc_law_walks.proofs.Lemmas.{Talk, either_way, back_any, entered_place, entry_is}
 use Rattle.sc_live_healed.specs.Definitions.{IsFixedCommand}
-use Rattle.sc_live_healed.proofs.FixedWalks.{FixedWalk, IsFixedPlace, IsFresh, IsMember}
 use Rattle.sc_live_healed.proofs.FixedEntries.{FixedEntry, entry_keeps}
 use Rattle.sc_live_healed.proofs.FixedParts.{opt_some, ready_fixed, applied_core}
-use Rattle.sc_live_healed.proofs.FixedBesides.{FixedFacts, FixedStates, both_walk}
+use Rattle.sc_live_healed.proofs.FixedBesides.{FixedFacts, FixedStates}
 use Rattle.sc_live_healed.proofs.EnteredPlaces.{entered_group}
 use Rattle.sc_live_healed.proofs.TakenRequests.{IsAtMost}
 
@@ -107,7 +105,7 @@ module _ (client bound : ℕ) where
   held_few r mails backlog acts leader ready h k = record { held = h; accepted = k.accepted; entries = k.entries; noted = k.noted; said = k.said }
 
   -- what is kept in one place alone
-  said_few : (r : ReplicaState) (mails : List Mail) (to : ℕ) (body : MailBody) → IsFewBody body → IsFewPlace (r, mails) → IsFewPlace (r, sent r.me to body mails)
+  pub said_few : (r : ReplicaState) (mails : List Mail) (to : ℕ) (body : MailBody) → IsFewBody body → IsFewPlace (r, mails) → IsFewPlace (r, sent r.me to body mails)
   said_few r mails to body b k = record { held = k.held; accepted = k.accepted; entries = k.entries; noted = k.noted; said = Each-append (λ (mail : Mail). IsFewBody mail.body) mails (record { from = r.me; to = to; body = body } ∷ []) k.said (b, tt) }
 
   all_few : (r : ReplicaState) (mails : List Mail) (nodes : List ℕ) (body : MailBody) → IsFewBody body → IsFewPlace (r, mails) → IsFewPlace (r, sent_all r.me nodes body mails)
@@ -194,7 +192,7 @@ module _ (client bound : ℕ) where
     reports_few : (from_slot : ℕ) (acceptor : AcceptorState Command) → Each (λ (report : Report Command). C report.value) acceptor.accepted → Each (λ (report : Report Command). C report.value) (reports_from from_slot acceptor.accepted)
     reports_few from_slot acceptor k = Each-filter (λ (report : Report Command). C report.value) (λ (report : Report Command). nat_le from_slot report.slot) acceptor.accepted k
 
-    entry_few : (slot : ℕ) (log : LogState Command) (command : Command) → entry_at slot log ≡ Some command → Each C log.entries → C command
+    pub entry_few : (slot : ℕ) (log : LogState Command) (command : Command) → entry_at slot log ≡ Some command → Each C log.entries → C command
     entry_few slot log command e f = opt_some C (entry_at slot log) command e (either_way (λ (o : Option Command). Opt C o) (nat_lt log.base slot) (slice_get log.entries (slot - log.base - 1)) None (opt_get C log.entries (slot - log.base - 1) f) tt)
 
     jumps_few : (slot : ℕ) (sent_ : Base) (sets : List (List ℕ)) (r : ReplicaState) (mails : List Mail) (hint : Option ℕ) → HasNoted (group_of sent_) → IsFewPlace (r, mails) → IsFewPlace (record (jumped slot sent_ sets r) { hint = hint }, mails)

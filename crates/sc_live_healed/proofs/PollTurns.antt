@@ -1,13 +1,13 @@
 -- A poll ends with two rounds of mail: first all members that may get mail answer, and then who polls has counted them all, or has stopped.
-use Rattle.std.proofs.Common.{◌≡◌, ℕ, ◌<◌, ◌≤◌, eqb, Bool, true, true≢false, List, [], ◌∷◌, ◌++◌, filter, Option, Some, ◌⊎◌, inl, inr, refl, sym, ◌∙◌, ap, subst, ◌*◌, length, count_by, cond, arith}
-use Rattle.std.proofs.lemmas.Bool.{cases_Bool, cond_both, cond-true, lt-ltb, eqb-true, eq-eqb}
-use Rattle.std.proofs.lemmas.List.Sums.{sum_by-cons}
+use Rattle.std.proofs.Common.{◌≡◌, ℕ, ◌<◌, ◌≤◌, eqb, Bool, true, true≢false, List, [], ◌∷◌, ◌++◌, filter, Option, Some, ◌⊎◌, inl, inr, refl, sym, ◌∙◌, ap, subst, ◌*◌, length, count_by, arith}
+use Rattle.std.proofs.lemmas.Bool.{cases_Bool, lt-ltb, eqb-true, eq-eqb}
 use Rattle.sc_base.specs.Definitions.{Among, Each, is_member, votes_of}
 use Rattle.sc_words.proofs.PaxosProofs.Lemmas.{Each-among, Each-append, Each-filter, Each-weaker, Among-filter}
 use Rattle.sc_paxos_law.proofs.Lemmas.{Among-left, Among-right, among-member}
 use Rattle.sc_node_table.specs.Values.{Ballot, Draw, Base, Core, Mail, MailBody, Prepare, Promise, Nack, Install, Request}
 use Rattle.sc_node_table.specs.Definitions.{group_of_mail, last_slot, mailed, prepare_row, next, ReplicaState, Place}
 use Rattle.sc_live_healed.proofs.FixedWalks.{IsFresh, IsMember, IsSaid, IsFixedPlace}
+use Rattle.sc_live_healed.proofs.LivingMajorities.{passes_more}
 use Rattle.sc_live_healed.proofs.MovedReplicas.{HasMoved, mailed_moves}
 use Rattle.sc_live_healed.proofs.PollAnswers.{Answered, polls_are_answered, answers_count, majorities_settle}
 use Rattle.sc_live_healed.proofs.PollRows.{IsAnswerMail, asked_says, asked_next, refused_next, state_next, promised_next, requested_next}
@@ -301,15 +301,8 @@ module _ (base : Base) (alive : ℕ → Bool) where
 
     -- ---- the end
 
-    -- as many as pass one test pass another, where each of them does
-    passes_too : (p q : ℕ → Bool) (xs : List ℕ) → ((x : ℕ) → Among x xs → p x ≡ true → q x ≡ true) → count_by p xs ≤ count_by q xs
-    passes_too p q [] f = omega arith
-    passes_too p q (x ∷ xs) f =
-        let one : cond (p x) 1 0 ≤ cond (q x) 1 0 = cond_both (p x) 1 0 (λ n. n ≤ cond (q x) 1 0) (λ t. (let e = cond-true {A = ℕ} (q x) 1 0 (f x (inl refl) t) in omega (arith, e))) (λ t. omega arith) in
-        omega (arith, one, passes_too p q xs (λ y a t. f y (inr a) t), sum_by-cons (λ y. cond (p y) 1 0) x xs, sum_by-cons (λ y. cond (q y) 1 0) x xs)
-
     -- After both rounds who polls is settled, where more than half of the members may get mail.
     pub polls_end_settled : (c : Replicas) (r : ReplicaState) → IsFresh base n → SecondRound c [] → c n ≡ Some r → IsFixedPlace base n (r, []) → r.leader.ballot ≡ ballot → length base.core.members < 2 * count_by alive base.core.members → IsSettledOrStopped r
     polls_end_settled c r fresh k e f same most on =
-        let counted = passes_too alive (is_member r.leader.promisers) base.core.members (λ m a lives. elim (k.each m (among-member base.core.members m a) lives r e (on, same)) [ inl yes_ ↦ yes_ | inr q ↦ absurd q.1 ]) in
+        let counted = passes_more alive (is_member r.leader.promisers) base.core.members (λ m a lives. elim (k.each m (among-member base.core.members m a) lives r e (on, same)) [ inl yes_ ↦ yes_ | inr q ↦ absurd q.1 ]) in
         majorities_settle base n fresh r f (lt-ltb (length base.core.members) (2 * votes_of base.core.members r.leader.promisers) (omega (arith, counted, most))) on

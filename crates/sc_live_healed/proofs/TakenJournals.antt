@@ -17,7 +17,7 @@ use Rattle.sc_meaning.specs.sound.Definitions.{Lawful, Player, as_nodes, births,
 use Rattle.sc_live_orderly.specs.Definitions.{is_told}
 use Rattle.sc_live_healed.proofs.FixedNodes.{AreFresh}
 use Rattle.sc_live_healed.proofs.FixedBirths.{place_of}
-use Rattle.sc_live_healed.proofs.FixedJournals.{Rows, IsFixedPlayer, IsOf, IsFixedJournal, Brings, fresh, given, first_fixed, brings, next_fixed, AreUntold}
+use Rattle.sc_live_healed.proofs.FixedJournals.{Rows, IsFixedPlayer, IsOf, IsFixedJournal, Brings, fresh, given, first_fixed, brings, next_fixed, AreUntold, untold_parts}
 use Rattle.sc_live_healed.proofs.NodeSlots.{AreRosters, steps_take}
 use Rattle.sc_live_healed.proofs.MailedSlots.{born_takes}
 use Rattle.sc_live_healed.specs.Definitions.{IsFixedReplica, IsFixedMail, TakesSlots, AllTakeSlots}
@@ -115,8 +115,4 @@ module _ (words : ℕ → ℕ → ℕ × ℕ) (scenario : Scenario) (bounded : I
   pub journal_taken : (rows : Rows) → AreUntold words scenario bounded off rows → Lawful as_nodes words scenario rows → IsTakenJournal scenario rows
   journal_taken rows untold lawful =
       lawful-induction (system_of as_nodes words scenario) (λ (xs : Rows). AreUntold words scenario bounded off xs → IsTakenJournal scenario xs)
-      (λ xs row keeps step more. (let parts = untold_parts xs row more in next_taken xs row parts.1 (keeps parts.0) step)) (schedule scenario) rows (λ _. first_taken) lawful untold
-    where
-      untold_parts : (xs : Rows) (row : Row Mail OrderLine) → AreUntold words scenario bounded off (xs ++ row ∷ []) → AreUntold words scenario bounded off xs × (is_told row.event ≡ false)
-      untold_parts [] row untold = (tt, untold.0)
-      untold_parts (x ∷ xs) row untold = (let p = untold_parts xs row untold.1 in ((untold.0, p.0), p.1))
+      (λ xs row keeps step more. (let parts = untold_parts words scenario bounded off xs row more in next_taken xs row parts.1 (keeps parts.0) step)) (schedule scenario) rows (λ _. first_taken) lawful untold

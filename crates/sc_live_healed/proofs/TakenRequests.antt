@@ -1,18 +1,17 @@
 -- Where a request stands at a leader: queued, in flight or ready; and what parts of a row do with it. No slot has two commands in flight or ready, and each that has one is open.
-use Rattle.std.proofs.Common.{◌≡◌, ℕ, zero, suc, ◌+◌, ◌-◌, ◌<◌, ◌≤◌, ◌&&◌, eqb, ltb, nat_le, Bool, true, false, true≢false, cond, List, [], ◌∷◌, ◌++◌, length, count_by, Option, Some, None, ◌⊎◌, inl, inr, refl, sym, ◌∙◌, ap, subst, arith}
+use Rattle.std.proofs.Common.{◌≡◌, ℕ, zero, suc, ◌+◌, ◌<◌, ◌≤◌, ◌&&◌, eqb, ltb, Bool, true, false, true≢false, List, [], ◌∷◌, ◌++◌, length, Option, Some, None, ◌⊎◌, inl, inr, refl, sym, ◌∙◌, ap, subst, arith}
 use Rattle.std.specs.Option.{option_map}
-use Rattle.std.proofs.lemmas.Bool.{cond_both, cond-true, cond-false, cases_eq, ltb-true, ltb-false, eqb-true, eqb-false, eq-eqb, ne_eqb, and_parts, and_from, both_ways}
+use Rattle.std.proofs.lemmas.Bool.{cond_both, cond-true, cond-false, cases_eq, ltb-true, ltb-false, eqb-true, eq-eqb, and_parts, and_from}
 use Rattle.sc_base.specs.Definitions.{Among, Each, client_actor}
-use Rattle.sc_node_table.specs.Values.{Draw, Op, Command, Noop, Call, Join, Leave, Split, Begin, Prepared, RecordVote, GiveUp, Finish, Watched, RecordWatch, AnswerBody, Mail, MailBody, Answer, Flight}
-use Rattle.sc_words.specs.paxos.Definitions.{LeaderState, flight_at, without_flight, without_flight_at, with_flight_at, with_voters}
+use Rattle.sc_node_table.specs.Values.{Draw, Op, Command, Noop, Call, Join, Leave, Split, Begin, Prepared, RecordVote, GiveUp, Finish, Watched, RecordWatch, AnswerBody, Mail, Answer, Flight}
+use Rattle.sc_words.specs.paxos.Definitions.{flight_at}
 use Rattle.sc_words.proofs.PaxosProofs.Lemmas.{Each-among}
-use Rattle.sc_node_table.specs.Definitions.{ReplicaState, next, taken_at, taken_from, open_slots, under_way, numbers_from, at_slot, with_slot, without_slot, either, listed, answered, answered_all, dismissed, dismissed_all, queued_number, without_request, is_request_of, put_back, request_before, slots_ahead}
+use Rattle.sc_node_table.specs.Definitions.{ReplicaState, next, taken_at, taken_from, open_slots, under_way, numbers_from, at_slot, either, listed, answered, answered_all, dismissed, dismissed_all, queued_number, without_request, is_request_of, put_back, request_before}
 use Rattle.sc_law_walks.proofs.Lemmas.{grows}
 use Rattle.sc_law_walks.proofs.Talks.{all_answered, all_dismissed}
 use Rattle.sc_live_plain.specs.Definitions.{takers}
-use Rattle.sc_live_plain.proofs.RowsProofs.SlotCounts.{count-cons, count-push, one_if, one_yes, one_no, entries_at, at_none, at_found, at_only, out_here, out_other, out_none, out_among, with_count, with_it, with_among, find_none}
+use Rattle.sc_live_plain.proofs.RowsProofs.SlotCounts.{count-cons, one_yes, one_no, entries_at, find_none}
 use Rattle.sc_live_plain.proofs.LeadersProofs.LeadingReplicas.{flights_at}
-use Rattle.sc_live_plain.proofs.LeadersProofs.Flights.{only_flight, voted_count, voted_value}
 use Rattle.sc_live_plain.proofs.RowsProofs.RepeatedMail.{mail_of, among_push, last_among}
 
 -- ---- whose request a command is
@@ -195,7 +194,7 @@ module _ (client seq : ℕ) where
       skipped _ f e = e
 
   -- a request whose number is found is queued
-  queued_there : (who : ℕ) (backlog : List Command) (number : ℕ) → queued_number backlog who ≡ Some number → (op : Op) × Among (Call who number op) backlog
+  pub queued_there : (who : ℕ) (backlog : List Command) (number : ℕ) → queued_number backlog who ≡ Some number → (op : Op) × Among (Call who number op) backlog
   queued_there who [] number e = absurd (none_some e)
     where
       none_some : {X : Type 0} {x : X} → None ≡ Some x → ⊥
@@ -210,7 +209,7 @@ module _ (client seq : ℕ) where
   queued_there who (Noop ∷ backlog) number e = (let more = queued_there who backlog number e in (more.0, inr more.1))
   queued_there who (_ ∷ backlog) number e = (let more = queued_there who backlog number e in (more.0, inr more.1))
 
-  ours_is : (op : Op) → IsOurs (Call client seq op)
+  pub ours_is : (op : Op) → IsOurs (Call client seq op)
   ours_is op = and_from (eqb client client) (eqb seq seq) (eq-eqb client client refl) (eq-eqb seq seq refl)
 
   -- a request that is queued stays so where another command goes back to the queue

@@ -1,5 +1,5 @@
 -- After the turn of a node the votes for what it has in flight are counted or under way, and stay so turn by turn; so where no mail is pending its settled replicas are idle.
-use Rattle.std.proofs.Common.{◌≡◌, ℕ, not, eqb, Bool, true, false, true≢false, List, [], ◌∷◌, ◌++◌, filter, find, Option, Some, None, ◌⊎◌, inl, inr, refl, sym, ◌∙◌, ap, subst, append-nil, append_assoc}
+use Rattle.std.proofs.Common.{◌≡◌, ℕ, not, eqb, Bool, true, false, true≢false, List, [], ◌∷◌, ◌++◌, filter, Option, Some, None, ◌⊎◌, inl, inr, refl, sym, ◌∙◌, ap, subst, append-nil, append_assoc}
 use Rattle.std.specs.Option.{option_map}
 use Rattle.std.specs.List.{list_any}
 use Rattle.std.proofs.lemmas.Bool.{cond_both, cond-true, cond-false, eqb-true, eq-eqb, and_parts}
@@ -9,18 +9,18 @@ use Rattle.sc_actor.specs.declared.rows.Event.TheVariants.{Tick as TickEvent, Go
 use Rattle.sc_actor.specs.declared.rows.Input.TheVariants.{Tick, Go}
 use Rattle.sc_actor.specs.Definitions.{mails, copies, counts_at, acted, input_of, value, may_get, has_crashed, has_started, numbers_of, row_of, acts, is_quiet, line_row, System}
 use Rattle.sc_actor.proofs.Lemmas.{value-snoc}
-use Rattle.sc_base.proofs.Lemmas.{map-some}
 use Rattle.sc_node_table.specs.Definitions.{NodeState, is_node, on_tick}
-use Rattle.sc_words.proofs.PaxosProofs.Lemmas.{find_found, Among-filter}
+use Rattle.sc_words.proofs.PaxosProofs.Lemmas.{Among-filter}
 use Rattle.sc_paxos_law.proofs.Lemmas.{Among-right}
 use Rattle.sc_scenario.specs.declared.scenario.scenarios.Scenario.{Scenario}
 use Rattle.sc_scenario.specs.scenario.Definitions.{IsBounded}
-use Rattle.sc_meaning.specs.sound.Definitions.{Player, as_nodes, births, player_table}
+use Rattle.sc_meaning.specs.sound.Definitions.{Player, player_table}
 use Rattle.sc_live_orderly.specs.Definitions.{Kick, Ticks, Starts, Turn, kick_line, mail_with, pending_mail, IsTurn, HasTurns}
 use Rattle.sc_live_orderly.specs.Turns.{as_list}
 use Rattle.sc_live_orderly.proofs.PendingMail.{none_pending}
 use Rattle.sc_live_orderly.proofs.RemainingMail.{after-row}
 use Rattle.sc_live_healed.specs.Definitions.{VotesAreUnderWay}
+use Rattle.sc_live_healed.proofs.LivingActors.{acts_row}
 use Rattle.sc_live_healed.proofs.FixedJournals.{Rows, IsOf, fresh}
 use Rattle.sc_live_healed.proofs.TakenJournals.{groups_rosters}
 use Rattle.sc_live_healed.proofs.VotesBesides.{votes_with_more, votes_after_tick}
@@ -74,13 +74,6 @@ module _ (words : ℕ → ℕ → ℕ × ℕ) (scenario : Scenario) (bounded : I
   start_same : (rows : Rows) → Lets rows → (acted player_table (value player_table seat rows) (Some Go)).0 ≡ value player_table seat rows
   start_same rows l = (let was = l.nodes seat is_of living in ap (λ (p : Player). (acted player_table p (Some Go)).0) was.1 ∙ sym was.1)
 
-  -- the row of an actor's event
-  acts_row : (rows : Rows) (who : ℕ) (event : Event OrderLine) (row : Row Mail OrderLine) → acts System_ rows who event ≡ Some row → (row.who ≡ who) × (row.event ≡ event)
-  acts_row rows who event row e =
-      let m = map-some (λ (other : Seat Player). row_of player_table other rows event) (find (λ (other : Seat Player). eqb other.who who) (births as_nodes scenario)) row e in
-      let found = find_found (λ (other : Seat Player). eqb other.who who) (births as_nodes scenario) m.0 m.1 in
-      (sym (ap (λ (r : Row Mail OrderLine). r.who) m.2) ∙ eqb-true m.0.who who found.1, sym (ap (λ (r : Row Mail OrderLine). r.event) m.2))
-
   not_crashed : (rows : Rows) → Lets rows → has_crashed rows seat.who ≡ false
   not_crashed rows l = by (has_crashed rows seat.who) (and_parts (list_any (λ actor. eqb actor seat.who) (numbers_of System_.births)) (not (has_crashed rows seat.who)) (l.gets seat.who living)).1
     where
@@ -104,10 +97,10 @@ module _ (words : ℕ → ℕ → ℕ × ℕ) (scenario : Scenario) (bounded : I
   elsewhere : (rows : Rows) (kick : Kick) (who : ℕ) (first : Option (Row Mail OrderLine)) → Lets rows → is_quiet System_ rows ≡ true → line_row System_ rows (kick_line kick who) ≡ first → (kick ≡ Ticks → who ≡ seat.who → ⊥) → Votes rows → Votes (rows ++ as_list first)
   elsewhere rows kick who None l quiet e other votes = subst Votes (sym (append-nil rows)) votes
   elsewhere rows Ticks who (Some row) l quiet e other votes =
-      let a = acts_row rows who TickEvent row (cond_both (has_crashed rows who) None (acts System_ rows who TickEvent) (λ (o : Option (Row Mail OrderLine)). o ≡ Some row → acts System_ rows who TickEvent ≡ Some row) (λ _ k. cc) (λ _ k. k) e) in
+      let a = acts_row System_ rows who TickEvent row (cond_both (has_crashed rows who) None (acts System_ rows who TickEvent) (λ (o : Option (Row Mail OrderLine)). o ≡ Some row → acts System_ rows who TickEvent ≡ Some row) (λ _ k. cc) (λ _ k. k) e) in
       left_alone rows row quiet (λ same. absurd (other refl (sym a.0 ∙ same))) votes
   elsewhere rows Starts who (Some row) l quiet e other votes =
-      let a = acts_row rows who GoEvent row (cond_both (has_started rows who) None (acts System_ rows who GoEvent) (λ (o : Option (Row Mail OrderLine)). o ≡ Some row → acts System_ rows who GoEvent ≡ Some row) (λ _ k. cc) (λ _ k. k) e) in
+      let a = acts_row System_ rows who GoEvent row (cond_both (has_started rows who) None (acts System_ rows who GoEvent) (λ (o : Option (Row Mail OrderLine)). o ≡ Some row → acts System_ rows who GoEvent ≡ Some row) (λ _ k. cc) (λ _ k. k) e) in
       left_alone rows row quiet (λ same. ap (λ (event : Event OrderLine). (acted player_table (value player_table seat rows) (input_of (mails rows) event)).0) a.1 ∙ start_same rows l) votes
 
   module _ (rows : Rows) (turn : Turn) (after : Rows) (t : IsTurn System_ rows turn after) (lets : (more later : Rows) → after ≡ (rows ++ more) ++ later → Lets (rows ++ more)) where
