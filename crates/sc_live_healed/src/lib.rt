@@ -8,21 +8,16 @@
 //! that crashed.
 #![tactic(auto)]
 
-ghost use Rattle.sc_live_healed.specs.Definitions.{HealedStoresAnswer, HealedStoresIdle};
+ghost use Rattle.sc_live_healed.specs.HealedStores.{HealedStoresAnswer};
 
-/// Proves that a store heals: let the lines of a valid scenario without policy be any lines but
-/// orders, a `settle` line, turns of nodes, each living node among them, and turns of clients, a
-/// turn being a tick or a start with a `settle` line behind it; and let more than half of each
+/// Proves that ticks heal a store: let the lines of a valid scenario without policy be any lines
+/// but orders, a `settle` line, turns of nodes, each living node among them, and turns of clients,
+/// a turn being a tick or a start with a `settle` line behind it; and let more than half of each
 /// group's members live. In each whole lawful journal of at most 2^28 rows in which no line was
-/// cut off, each replica that runs at a living node is settled behind the turns of nodes, and
-/// behind each turn of a client, and has nothing in flight, ready or queued.
-pub fn healed_stores_stay_idle()
-    ensures { HealedStoresIdle }
-{}
-
-/// Proves that a store that healed answers: in the same journals, behind each turn of a client that
-/// ticks after its start, or starts there, the client has a reply to each of its requests, or the
-/// node that it asked last has crashed. Where no line crashes a node, it has all replies.
+/// cut off, behind the turns of nodes, and behind each turn of a client, each replica that runs at
+/// a living node is settled and has nothing in flight, ready or queued. Each client that its turn
+/// ticks or starts has all its replies behind it, or the node that it asked last has crashed; and
+/// where no line crashes a node, it has all its replies.
 pub fn healed_stores_answer()
     ensures { HealedStoresAnswer }
 {}

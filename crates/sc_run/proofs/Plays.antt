@@ -71,6 +71,7 @@ module _ (law : ValidJournalsAreSound) (causes : ValidJournalsRefuseWithCause) (
         uncut = λ calm settled short. budgets.uncut two_words scenario journal valid calm allowed through (sym same_cut ∙ settled) short;
         last = λ ends short. budgets.last two_words scenario journal valid ends allowed through short;
         reported = λ calm settled short. budgets.reported two_words scenario journal valid calm allowed through (sym same_cut ∙ settled) short;
+        healed = λ heals living settled short. budgets.healed two_words scenario journal heals valid living allowed through (sym same_cut ∙ settled) short;
       }
 
   -- a journal that a driver has filled is a play's
@@ -104,6 +105,7 @@ comes_ended Shows scenario cut quiet skips journal parties text e lines journal_
   answered = λ calm ended. e.uncut calm (ended_uncut cut ended) (let counts = journal_counts mail_weight journal in let within = e.within in omega (arith, counts, within));
   last = λ ends. e.last ends (let counts = journal_counts mail_weight journal in let within = e.within in omega (arith, counts, within));
   reported = λ calm ended. e.reported calm (ended_uncut cut ended) (let counts = journal_counts mail_weight journal in let within = e.within in omega (arith, counts, within));
+  healed = λ heals living ended. e.healed heals living (ended_uncut cut ended) (let counts = journal_counts mail_weight journal in let within = e.within in omega (arith, counts, within));
 })
 
 -- the text of a run whose journal is full

@@ -23,6 +23,7 @@ use Rattle.sc_live_plain.specs.LastLine.{LastLinesAnswer}
 use Rattle.sc_live_plain.specs.Laws.{PlainLinesEndQuiet, PlainRequestsAreAnswered, PlainJournalsAreLight}
 use Rattle.sc_live_answers.specs.AnsweredRequests.{CalmLinesSettle, CalmRequestsAreAnswered, SettledRequestsAreAnswered}
 use Rattle.sc_live_answers.specs.ReportedOrders.{AreOrdersReported, SettledOrdersAreReported}
+use Rattle.sc_live_healed.specs.HealedStores.{HealedStoresAnswer}
 use Rattle.sc_cli.specs.Subcommands.{subcommand_by}
 use Rattle.sc_cli.specs.declared.subcommands.Subcommand.{Subcommand}
 use Rattle.sc_cli.specs.declared.subcommands.Subcommand.TheVariants as ask
@@ -34,8 +35,8 @@ use Rattle.sc_run.specs.Run.{Comes, Ends, PlaysUntilFull, Refuses, SaysFor, Show
 use Rattle.sc_run.specs.Shown.{ShowsScan}
 
 -- the laws of plain and of calm journals, together
-pub suffice : PlainLinesEndQuiet → PlainRequestsAreAnswered → PlainJournalsAreLight → CalmLinesSettle → CalmRequestsAreAnswered → SettledRequestsAreAnswered → LastLinesAnswer → SettledOrdersAreReported → BudgetsSuffice
-suffice plain_quiet plain_answered light calm_quiet calm_answered settled_answered last_answered settled_reported = record {
+pub suffice : PlainLinesEndQuiet → PlainRequestsAreAnswered → PlainJournalsAreLight → CalmLinesSettle → CalmRequestsAreAnswered → SettledRequestsAreAnswered → LastLinesAnswer → SettledOrdersAreReported → HealedStoresAnswer → BudgetsSuffice
+suffice plain_quiet plain_answered light calm_quiet calm_answered settled_answered last_answered settled_reported heals = record {
   settled = λ words scenario journal valid within lawful. elim within [
     | inl plain ↦ plain_quiet words scenario journal valid plain lawful
     | inr calm ↦ calm_quiet words scenario journal valid calm lawful
@@ -48,6 +49,7 @@ suffice plain_quiet plain_answered light calm_quiet calm_answered settled_answer
   uncut = settled_answered;
   last = last_answered;
   reported = settled_reported;
+  healed = heals;
 }
 
 -- what was said, and the journal of the text

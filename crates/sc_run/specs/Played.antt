@@ -18,13 +18,15 @@ use Rattle.sc_live_plain.specs.Budget.{IsAtBudget, AreAnswered}
 use Rattle.sc_live_plain.specs.CalmBudget.{IsCalm}
 use Rattle.sc_live_plain.specs.LastLine.{EndsAtBudget}
 use Rattle.sc_live_answers.specs.ReportedOrders.{AreOrdersReported}
+use Rattle.sc_live_healed.specs.HealedSchedules.{IsHealed, HasLivingMajorities}
+use Rattle.sc_live_healed.specs.HealedStores.{Heals}
 use Rattle.sc_run.specs.Budgets.{IsWithinBudget}
 
 -- the weight of a mail
 abbrev pub mail_weight : Mail → ℕ
 mail_weight mail = body_weight mail.body
 
--- The journal is lawful and whole and within the limit, each prefix of it is sound and each refusal has its cause, the counts are the walk's, and each party is its replay. Within its budget no line is cut off, and every request of a client whose `go` line is followed by a line of deliveries is answered; so it is where the scenario is calm, no line was cut off and the rows are no more than 2^28, and then the result of each order is reported; and where it is plain, its last line is at the budget and the rows are no more than that.
+-- The journal is lawful and whole and within the limit, each prefix of it is sound and each refusal has its cause, the counts are the walk's, and each party is its replay. Within its budget no line is cut off, and every request of a client whose `go` line is followed by a line of deliveries is answered; so it is where the scenario is calm, no line was cut off and the rows are no more than 2^28, and then the result of each order is reported; and where it is plain, its last line is at the budget and the rows are no more than that. Where its lines heal, more than half of each group lives, no line was cut off and the rows are no more than that, the store heals.
 pub record HasPlayedToEnd (scenario : Scenario) (limit : ℕ) (cut quiet : Bool) (skips : ℕ) (journal : List (Row Mail OrderLine)) (left : List Player) : Type 0 where
   pub lawful : Lawful as_nodes two_words scenario journal
   pub whole : Whole as_nodes two_words scenario journal
@@ -40,6 +42,7 @@ pub record HasPlayedToEnd (scenario : Scenario) (limit : ℕ) (cut quiet : Bool)
   pub uncut : IsCalm scenario → cut ≡ false → length journal ≤ 2 ^ 28 → AreAnswered scenario journal
   pub last : EndsAtBudget scenario → length journal ≤ 2 ^ 28 → AreAnswered scenario journal
   pub reported : IsCalm scenario → cut ≡ false → length journal ≤ 2 ^ 28 → AreOrdersReported scenario journal
+  pub healed : (healed : IsHealed scenario) → HasLivingMajorities scenario → cut ≡ false → length journal ≤ 2 ^ 28 → Heals two_words scenario healed journal
 
 -- The journal is lawful and within the limit, each prefix of it is sound and each refusal has its cause, and a row that may come next passes the limit, which no journal of a plain scenario at its budget does unless the limit is below 2^30 bytes.
 pub record HasFilled (scenario : Scenario) (limit : ℕ) (journal : List (Row Mail OrderLine)) : Type 0 where

@@ -26,6 +26,8 @@ use Rattle.sc_live_plain.specs.Budget.{IsAtBudget, AreAnswered}
 use Rattle.sc_live_plain.specs.CalmBudget.{IsCalm}
 use Rattle.sc_live_plain.specs.LastLine.{EndsAtBudget}
 use Rattle.sc_live_answers.specs.ReportedOrders.{AreOrdersReported}
+use Rattle.sc_live_healed.specs.HealedSchedules.{IsHealed, HasLivingMajorities}
+use Rattle.sc_live_healed.specs.HealedStores.{Heals}
 use Rattle.sc_run.specs.Budgets.{IsWithinBudget}
 use Rattle.sc_run.specs.Played.{mail_weight, HasFilled}
 use Rattle.sc_run.specs.Shown.{ShowsScan}
@@ -87,7 +89,7 @@ pub record ReportsJournal (Shows : List (Row Mail OrderLine) → List (List ℕ)
   pub journal_is : text.journal ≡ Some journal
   pub parties_are : text.parties ≡ parties as_nodes scenario journal
 
--- The text shows some journal of the scenario, and says whether a line was cut off with mail pending. Within the scenario's budget none was. Where the scenario is calm and none was, every request of a client whose `go` line is followed by a line of deliveries is answered, and the result of each order is reported; where it is plain and its last line is at the budget such requests are answered, whatever lines before it were cut off.
+-- The text shows some journal of the scenario, and says whether a line was cut off with mail pending. Within the scenario's budget none was. Where the scenario is calm and none was, every request of a client whose `go` line is followed by a line of deliveries is answered, and the result of each order is reported; where it is plain and its last line is at the budget such requests are answered, whatever lines before it were cut off. Where its lines heal, more than half of each group lives and none was cut off, the store heals.
 pub record Plays (Shows : List (Row Mail OrderLine) → List (List ℕ) → Type 0) (scenario : Scenario) (said : Said) (text : Text) : Type 0 where
   pub journal : List (Row Mail OrderLine)
   pub reports : ReportsJournal Shows scenario journal text
@@ -96,6 +98,7 @@ pub record Plays (Shows : List (Row Mail OrderLine) → List (List ℕ) → Type
   pub answered : IsCalm scenario → said ≡ Ended → AreAnswered scenario journal
   pub last : EndsAtBudget scenario → AreAnswered scenario journal
   pub reported : IsCalm scenario → said ≡ Ended → AreOrdersReported scenario journal
+  pub healed : (healed : IsHealed scenario) → HasLivingMajorities scenario → said ≡ Ended → Heals two_words scenario healed journal
 
 -- The text reports of some journal of the scenario that it is full: a row that may come next passes the limit. No journal of a plain scenario at its budget is.
 pub record PlaysUntilFull (scenario : Scenario) (said : Said) (text : Text) : Type 0 where
