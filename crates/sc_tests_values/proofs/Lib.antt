@@ -1,2 +1,3 @@
+mod WorkedHealing
 mod WorkedJoin
 mod WorkedSplit
