@@ -58,8 +58,8 @@ client_turn = record { client = 1; kick = Ticks; most = 200 }
 -- each node that lives has a turn
 swept : (node : ℕ) → lives healing node ≡ true → (turn : NodeTurn) × Among turn (first_turn ∷ second_turn ∷ []) × (turn.node ≡ node)
 swept zero is = let no : lives healing zero ≡ false = refl in cc
-swept (suc zero) is = (first_turn, (inl refl, refl))
-swept (suc (suc zero)) is = (second_turn, (inr (inl refl), refl))
+swept (suc zero) is = (first_turn, inl refl, refl)
+swept (suc (suc zero)) is = (second_turn, inr (inl refl), refl)
 swept (suc (suc (suc more))) is = let no : lives healing (suc (suc (suc more))) ≡ false = refl in cc
 
 -- the lines heal
