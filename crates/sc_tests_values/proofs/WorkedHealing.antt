@@ -1,5 +1,5 @@
 -- A schedule that heals, computed: mail of two nodes and a client is delivered, lost and repeated at random, and then the nodes and the client tick, each with a `settle` line behind it. Scenario and journal are those of `healed_after_losses`.
-use Rattle.std.proofs.Common.{◌≡◌, ℕ, zero, suc, List, [], ◌∷◌, ◌++◌, Some, None, inl, inr, refl, subst}
+use Rattle.std.proofs.Common.{◌≡◌, ℕ, zero, suc, ◌≤◌, arith, List, [], ◌∷◌, ◌++◌, Some, None, inl, inr, refl, subst}
 use Rattle.std.specs.Prelude.{true, false, length}
 use Rattle.std.specs.List.{list_any}
 use Rattle.sc_base.specs.Definitions.{Among}
@@ -22,6 +22,7 @@ use Rattle.sc_meaning.specs.sound.Requests.{kept_replies}
 use Rattle.sc_live_orderly.specs.Turns.{Ticks}
 use Rattle.sc_live_healed.specs.HealedSchedules.{crashes, lives, HasLivingMajorities, NodeTurn, ClientTurn, IsHealed}
 use Rattle.sc_live_healed.specs.HealedStores.{HasReplies, IsKicked}
+use Rattle.sc_live_healed.proofs.LivingSeats.{living_bounds}
 
 -- the group, of two nodes
 abbrev pair : Base
@@ -60,7 +61,7 @@ swept : (node : ℕ) → lives healing node ≡ true → (turn : NodeTurn) × Am
 swept zero is = let no : lives healing zero ≡ false = refl in cc
 swept (suc zero) is = (first_turn, inl refl, refl)
 swept (suc (suc zero)) is = (second_turn, inr (inl refl), refl)
-swept (suc (suc (suc more))) is = let no : lives healing (suc (suc (suc more))) ≡ false = refl in cc
+swept (suc (suc (suc more))) is = (let high : suc (suc (suc more)) ≤ 2 = (living_bounds healing (suc (suc (suc more))) is).1 in absurd (omega (arith, high)))
 
 -- the lines heal
 is_healed : IsHealed healing
