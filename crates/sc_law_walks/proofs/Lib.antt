@@ -35,3 +35,5 @@ pub mod EnteredReplicas
 pub mod Routes
 pub mod AscendingMembers
 pub mod ReplicaNodes
+pub mod Replays
+pub mod TransactionRows
