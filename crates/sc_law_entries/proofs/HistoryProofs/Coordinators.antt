@@ -42,6 +42,10 @@ use Rattle.sc_law_entries.proofs.HistoryProofs.Parties.{next_before, others_held
 use Rattle.sc_law_entries.proofs.HistoryProofs.PlanHoldings.{plans_move}
 use Rattle.sc_law_entries.proofs.HistoryProofs.Staying.{Goes, free_by, idles, none_committed, order_cases, stays}
 
+-- who coordinates a transaction
+it_is : (group : Group) (tx : Draw) (body : Body) (order : ℕ) (heard : Option Heard) → group.core.lock ≡ Coordinating tx body order heard → is_coordinating group.core.lock tx ≡ true
+it_is group tx body order heard lock = ap (λ l. is_coordinating l tx) lock ∙ same_name tx tx refl
+
 -- ---- a participant's vote
 
 module _ (request : RequestOf) (world : StoreWorld) (name : Draw) (group : Group) (found : named_group name world.groups ≡ Some group) (tx : Draw) (vote : Vote) (by : ℕ)
@@ -120,20 +124,16 @@ module _ (request : RequestOf) (world : StoreWorld) (name : Draw) (group : Group
           migrate_goes request world name group found (RecordVote tx vote by) tx (Migrated node) (migrated_group group node frozen) frozen refl refl refl refl refl own party coordinates
           node refl refl (welcomes next tx party.offer node party.lock)
 
-  -- who coordinates a transaction
-  it_is : (body : Body) (order : ℕ) (heard : Option Heard) → group.core.lock ≡ Coordinating tx body order heard → is_coordinating group.core.lock tx ≡ true
-  it_is body order heard lock = ap (λ l. is_coordinating l tx) lock ∙ same_name tx tx refl
-
   pub vote_goes : Goes request world name group found (RecordVote tx vote by) (applied group (RecordVote tx vote by))
   vote_goes =
       vote_step group tx vote by Hears (record {
         quiet = quiet;
-        hears = λ order lock frozen votes other. hears (it_is At.Merge order None lock) frozen votes order;
-        aborts = λ body order lock why votes. aborts (it_is body order None lock);
-        closes = λ order lock frozen votes two can. closes (it_is At.Merge order None lock) frozen votes;
-        gives = λ at order lock frozen votes within can. gives (it_is (At.Repart at) order None lock) frozen votes at (may.fits at order None lock) within can;
-        takes = λ at order lock frozen votes out can. takes (it_is (At.Repart at) order None lock) frozen votes at (may.fits at order None lock) out can;
-        migrates = λ node order lock frozen votes can. migrates (it_is (At.Migrate node) order None lock) frozen votes node;
+        hears = λ order lock frozen votes other. hears (it_is group tx At.Merge order None lock) frozen votes order;
+        aborts = λ body order lock why votes. aborts (it_is group tx body order None lock);
+        closes = λ order lock frozen votes two can. closes (it_is group tx At.Merge order None lock) frozen votes;
+        gives = λ at order lock frozen votes within can. gives (it_is group tx (At.Repart at) order None lock) frozen votes at (may.fits at order None lock) within can;
+        takes = λ at order lock frozen votes out can. takes (it_is group tx (At.Repart at) order None lock) frozen votes at (may.fits at order None lock) out can;
+        migrates = λ node order lock frozen votes can. migrates (it_is group tx (At.Migrate node) order None lock) frozen votes node;
       })
 
 -- ---- a watcher's vote
@@ -168,17 +168,13 @@ module _ (request : RequestOf) (world : StoreWorld) (name : Draw) (group : Group
       (λ other g there. others_held world.transactions tx group.core.id Divided g g.core.lock refl (λ offer e. facts.2 other g offer there e))
       refl refl facts.0 (cut_is group.core.arc at (and_parts (can_cut group.core.arc at) (nat_le 2 (length group.core.members)) can).0)
 
-  -- who coordinates a transaction
-  its_own : (body : Body) (order : ℕ) (heard : Option Heard) → group.core.lock ≡ Coordinating tx body order heard → is_coordinating group.core.lock tx ≡ true
-  its_own body order heard lock = ap (λ l. is_coordinating l tx) lock ∙ same_name tx tx refl
-
   pub watch_goes : Goes request world name group found (RecordWatch tx vote by) (applied group (RecordWatch tx vote by))
   watch_goes =
       watch_step group tx vote HearsWatch (record {
         quiet = still;
-        aborts = λ body order got lock no_yes. watch_aborts (its_own body order got lock);
-        divides = λ at child order got lock votes can. watched_split (its_own (At.Split at child) order got lock) at child order got lock votes can;
-        merges = λ order heard lock votes can. watched_merge (its_own At.Merge order (Some heard) lock) order heard lock votes;
+        aborts = λ body order got lock no_yes. watch_aborts (it_is group tx body order got lock);
+        divides = λ at child order got lock votes can. watched_split (it_is group tx (At.Split at child) order got lock) at child order got lock votes can;
+        merges = λ order heard lock votes can. watched_merge (it_is group tx At.Merge order (Some heard) lock) order heard lock votes;
       })
 
 -- ---- a split

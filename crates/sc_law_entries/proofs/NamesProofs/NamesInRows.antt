@@ -233,9 +233,11 @@ module _ (K : Draw → Type 0) where
   name_ticks = record {
     waited = λ waits r mails f. f;
     gives_up = λ tx body order heard r mails e on no f. (with_act r (GiveUp tx) (subst (λ (lock : Lock). LockNames K lock) e f.0.core.lock).0 f.0, f.1);
-    reminds = λ r mails on f. (f.0, reminder_names r.group.core.lock r.me r.group mails f.0.core.lock f.0.core f.1);
-    reasks = λ to slot command r mails on e f. sent_fine r to (Accept (name_of r) r.leader.ballot slot command) mails (f.0.core.id, subst (λ (o : Option Command). Cmd K o) e (flying_names K r slot f.0)) f;
-    relearns = λ to command r mails e f. sent_fine r to (Learn (name_of r) (next r - 1) command) mails (f.0.core.id, subst (λ (o : Option Command). Cmd K o) e (held_names K (next r - 1) r f.0)) f;
+    agains = record {
+      reminds = λ r mails on f. (f.0, reminder_names r.group.core.lock r.me r.group mails f.0.core.lock f.0.core f.1);
+      reasks = λ to slot command r mails on e f. sent_fine r to (Accept (name_of r) r.leader.ballot slot command) mails (f.0.core.id, subst (λ (o : Option Command). Cmd K o) e (flying_names K r slot f.0)) f;
+      relearns = λ to command r mails e f. sent_fine r to (Learn (name_of r) (next r - 1) command) mails (f.0.core.id, subst (λ (o : Option Command). Cmd K o) e (held_names K (next r - 1) r f.0)) f;
+    };
   }
 
   -- ---- all rows

@@ -31,7 +31,7 @@ use Rattle.sc_law_entries.proofs.RingProofs.Recut.{IsWhole, merge_whole}
 use Rattle.sc_law_entries.proofs.RingProofs.Facts.{IsOf}
 use Rattle.sc_law_entries.proofs.RingProofs.Ends.{own_story}
 use Rattle.sc_law_entries.proofs.RingProofs.Effects.{decisions, outcome_of, settle_by, living, eff, arc_of, succ_of, pred_of, view_of, IsInside, AllInside, Good, Agrees, whole_agree, inside_same, Old, eff_by, living_is, eff_free, party}
-use Rattle.sc_law_entries.proofs.RingProofs.RequestsAndVotes.{same_fun, watch_settled}
+use Rattle.sc_law_entries.proofs.RingProofs.RequestsAndOrders.{same_fun, watch_settled}
 use Rattle.sc_law_entries.proofs.RingProofs.Insides.{InsideOf, room_of}
 use Rattle.sc_law_entries.proofs.RingProofs.Finds.{some_none}
 

@@ -37,7 +37,8 @@ use Rattle.sc_law_entries.proofs.RingProofs.CommittedViews.{ring_cut, ring_out, 
 use Rattle.sc_law_entries.proofs.RingProofs.Reshapes.{Ends, merge_closing, merge_watched}
 use Rattle.sc_law_entries.proofs.RingProofs.Moves.{cut_is, give_commit, take_commit, migrate_commit}
 use Rattle.sc_law_entries.proofs.RingProofs.Splits.{divide_commit}
-use Rattle.sc_law_entries.proofs.RingProofs.RequestsAndVotes.{Kept, idle_told, told_at, outcome_like}
+use Rattle.sc_law_entries.proofs.RingProofs.RequestsAndOrders.{Kept, idle_told, told_at}
+use Rattle.sc_law_entries.proofs.RingProofs.VotesOfParties.{outcome_like}
 use Rattle.sc_law_entries.proofs.RingProofs.Finds.{some_none}
 use Rattle.sc_law_entries.proofs.RingProofs.Facts.{StayBorn}
 

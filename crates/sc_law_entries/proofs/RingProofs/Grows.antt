@@ -35,7 +35,7 @@ use Rattle.sc_law_entries.proofs.RingProofs.View.{Ring}
 use Rattle.sc_law_entries.proofs.RingProofs.Cover.{at-is, at-other}
 use Rattle.sc_law_entries.proofs.RingProofs.EntryKinds.{unheard, not_passed}
 use Rattle.sc_law_entries.proofs.RingProofs.Ends.{draw_new, own_story, same_lock}
-use Rattle.sc_law_entries.proofs.RingProofs.RequestsAndVotes.{Kept, named_cases}
+use Rattle.sc_law_entries.proofs.RingProofs.RequestsAndOrders.{Kept, named_cases}
 use Rattle.sc_law_entries.proofs.RingProofs.CutLookups.{arcs_in}
 use Rattle.sc_law_entries.proofs.RingProofs.GroupsInLists.{groups_in}
 use Rattle.sc_law_entries.proofs.RingProofs.Start.{at_start}

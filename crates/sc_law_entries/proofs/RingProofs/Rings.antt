@@ -21,7 +21,7 @@ use Rattle.sc_law_entries.proofs.RingProofs.Cover.{at-other}
 use Rattle.sc_law_entries.proofs.RingProofs.Finds.{Pairwise, pairwise_filter}
 use Rattle.sc_law_entries.proofs.RingProofs.CutLookups.{arcs_in, recut_is, without_is, divided_is, flat_none, none_each, apart_divided, apart_recut, no_cut}
 use Rattle.sc_law_entries.proofs.RingProofs.CommittedViews.{ring_split, ring_cut, ring_merge, ring_move, ring_out, ring_told}
-use Rattle.sc_law_entries.proofs.RingProofs.RequestsAndVotes.{same_fun}
+use Rattle.sc_law_entries.proofs.RingProofs.RequestsAndOrders.{same_fun}
 
 abbrev pub AreApart : List Cut → Type 0
 AreApart ring = Pairwise (λ (c o : Cut). c.group ≢ o.group) ring

@@ -22,7 +22,7 @@ use Rattle.sc_law_entries.proofs.RingProofs.Finds.{all_pairs}
 use Rattle.sc_law_entries.proofs.RingProofs.CutLookups.{arcs_in, cut_of_arc, arc_of_cut}
 use Rattle.sc_law_entries.proofs.RingProofs.EntryKinds.{IsOpen}
 use Rattle.sc_law_entries.proofs.RingProofs.Effects.{decisions, settle_by, living_by, eff, arc_of, succ_of, pred_of, view_of, Old}
-use Rattle.sc_law_entries.proofs.RingProofs.RequestsAndVotes.{same_fun, serving}
+use Rattle.sc_law_entries.proofs.RingProofs.RequestsAndOrders.{same_fun, serving}
 use Rattle.sc_law_entries.proofs.RingProofs.GroupsInLists.{groups_in, Agree, decision_is}
 use Rattle.sc_law_entries.proofs.RingProofs.Worlds.{KeptWorld, kept_after}
 use Rattle.sc_law_entries.proofs.RingProofs.Start.{at_start, is_held, arc_some}

@@ -37,7 +37,7 @@ use Rattle.sc_law_entries.proofs.RingProofs.CommittedViews.{ring_cut, promise_se
 use Rattle.sc_law_entries.proofs.RingProofs.Moves.{IsCut}
 use Rattle.sc_law_entries.proofs.RingProofs.Splits.{split_now}
 use Rattle.sc_law_entries.proofs.RingProofs.Decisions.{born_too}
-use Rattle.sc_law_entries.proofs.RingProofs.RequestsAndVotes.{Kept, idle, named_cases, lock_taken, watch_settled}
+use Rattle.sc_law_entries.proofs.RingProofs.RequestsAndOrders.{Kept, idle, named_cases, lock_taken, watch_settled}
 use Rattle.sc_law_entries.proofs.RingProofs.Finds.{some_none}
 
 -- ---- a split

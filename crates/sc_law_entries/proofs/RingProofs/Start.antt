@@ -24,7 +24,7 @@ use Rattle.sc_law_entries.proofs.RingProofs.CutLookups.{arcs_in, cut_of_arc, arc
 use Rattle.sc_law_entries.proofs.RingProofs.Effects.{decisions, eff, arc_of, succ_of, pred_of, view_of, IsInside, Good, Old, eff_free}
 use Rattle.sc_law_entries.proofs.RingProofs.Insides.{holds_first}
 use Rattle.sc_law_entries.proofs.RingProofs.GroupsInLists.{groups_in}
-use Rattle.sc_law_entries.proofs.RingProofs.RequestsAndVotes.{same_fun}
+use Rattle.sc_law_entries.proofs.RingProofs.RequestsAndOrders.{same_fun}
 use Rattle.sc_law_entries.proofs.RingProofs.Rings.{AreApart}
 use Rattle.sc_law_entries.proofs.RingProofs.Worlds.{KeptWorld}
 use Rattle.std.proofs.lemmas.Option.{none-some, same_Some}

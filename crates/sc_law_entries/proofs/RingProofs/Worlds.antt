@@ -33,7 +33,8 @@ use Rattle.sc_law_entries.proofs.RingProofs.View.{Ring}
 use Rattle.sc_law_entries.proofs.RingProofs.Cover.{at-same, at-other}
 use Rattle.sc_law_entries.proofs.RingProofs.Ends.{draw_new, group_none, own_story, same_lock}
 use Rattle.sc_law_entries.proofs.RingProofs.Effects.{decisions, eff, arc_of}
-use Rattle.sc_law_entries.proofs.RingProofs.RequestsAndVotes.{Kept, same_fun, idle, call_kept, join_kept, leave_kept, begin_kept, prepared_kept, watched_kept, named_cases}
+use Rattle.sc_law_entries.proofs.RingProofs.RequestsAndOrders.{Kept, same_fun, idle, call_kept, join_kept, leave_kept, begin_kept, named_cases}
+use Rattle.sc_law_entries.proofs.RingProofs.VotesOfParties.{prepared_kept, watched_kept}
 use Rattle.sc_law_entries.proofs.RingProofs.CutLookups.{arcs_in}
 use Rattle.sc_meaning.proofs.EntriesProofs.Lemmas.{found_name}
 use Rattle.sc_law_entries.proofs.RingProofs.GroupsInLists.{groups_in, with_child, groups_are, AreFound, found_after, Agree, story_brief, agree_begun, agree_retold, agree_watcher, agree_concluded}
