@@ -23,5 +23,7 @@ pub use Rattle.sc_law_walks.proofs.CommandWalks.{VoteWalk, vote_step, decided_wa
 pub use Rattle.sc_law_walks.proofs.Routes.{takes_by}
 pub use Rattle.sc_law_walks.proofs.AscendingMembers.{none_below}
 pub use Rattle.sc_law_walks.proofs.ReplicaNodes.{FoundOne, found_one, EachReplica, ReplicaRows, node_step}
-pub use Rattle.sc_law_walks.proofs.Replays.{replay_keeps}
+pub use Rattle.sc_law_walks.proofs.Replays.{replay_keeps, got_no_go}
+pub use Rattle.sc_law_walks.proofs.Lists.{Each-drop, map_among}
+pub use Rattle.sc_law_walks.proofs.RefusedOrders.{order_refused}
 pub use Rattle.sc_law_walks.proofs.TransactionRows.{TransactionParts}

@@ -36,4 +36,6 @@ pub mod Routes
 pub mod AscendingMembers
 pub mod ReplicaNodes
 pub mod Replays
+pub mod Lists
+pub mod RefusedOrders
 pub mod TransactionRows

@@ -1,5 +1,5 @@
 -- All names of a lawful journal are those of the scenario, and those that nodes drew.
-use Rattle.std.proofs.Common.{◌≡◌, ℕ, zero, suc, ◌+◌, ◌<◌, ◌≤◌, eqb, cond, List, [], ◌∷◌, ◌++◌, filter, map, Option, Some, None, ◌⊎◌, inl, inr, refl, sym, ◌∙◌, ap, subst, arith}
+use Rattle.std.proofs.Common.{◌≡◌, ℕ, zero, suc, ◌+◌, ◌<◌, ◌≤◌, eqb, List, [], ◌∷◌, ◌++◌, filter, map, Option, Some, None, ◌⊎◌, inl, inr, refl, sym, ◌∙◌, ap, subst, arith}
 use Rattle.std.specs.Option.{option_map}
 use Rattle.std.proofs.lemmas.Bool.{cond_both, eqb-true}
 use Rattle.sc_base.specs.Definitions.{Among, Each, next_name, is_member}
@@ -24,6 +24,7 @@ use Rattle.sc_law_entries.proofs.NamesProofs.Ordered.{it_ticks, it_is_owned}
 use Rattle.sc_law_entries.proofs.NamesProofs.LoggedNames.{decided_names}
 use Rattle.sc_law_entries.proofs.NamesProofs.Owned.{owned_later}
 use Rattle.sc_law_entries.proofs.NamesProofs.Playing.{Brings, node_names, client_names}
+use Rattle.sc_law_walks.proofs.Replays.{replay_keeps}
 
 -- ---- a client stays one
 
@@ -31,16 +32,12 @@ abbrev pub IsClient : Player → Type 0
 IsClient (Node node) = ⊥
 IsClient (Client client) = Unit {0}
 
-acted_client : (p : Player) (input : Option (Input Mail OrderLine)) → IsClient p → IsClient (acted player_table p input).0
-acted_client (Node node) input c = absurd c
-acted_client (Client client) None c = tt
-acted_client (Client client) (Some input) c = tt
+client_keeps : (p : Player) (input : Input Mail OrderLine) → IsClient p → IsClient (player_table p input).0
+client_keeps (Node node) input c = absurd c
+client_keeps (Client client) input c = tt
 
 pub replay_client : (who : ℕ) (p : Player) (sent : List Mail) (rows : Rows) → IsClient p → IsClient (replay player_table who p sent rows)
-replay_client who p sent [] c = c
-replay_client who p sent (row ∷ rows) c =
-    replay_client who (cond (eqb row.who who) (acted player_table p (input_of sent row.event)).0 p) (sent ++ row.sent) rows
-    (cond_both (eqb row.who who) (acted player_table p (input_of sent row.event)).0 p IsClient (λ _. acted_client p (input_of sent row.event) c) (λ _. c))
+replay_client who p sent rows c = replay_keeps player_table IsClient client_keeps who rows p sent c
 
 pub no_node : (p : Player) (node : NodeState) → IsClient p → p ≡ Node node → ⊥
 no_node p node c e = subst IsClient e c

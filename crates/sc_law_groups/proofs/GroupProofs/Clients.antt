@@ -17,6 +17,14 @@ use Rattle.sc_law_groups.proofs.GroupProofs.FirstRows.{Journal, or_now, issue-pu
 use Rattle.sc_paxos_law.proofs.Lemmas.{get_pushed}
 use Rattle.sc_base.proofs.Lemmas.{same_name}
 
+-- it holds of each client section of a scenario
+abbrev pub EachClient : Scenario → (Asks → Type 0) → Type 0
+EachClient scenario P = (asks : Asks) → Among asks scenario.clients → P asks
+
+-- one client number stands in one section
+abbrev pub HaveOneSection : Scenario → Type 0
+HaveOneSection scenario = (one other : Asks) → Among one scenario.clients → Among other scenario.clients → one.client ≡ other.client → one ≡ other
+
 -- ---- requests
 
 -- a request of the scenario with a number, and the row that issued it

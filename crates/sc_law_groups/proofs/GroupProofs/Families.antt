@@ -21,7 +21,7 @@ use Rattle.sc_law_groups.proofs.GroupProofs.Names.{IsNamedIn, named_later}
 use Rattle.sc_law_groups.proofs.GroupProofs.GroupNodes.{IsNode}
 use Rattle.sc_law_groups.proofs.GroupProofs.Projected.{log_only, only_steps}
 use Rattle.sc_law_groups.proofs.GroupProofs.FirstRows.{Journal, split_at}
-use Rattle.sc_law_groups.proofs.GroupProofs.Clients.{IsClient, Grew}
+use Rattle.sc_law_groups.proofs.GroupProofs.Clients.{IsClient, Grew, EachClient}
 
 -- the steps of a journal for each group
 abbrev pub h_of : Journal → Base → Steps
@@ -84,7 +84,7 @@ module _ (ahead : Ahead) (scenario : Scenario) (firsts bases : List Base) (route
     pub named : (m : Mail) → Among m (mails rows) → IsNamedIn (heard rows) bases m.body
     -- nodes and clients are as the steps say
     pub nodes : (n : ℕ) → 1 ≤ n → n ≤ scenario.nodes → IsNodeAt rows rows n
-    pub clients : (asks : Asks) → Among asks scenario.clients → IsClientAt rows asks
+    pub clients : EachClient scenario (IsClientAt rows)
 
   -- ---- one more row
 

@@ -1,23 +1,21 @@
 -- What each row of a lawful journal does to what holds, whatever may be queued and said of transactions: the rows of nodes, of clients and of the network.
 use Rattle.std.proofs.Common.{◌≡◌, ℕ, ◌≤◌, ◌&&◌, Bool, true, false, eqb, List, [], ◌∷◌, ◌++◌, map, Some, None, inl, inr, refl, sym, ◌∙◌, ap, subst, arith}
 use Rattle.std.specs.Option.{option_map}
-use Rattle.std.specs.List.{list_any}
-use Rattle.std.proofs.lemmas.Bool.{cases_Bool, eqb-true, eqb-false, eq-eqb, ne_eqb, and_from, or_left, cond-true, cond-false}
-use Rattle.sc_node_table.specs.Values.{Draw, Op, Command, Call, Base, OrderLine, Mail, MailBody, Row, Event, Deliver, Tick, Go, Crash, Drop, Again, Input, Got, Seat, Ballot, Route, Node as ANode, Client as AClient}
+use Rattle.std.proofs.lemmas.Bool.{cases_Bool, eqb-true, eqb-false, eq-eqb, ne_eqb}
+use Rattle.sc_node_table.specs.Values.{Command, Base, OrderLine, Mail, MailBody, Row, Event, Deliver, Tick, Go, Crash, Drop, Again, Input, Got, Seat, Ballot, Route, Node as ANode, Client as AClient}
 use Rattle.sc_actor.specs.declared.rows.Event.TheVariants.{Told}
 use Rattle.sc_actor.specs.declared.rows.Input.TheVariants.{Tick as TickInput, Go as GoInput, Told as ToldInput}
-use Rattle.sc_actor.specs.Definitions.{mails, value, acted, input_of, row_of, network, has_started, is_go, IsOpen, ActorStep, IsStep}
-use Rattle.sc_actor.proofs.Lemmas.{value-snoc}
-use Rattle.sc_client_table.specs.table.Definitions.{Client, table, request_of, InTurn}
+use Rattle.sc_actor.specs.Definitions.{mails, value, acted, input_of, row_of, network, is_go, IsOpen, ActorStep, IsStep}
+use Rattle.sc_client_table.specs.table.Definitions.{Client, table, InTurn}
 use Rattle.sc_client_table.proofs.TableProofs.TurnLemmas.{sends_in_turn}
 use Rattle.sc_node_table.specs.Definitions.{NodeState, group_of_order, replica_of, on_mail, on_tick, on_order, ReplicaState, ordered_command, untaken, numbers_from}
-use Rattle.sc_base.specs.Definitions.{next_name, Among, Each, client_actor, most_nodes}
+use Rattle.sc_base.specs.Definitions.{next_name, Among, client_actor}
 use Rattle.sc_words.proofs.PaxosProofs.Lemmas.{Each-among, find_found}
 use Rattle.sc_paxos_law.proofs.Lemmas.{Among-either, from_map}
 use Rattle.sc_paxos_law.specs.Definitions.{Offered, IsLawfulHistory}
 use Rattle.sc_scenario.specs.declared.scenario.scenarios.Asks.{Asks}
 use Rattle.sc_scenario.specs.declared.scenario.scenarios.Scenario.{Scenario}
-use Rattle.sc_meaning.specs.sound.Definitions.{Ahead, node_seat, births, system_of, player_table, client_seat, Player, replies_of, issues, asks_for}
+use Rattle.sc_meaning.specs.sound.Definitions.{Ahead, node_seat, births, system_of, player_table, client_seat, Player, replies_of}
 use Rattle.sc_meaning.proofs.SoundProofs.Lemmas.{any_push}
 use Rattle.sc_law_groups.specs.group.Definitions.{steps_at}
 use Rattle.sc_law_groups.proofs.GroupProofs.Invariant.{Steps, rule, first, IsTrue, grown_true}
@@ -28,21 +26,12 @@ use Rattle.sc_law_groups.proofs.GroupProofs.Names.{IsNamedIn, named_later}
 use Rattle.sc_law_groups.proofs.GroupProofs.Offspring.{IsChildOf}
 use Rattle.sc_law_groups.proofs.GroupProofs.GroupNodes.{IsNewborn, NodeEnded, unchanged, ends_as, mail_ended, order_ended}
 use Rattle.sc_law_groups.proofs.GroupProofs.Ticks.{MayTick, tick_ended}
-use Rattle.sc_law_groups.proofs.GroupProofs.AcceptorRows.{ArePlain}
 use Rattle.sc_law_groups.proofs.GroupProofs.Projected.{steps-push}
 use Rattle.sc_law_groups.proofs.GroupProofs.FirstRows.{Journal}
-use Rattle.sc_law_groups.proofs.GroupProofs.Clients.{IsIssued, issued_now, SendsAsked, HaveGrown, IsClient, Grew, later_client, client_after, client_sends}
+use Rattle.sc_law_groups.proofs.GroupProofs.Clients.{EachClient, issued_now, SendsAsked, HaveGrown, IsClient, Grew, later_client, client_after, client_sends}
 use Rattle.sc_law_groups.proofs.GroupProofs.Families.{h_of, IsNodeAt, IsClientAt, replies_in, Kept, Stepped, IsLater, PartMoved, ClientMoved, Moved}
 use Rattle.sc_law_groups.proofs.GroupProofs.Speech.{AnyoneHears, Speaks}
-
--- what a family of groups rests on: how the players begin, whatever the rows; what clients issue may be queued, and each group has members
-pub record HasPlayers (ahead : Ahead) (scenario : Scenario) (firsts bases : List Base) (route : Route) (made : Journal → Base → Command → Type 0) : Type 0 where
-  pub seats : births ahead scenario ≡ map (node_seat ahead firsts scenario.policy) (numbers_from 1 scenario.nodes) ++ map (client_seat route) scenario.clients
-  pub nodes : scenario.nodes ≤ most_nodes
-  pub numbered : Each (λ asks. 1 ≤ asks.client) scenario.clients
-  pub once : (one other : Asks) → Among one scenario.clients → Among other scenario.clients → one.client ≡ other.client → one ≡ other
-  pub issued : (rows : Journal) (b : Base) (client seq : ℕ) (op : Op) → IsIssued scenario rows client seq op → made rows b (Call client seq op)
-  pub some : (rows : Journal) (b : Base) → Among b bases → (log : List Command) → Each (made rows b) log → (node : ℕ) × (rest : List ℕ) × ((rule ahead b).members log ≡ node ∷ rest)
+use Rattle.sc_law_groups.proofs.GroupProofs.JournalPlayers.{HasPlayers, other_value, own_value, still_gone, sends_plain, issues_it}
 
 module _ (ahead : Ahead) (words : ℕ → ℕ → ℕ × ℕ) (scenario : Scenario) (firsts bases : List Base) (route : Route) (made_by : Journal → Base → Command → Type 0) (heard_by : Journal → MailBody → Type 0)
     (has : HasPlayers ahead scenario firsts bases route made_by) where
@@ -76,16 +65,6 @@ module _ (ahead : Ahead) (words : ℕ → ℕ → ℕ × ℕ) (scenario : Scenar
 
   -- ---- players that do not act
 
-  other_value : (seat : Seat Player) (rows : Journal) (row : Row Mail OrderLine) → eqb row.who seat.who ≡ false → value player_table seat (rows ++ row ∷ []) ≡ value player_table seat rows
-  other_value seat rows row f = value-snoc player_table seat rows row ∙ cond-false (eqb row.who seat.who) _ _ f
-
-  own_value : (seat : Seat Player) (rows : Journal) (row : Row Mail OrderLine) → row.who ≡ seat.who
-      → value player_table seat (rows ++ row ∷ []) ≡ (acted player_table (value player_table seat rows) (input_of (mails rows) row.event)).0
-  own_value seat rows row e = value-snoc player_table seat rows row ∙ cond-true (eqb row.who seat.who) _ _ (eq-eqb row.who seat.who e)
-
-  still_gone : (rows : Journal) (row : Row Mail OrderLine) (who : ℕ) → has_started (rows ++ row ∷ []) who ≡ false → has_started rows who ≡ false
-  still_gone rows row who e = (any_push (λ r. eqb r.who who && is_go r.event) rows row e).0
-
   client_still : (rows : Journal) (row : Row Mail OrderLine) → HaveGrown ahead bases (h_of rows) (h_of (rows ++ row ∷ [])) → (asks : Asks) → IsClientAt ahead scenario firsts bases route made_by heard_by rows asks → eqb row.who (client_actor asks.client) ≡ false
       → ClientMoved ahead scenario firsts bases route made_by heard_by rows row asks
   client_still rows row grown asks c f =
@@ -100,7 +79,7 @@ module _ (ahead : Ahead) (words : ℕ → ℕ → ℕ × ℕ) (scenario : Scenar
         grew = inl (ap replies_of same);
       }
 
-  some_client : (asks : Asks) → Among asks scenario.clients → 1 ≤ asks.client
+  some_client : EachClient scenario (λ asks. 1 ≤ asks.client)
   some_client asks a = Each-among _ scenario.clients asks has.numbered a
 
   -- ---- rows of nodes
@@ -257,17 +236,6 @@ module _ (ahead : Ahead) (words : ℕ → ℕ → ℕ × ℕ) (scenario : Scenar
     still_grown row none b a = ([], steps-push b.core.id rows row ∙ none b)
 
     -- ---- rows of clients
-
-    sends_plain : (asks : Asks) (sent : List Mail) → SendsAsked asks sent → ArePlain sent
-    sends_plain asks sent (inl none) = subst ArePlain (sym none) tt
-    sends_plain asks sent (inr (g, target, request, ask, is)) = subst ArePlain (sym is) (tt, tt)
-
-    issues_it : (asks : Asks) (g : Draw) (target : ℕ) (request : ℕ × Op) (event : Event OrderLine) (sent : List Mail) → sent ≡ request_of asks.client g target request ∷ []
-        → issues asks.client request.0 (node_row (client_actor asks.client) event sent) ≡ true
-    issues_it asks g target request event sent is =
-        and_from (eqb (client_actor asks.client) (client_actor asks.client)) (list_any (λ mail. asks_for asks.client request.0 mail.body) sent) (eq-eqb (client_actor asks.client) (client_actor asks.client) refl)
-        (ap (λ ms. list_any (λ (mail : Mail). asks_for asks.client request.0 mail.body) ms) is
-        ∙ or_left (eqb asks.client asks.client && eqb request.0 request.0) false (and_from (eqb asks.client asks.client) (eqb request.0 request.0) (eq-eqb asks.client asks.client refl) (eq-eqb request.0 request.0 refl)))
 
     sends_true : (asks : Asks) → Among asks scenario.clients → (event : Event OrderLine) (sent : List Mail) → SendsAsked asks sent
         → (b : Base) (m : Mail) → Among m sent → IsTrue ahead b (made_by (rows ++ node_row (client_actor asks.client) event sent ∷ []) b) (heard_by (rows ++ node_row (client_actor asks.client) event sent ∷ [])) (h b) m m.body

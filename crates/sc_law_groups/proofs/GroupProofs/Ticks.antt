@@ -16,7 +16,8 @@ use Rattle.sc_law_groups.proofs.GroupProofs.Midway.{Fine}
 use Rattle.sc_law_groups.proofs.GroupProofs.Sending.{name_is}
 use Rattle.sc_law_groups.proofs.GroupProofs.LearningRows.{MayWish, fine_tick_row}
 use Rattle.sc_law_groups.proofs.GroupProofs.Names.{IsOneOf, IsNamedIn, own_named}
-use Rattle.sc_law_groups.proofs.GroupProofs.GroupNodes.{start, IsNode, NodeEnded}
+use Rattle.sc_law_groups.proofs.GroupProofs.PartsOfNodes.{start}
+use Rattle.sc_law_groups.proofs.GroupProofs.GroupNodes.{IsNode, NodeEnded}
 use Rattle.sc_law_groups.proofs.GroupProofs.Frames.{AreFar, own_far, far_true, far_all, asked_append}
 use Rattle.sc_law_groups.proofs.GroupProofs.Holding.{IsOther, Holds, held}
 use Rattle.sc_base.proofs.Lemmas.{draw_is}

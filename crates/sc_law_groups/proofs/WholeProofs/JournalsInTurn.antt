@@ -28,6 +28,10 @@ use Rattle.sc_law_groups.proofs.WholeProofs.Granting.{speaks}
 use Rattle.sc_law_groups.proofs.WholeProofs.Growing.{grown}
 use Rattle.sc_law_groups.proofs.WholeProofs.Members.{members_stay_rosters}
 
+-- a newborn has a new name
+pub newborn_is_new : (ahead : Ahead) (firsts : List Base) (rows : Rows) (row : Row Mail OrderLine) → AreFound ahead firsts rows → (base : Base) → IsNewborn ahead firsts rows row base → IsNew (groups_at ahead firsts rows) base.core.id
+newborn_is_new ahead firsts rows row found base n other o same = some_none other (sym (found.known other o).birth ∙ ap (birth_at ahead firsts rows) same ∙ n.unborn)
+
 -- the child of an entry is one of its log's
 pub child_in : (group : Group) (prefix : List Command) (c : Command) (child : Base) → birth_of (state_after group prefix) c (applied (state_after group prefix) c).1 ≡ Some child → Among child (children_of group (prefix ++ c ∷ []))
 child_in group [] c child e = Among-left child (option_to_list (birth_of group c (applied group c).1)) [] (subst (λ o. Among child (option_to_list o)) (sym e) (inl refl))
@@ -230,13 +234,9 @@ module _ (sources : Sources) (ahead : Ahead) (words : ℕ → ℕ → ℕ × ℕ
       after : Kept ahead scenario scenario.groups (bases rows) route made heard (rows ++ row ∷ [])
       after = push ahead scenario scenario.groups (bases rows) route made heard rows row (later row steps) h.kept moves
 
-      -- a newborn has a new name
-      is_new : (b : Base) → IsNewborn ahead scenario.groups rows row b → IsNew (bases rows) b.core.id
-      is_new b n other o same = some_none other (sym (found.known other o).birth ∙ ap (birth_at ahead scenario.groups rows) same ∙ n.unborn)
-
       -- the groups after the row
       old_or_new : (b : Base) → Among b (bases (rows ++ row ∷ [])) → IsOldOrNew (bases rows) b
-      old_or_new b a = elim (groups_are_old_or_new sources ahead scenario.groups start rows h.turn row decides b a) [ inl was ↦ inl was | inr n ↦ inr (is_new b n, (n.parent, n.stands)) ]
+      old_or_new b a = elim (groups_are_old_or_new sources ahead scenario.groups start rows h.turn row decides b a) [ inl was ↦ inl was | inr n ↦ inr (newborn_is_new ahead scenario.groups rows row found b n, (n.parent, n.stands)) ]
 
       -- nothing had happened to them at their birth
       fresh_next : (b : Base) → Among b (bases (rows ++ row ∷ [])) → IsFresh b

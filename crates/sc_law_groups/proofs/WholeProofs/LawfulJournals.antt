@@ -21,6 +21,10 @@ use Rattle.sc_law_groups.specs.whole.Definitions.{OrdersAreAllowed, stories_at, 
 use Rattle.sc_law_groups.proofs.WholeProofs.Replies.{decided_before, replies_are_decided}
 use Rattle.sc_law_groups.proofs.WholeProofs.JournalsInTurn.{Holds, players, issued_now, told_now, holds_next}
 
+-- each step of the system that may come next keeps what holds of a journal
+abbrev pub StepsKeep : Ahead → (ℕ → ℕ → ℕ × ℕ) → Scenario → (Rows → Type 0) → Type 0
+StepsKeep ahead words scenario P = (rows : Rows) (row : Row Mail OrderLine) → P rows → IsStep (system_of ahead words scenario) rows row → P (rows ++ row ∷ [])
+
 -- what an order queues is no call
 no_call : (scenario : Scenario) (rows : Rows) (name : Draw) (number : ℕ) (order : Order) → IsIssuedCall scenario rows (ordered_command name number order)
 no_call scenario rows name number (An.Join node group) = tt
@@ -105,7 +109,7 @@ module _ (sources : Sources) (ahead : Ahead) (words : ℕ → ℕ → ℕ × ℕ
     P rows = (more : Rows) → all ≡ rows ++ more → All rows
 
     -- one row more keeps it
-    keeps : (rows : Rows) (row : Row Mail OrderLine) → P rows → IsStep (system_of ahead words scenario) rows row → P (rows ++ row ∷ [])
+    keeps : StepsKeep ahead words scenario P
     keeps rows row p step more e =
         let are : all ≡ rows ++ row ∷ more = e ∙ append_assoc rows (row ∷ []) more in
         let h = p (row ∷ more) are in

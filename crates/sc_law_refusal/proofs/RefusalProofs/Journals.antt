@@ -1,10 +1,9 @@
 -- Every lawful journal refuses with cause: each row of a node is a step of its table, from a state in which its waiting was counted, and each row of a client is one of a client that keeps its turn.
 use Rattle.std.proofs.Common.{◌≡◌, zero, suc, ◌≤◌, ◌+◌, ℕ, ◌&&◌, eqb, true, false, List, [], ◌∷◌, ◌++◌, map, Option, Some, None, ◌⊎◌, inl, inr, refl, sym, ap, subst, ◌∙◌, arith, append_assoc}
 use Rattle.std.specs.List.{find}
-use Rattle.std.specs.Option.{option_map}
 use Rattle.std.proofs.lemmas.Bool.{cond_both, cond-true, eqb-true, eq-eqb, and_from, true≢false}
 use Rattle.sc_base.specs.Definitions.{Among, Each}
-use Rattle.sc_node_table.specs.Values.{Draw, Seat, Event, Input, Got, Row, Base, Route, OrderLine, Mail, Node, Client, Lock}
+use Rattle.sc_node_table.specs.Values.{Draw, Seat, Event, Input, Row, Base, Route, OrderLine, Mail, Node, Client, Lock}
 use Rattle.sc_actor.specs.declared.rows.Event.TheVariants as event
 use Rattle.sc_actor.specs.declared.rows.Input.TheVariants.{Go}
 use Rattle.sc_actor.specs.Definitions.{mails, numbered, acted, input_of, value, IsStep, IsOpen, IsLoose, has_started, is_go, place_after}
@@ -24,6 +23,8 @@ use Rattle.sc_law_refusal.proofs.RefusalProofs.Ticking.{IsKnown, counts, node_kn
 use Rattle.sc_law_refusal.proofs.PatienceProofs.GivenUpJournals.{lawful_give_up}
 use Rattle.sc_law_refusal.proofs.ResultsProofs.ReportedJournals.{rows_report}
 use Rattle.sc_law_refusal.proofs.RefusalProofs.Turning.{InPlace, keeps_turn, in_place}
+use Rattle.sc_law_groups.proofs.WholeProofs.Lemmas.{StepsKeep}
+use Rattle.sc_law_walks.proofs.Lemmas.{got_no_go}
 
 -- ---- seats
 
@@ -66,14 +67,10 @@ module _ (ahead : Ahead) (scenario : Scenario) where
 
 -- ---- what a step of a journal is
 
-not_go : (o : Option Mail) (input : Input Mail OrderLine) → option_map Got o ≡ Some input → input ≡ Go → ⊥
-not_go None input e go = cc
-not_go (Some mail) input e go = cc
-
 -- what is taken as word to go is one
 go_event : (sent : List Mail) (event : Event OrderLine) → input_of sent event ≡ Some Go → is_go event ≡ true
 go_event sent event.Go e = refl
-go_event sent (event.Deliver mail) e = absurd (not_go (numbered sent mail) Go e refl)
+go_event sent (event.Deliver mail) e = absurd (got_no_go (numbered sent mail) Go e refl)
 go_event sent event.Tick e = cc
 go_event sent (event.Told order) e = cc
 go_event sent event.Crash e = cc
@@ -86,7 +83,7 @@ module _ (ahead : Ahead) (words : ℕ → ℕ → ℕ × ℕ) (scenario : Scenar
 
   open_go : (who : ℕ) (event : Event OrderLine) → IsOpen (system_of ahead words scenario) rows who event → input_of (mails rows) event ≡ Some Go → has_started rows who ≡ false
   open_go who event.Go o e = o
-  open_go who (event.Deliver mail) o e = absurd (not_go (numbered (mails rows) mail) Go e refl)
+  open_go who (event.Deliver mail) o e = absurd (got_no_go (numbered (mails rows) mail) Go e refl)
   open_go who event.Tick o e = cc
   open_go who (event.Told order) o e = cc
   open_go who event.Crash o e = cc
@@ -169,7 +166,7 @@ module _ (ahead : Ahead) (words : ℕ → ℕ → ℕ × ℕ) (scenario : Scenar
   acted_placed rows row None e step who k = still_placed rows row (value player_table seat rows) k
   acted_placed rows row (Some input) e step who k = moved_placed rows row (value player_table seat rows) input step who e k
 
-  keeps : (rows : Rows) (row : Row Mail OrderLine) → P rows → IsStep (system_of ahead words scenario) rows row → P (rows ++ row ∷ [])
+  keeps : StepsKeep ahead words scenario P
   keeps rows row k step =
       subst (Placed (rows ++ row ∷ [])) (sym (value-snoc player_table seat rows row))
       (cond_both (eqb row.who seat.who) (acted player_table (value player_table seat rows) (input_of (mails rows) row.event)).0 (value player_table seat rows) (Placed (rows ++ row ∷ []))

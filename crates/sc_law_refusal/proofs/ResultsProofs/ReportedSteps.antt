@@ -24,7 +24,7 @@ use Rattle.sc_law_refusal.specs.results.Definitions.{IsOf, EndsOrder, TellAs}
 use Rattle.sc_law_refusal.proofs.ResultsProofs.Reports.{puts}
 use Rattle.sc_law_refusal.proofs.HeldCommands.{Flights, Reports, Held, last_held, counted_held, chosen_held}
 use Rattle.sc_law_refusal.proofs.ResultsProofs.LoggedReplicas.{is_logged, readies_more, makes, vote_chooses}
-use Rattle.sc_law_refusal.proofs.ResultsProofs.ReportedRows.{tell_so, Waits, IsBack, HasStopped, Brings, MayTell, Keeps, with_leader, with_backlog, reported_walk, reported_ticks}
+use Rattle.sc_law_refusal.proofs.ResultsProofs.ReportedRows.{tell_so, Waits, IsBack, HasStopped, Brings, MayTell, ReportsSo, with_leader, with_backlog, reported_walk, reported_ticks}
 
 -- what is put at a slot is there
 first_there : (slot : ℕ) (command : Command) (es : List (ℕ × Command)) → at_slot ((slot, command) ∷ es) slot ≡ Some command
@@ -60,7 +60,7 @@ module _ (ahead : Ahead) (base : Base) (h : Steps) (lawful : IsLawfulHistory (ru
     (decided : (whole : List Command) (command : Command) → IsLog (rule ahead base) h (whole ++ command ∷ []) → (number : ℕ) (result : OrderResult) → EndsOrder (state_after (birth ahead base) whole) command number result → Fact number result)
     (W : ℕ → Command → Type 0) (round : ℕ) where
   abbrev Goes : Place → Type 0
-  Goes place = Keeps ahead base h lawful made Fact decided W round place
+  Goes place = ReportsSo ahead base h lawful made Fact decided W round place
 
   abbrev P : Command → Type 0
   P command = Waits W command

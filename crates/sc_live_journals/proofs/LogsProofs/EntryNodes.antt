@@ -20,7 +20,7 @@ use Rattle.sc_law_entries.proofs.LogsProofs.Lemmas.{groups_are_found, groups_are
 use Rattle.sc_law_entries.proofs.NamesProofs.Lemmas.{Each-drop}
 use Rattle.sc_law_groups.proofs.GroupProofs.Lemmas.{at_start, first_of, h_of, Kept, IsLater, Moved, push, decided_made, entry_offered, each_got, GivesAllowedOrder, told_induction, HasPlayers, MayTell, KnowsOffspring, moved, MayTick}
 use Rattle.sc_law_groups.specs.whole.Definitions.{BeginsWell, OrdersAreAllowed}
-use Rattle.sc_law_groups.proofs.WholeProofs.Lemmas.{IsNew, IsOldOrNew, goes_on_from, grown, members_stay_rosters, Holds}
+use Rattle.sc_law_groups.proofs.WholeProofs.Lemmas.{newborn_is_new, StepsKeep, IsNew, IsOldOrNew, goes_on_from, grown, members_stay_rosters, Holds}
 use Rattle.sc_live_journals.proofs.LogsProofs.JournalPrefixes.{prefix}
 use Rattle.sc_live_journals.proofs.LogsProofs.NodesInGroups.{BringsNodes, HasNodes, SaysNodes, log_nodes}
 use Rattle.sc_live_journals.proofs.LogsProofs.NamedNodes.{says_nodes}
@@ -132,13 +132,9 @@ module _ (sources : Sources) (ahead : Ahead) (words : ℕ → ℕ → ℕ × ℕ
         (λ base a. says_nodes (IsUpTo scenario.nodes) ahead base (h.begins base a) (h_of rows base)) offspring (λ r steps. later r) row
         (may_tell row.who row.event (Each-among TellsNodes (rows ++ row ∷ more) row (subst (Each TellsNodes) e told_nodes) (Among-right row rows (row ∷ more) (inl refl)))) step
 
-    -- a newborn has a new name
-    is_new : (base : Base) → IsNewborn ahead scenario.groups rows row base → IsNew (bases rows) base.core.id
-    is_new base n other o same = some_none other (sym (found.known other o).birth ∙ ap (birth_at ahead scenario.groups rows) same ∙ n.unborn)
-
     -- the groups after the row
     old_or_new : (base : Base) → Among base (bases next) → IsOldOrNew (bases rows) base
-    old_or_new base a = elim (groups_are_old_or_new sources ahead scenario.groups b.place rows before.turn row decides base a) [ inl was ↦ inl was | inr n ↦ inr (is_new base n, (n.parent, n.stands)) ]
+    old_or_new base a = elim (groups_are_old_or_new sources ahead scenario.groups b.place rows before.turn row decides base a) [ inl was ↦ inl was | inr n ↦ inr (newborn_is_new ahead scenario.groups rows row found base n, (n.parent, n.stands)) ]
 
     -- they begin with nodes
     begin_next : (base : Base) → Among base (bases next) → (HasNodes (IsUpTo scenario.nodes)) base.core
@@ -170,7 +166,7 @@ module _ (sources : Sources) (ahead : Ahead) (words : ℕ → ℕ → ℕ × ℕ
   P rows = (more : Rows) → journal ≡ rows ++ more → NodesHold rows
 
   -- one row more keeps it
-  keeps : (rows : Rows) (row : Row Mail OrderLine) → P rows → IsStep (system_of ahead words scenario) rows row → P (rows ++ row ∷ [])
+  keeps : StepsKeep ahead words scenario P
   keeps rows row p step more e =
       let are : journal ≡ rows ++ row ∷ more = e ∙ append_assoc rows (row ∷ []) more in
       next_holds rows row more are (p (row ∷ more) are) step
