@@ -2,7 +2,7 @@
 pub use Rattle.sc_law_walks.proofs.Ballots.{below_round}
 pub use Rattle.sc_law_walks.proofs.Calls.{next_found}
 pub use Rattle.sc_law_walks.proofs.Entries.{entered_next, floor_under, none_ready, idle_ready, idle_pump, entry_is, cut_next}
-pub use Rattle.sc_law_walks.proofs.Places.{cleared, reported_place, learnt_place, Offers, pumped_place, promised_place, executed_place, asked_place, welcomed_place, landed_place}
+pub use Rattle.sc_law_walks.proofs.Places.{cleared, reported_place, learnt_place, Offers, pumped_place, pumped_freely, promised_place, executed_place, asked_place, welcomed_place, landed_place}
 pub use Rattle.sc_law_walks.proofs.Ways.{either_way, unless_so, either_assoc, either_none}
 pub use Rattle.sc_law_walks.proofs.Counts.{promise_ballot, counted_ballot}
 pub use Rattle.sc_law_walks.proofs.Queues.{back_any}

@@ -1,10 +1,12 @@
 -- What holds of a replica with its mails, and is kept by the parts of a row, is kept by the row.
 use Rattle.std.specs.Prelude.{is_some}
+use Rattle.std.specs.List.{list_any}
 use Rattle.std.proofs.Common.{ℕ, ◌+◌, ◌&&◌, ◌||◌, not, nat_le, nat_lt, Bool, true, List, [], ◌∷◌, filter, Option, Some, None}
-use Rattle.sc_node_table.specs.Values.{Ballot, Command, OrderResult, Mail, Learn}
+use Rattle.sc_node_table.specs.Values.{Ballot, Command, OrderResult, Mail, Learn, Must, Gap}
+use Rattle.sc_words.specs.declared.paxos.answers.Must.TheVariants.{Value, Free as Open}
 use Rattle.sc_base.specs.Definitions.{is_member}
-use Rattle.sc_words.specs.paxos.Definitions.{without_flight_at, entry_at, prepared}
-use Rattle.sc_node_table.specs.Definitions.{effect_reported, learnt_to, sent_others, order_reported, order_number, name_of, Found, found_for, offered, pumped_from, settled, may_offer, taken_at, last_slot, welcomed, slot_lost, landed, executed_one, next_child, next_ready, ending, executed_ready, all_ready, executed, install_to, welcomed_all, pumped, put_back, ReplicaState, Place, Executed, childless, members, next, flying, taught, most_taught, ask_answered, ask_row, same_command, without_slot, promise_to, promised}
+use Rattle.sc_words.specs.paxos.Definitions.{without_flight_at, entry_at, prepared, must}
+use Rattle.sc_node_table.specs.Definitions.{from_backlog, from_acts, from_queues, found_by, is_act, is_idle, under_way, effect_reported, learnt_to, sent_others, order_reported, order_number, name_of, Found, found_for, offered, pumped_from, settled, may_offer, taken_at, last_slot, welcomed, slot_lost, landed, executed_one, next_child, next_ready, ending, executed_ready, all_ready, executed, install_to, welcomed_all, pumped, put_back, ReplicaState, Place, Executed, childless, members, next, flying, taught, most_taught, ask_answered, ask_row, same_command, without_slot, promise_to, promised}
 use Rattle.sc_law_walks.specs.Definitions.{IfThere}
 use Rattle.sc_law_walks.proofs.Ways.{either_way}
 
@@ -71,6 +73,40 @@ module _ (F : Place → Type 0) where
     pub pumped_place : (place : Place) → F place → F (pumped place)
     unfolding pumped
     pumped_place place f = either_way F (settled place.0 && nat_le (next place.0) last_slot) (pumped_from (next place.0) place.0.sets place) place (pumps_from (next place.0) place.0.sets place f) f
+
+  -- .. where what is queued, what is sent and what is in flight are nothing to it
+  module _ (queues : (r : ReplicaState) (mails more : List Mail) (acts backlog : List Command) → F (r, mails) → F (record r { acts = acts; backlog = backlog }, more)) where
+    abbrev FFound : Found → Type 0
+    FFound found = F found.1
+
+    calls_found : (place : Place) → F place → FFound (from_backlog place)
+    unfolding from_backlog
+    calls_found (r, mails) f = queues r mails _ r.acts _ f
+
+    acts_found : (acts : List Command) (place : Place) → F place → FFound (from_acts acts place)
+    acts_found [] place f = calls_found place f
+    acts_found (act ∷ acts) (r, mails) f = either_way FFound (is_idle r) (Some act, (record r { acts = acts }, mails)) (None, (r, mails)) (queues r mails mails acts r.backlog f) f
+
+    queues_found : (place : Place) → F place → FFound (from_queues place)
+    unfolding from_queues
+    queues_found (r, mails) f = either_way FFound (list_any is_act (under_way r)) (None, (r, mails)) (from_acts r.acts (r, mails)) f (acts_found r.acts (r, mails) f)
+
+    must_found : (what : Must Command) (place : Place) → F place → FFound (found_by what place)
+    must_found (Value command) place f = f
+    must_found Gap place f = f
+    must_found Open place f = queues_found place f
+
+    slot_found : (slot : ℕ) (place : Place) → F place → FFound (found_for slot place)
+    unfolding found_for
+    slot_found slot (r, mails) f = must_found (must slot r.leader) (r, mails) f
+
+    module _ (offers : (slot : ℕ) (set : List ℕ) (command : Command) (place : Place) → F place → F (offered slot set command place)) where
+      found_offered : (slot : ℕ) (set : List ℕ) (found : Found) → FFound found → Offers slot set found
+      found_offered slot set (None, place) f = f
+      found_offered slot set (Some command, place) f = offers slot set command place f
+
+      pub pumped_freely : (place : Place) → F place → F (pumped place)
+      pumped_freely place f = pumped_place (λ slot set p g. found_offered slot set (found_for slot p) (slot_found slot p g)) place f
 
   -- ---- a slot that is decided: O holds of what was under way there, if anything was
 

@@ -2,7 +2,7 @@
 use Rattle.std.proofs.Common.{◌≡◌, ◌⊎◌, ℕ, suc, ◌+◌, ◌-◌, ◌^◌, ◌&&◌, not, nat_lt, eqb, Bool, true, false, cond, List, [], ◌∷◌, ◌++◌, length, Option, Some, None, inl, inr, refl, ◌∙◌, ap, subst, arith}
 use Rattle.std.specs.List.{filter}
 use Rattle.std.proofs.lemmas.Bool.{cond_both, eqb-true, eq-eqb, and_parts}
-use Rattle.sc_node_table.specs.Values.{Ballot, Command, Noop, Call, Base, Effect, Route, OrderResult, AnswerBody, Mail, MailBody, Request, Answer, Prepare, Promise, Accept, Accepted, Nack, Learn, Ask, Install, TxPrepare, TxVote, TxOutcome, TxElsewhere, TxWatch, TxWatched, Told, Counted, Chosen, NotYet}
+use Rattle.sc_node_table.specs.Values.{Ballot, Command, Call, Base, Effect, Route, OrderResult, AnswerBody, Mail, MailBody, Request, Answer, Prepare, Promise, Accept, Accepted, Nack, Learn, Ask, Install, TxPrepare, TxVote, TxOutcome, TxElsewhere, TxWatch, TxWatched, Told, Counted, Chosen, NotYet}
 use Rattle.sc_mail.specs.declared.bodies.AnswerBody.TheVariants as Answers
 use Rattle.sc_base.specs.Definitions.{is_member, least_of}
 use Rattle.sc_group_table.specs.machine.Definitions.{child_by, Group, state_after, applied}
@@ -12,6 +12,7 @@ use Rattle.sc_node_table.specs.declared.Before.{Before}
 use Rattle.sc_law_walks.proofs.Lemmas.{entered_next, either_way, grows}
 use Rattle.sc_live_journals.proofs.RowsProofs.StillReplicas as beside
 use Rattle.sc_live_answers.proofs.ReplicasProofs.Parts.{pumps, announces, speaks, teaches, welcomes, loses, leaves, looks, prepare_rests, accept_rests, promise_rests, nack_rests, ask_rests}
+use Rattle.sc_law_walks.proofs.Lemmas.{back_any, entered_ready}
 
 -- the children that some entries make at a node, from the group before them
 abbrev pub kids_of : ℕ → Group → List Command → List Base
@@ -20,11 +21,6 @@ kids_of me group (command ∷ log) = child_at me (child_by group command) ++ kid
 
 -- ---- what is ready
 
-ready_back : (command : Command) (r : ReplicaState) → (put_back command r).ready ≡ r.ready
-unfolding put_back
-ready_back Noop r = refl
-ready_back _ r = refl
-
 module _ (rs : List (ℕ × Command)) where
   abbrev R : Place → Type 0
   R place = place.0.ready ≡ rs
@@ -32,7 +28,7 @@ module _ (rs : List (ℕ × Command)) where
   ready_called : (answer : Option AnswerBody) (command : Command) (place : Place) → R place → R (answered_or_put_back answer command place)
   unfolding answered_or_put_back
   ready_called (Some answer) (Call client seq op) (r, mails) k = k
-  ready_called None (Call client seq op) (r, mails) k = ready_back (Call client seq op) r ∙ k
+  ready_called None (Call client seq op) (r, mails) k = back_any (λ (x : ReplicaState). x.ready ≡ rs) (λ s acts backlog q. q) (Call client seq op) r k
   ready_called (Some answer) _ place k = k
   ready_called None _ place k = k
 
@@ -72,7 +68,7 @@ module _ (rs : List (ℕ × Command)) where
 
   ready_lost : (c : Bool) (command : Command) (o : Option Command) (r : ReplicaState) → r.ready ≡ rs → (slot_lost c command o r).ready ≡ rs
   ready_lost c command None r k = k
-  ready_lost c command (Some other) r k = either_way (λ (x : ReplicaState). x.ready ≡ rs) _ r (put_back other r) k (ready_back other r ∙ k)
+  ready_lost c command (Some other) r k = either_way (λ (x : ReplicaState). x.ready ≡ rs) _ r (put_back other r) k (back_any (λ (x : ReplicaState). x.ready ≡ rs) (λ s acts backlog q. q) other r k)
 
   -- or nothing is ready any more
   abbrev RE : Place → Type 0
@@ -128,10 +124,6 @@ landed_ready c slot command rs (r, mails) k = ready_lost (without_slot rs slot) 
 entered_at : (command : Command) (r : ReplicaState) → At (applied r.group command).0 r.me (next r + 1) (entered command r)
 unfolding entered forgotten
 entered_at command r = (refl, refl, entered_next command r)
-
-entered_ready : (command : Command) (r : ReplicaState) → (entered command r).ready ≡ r.ready
-unfolding entered forgotten
-entered_ready command r = refl
 
 pub one_is : (c : Bool) (command : Command) (r : ReplicaState) (mails : List Mail) → IsOne r command (executed_one c command (r, mails)).0
 unfolding executed_one

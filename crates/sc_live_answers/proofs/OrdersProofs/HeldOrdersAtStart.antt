@@ -2,7 +2,7 @@
 use Rattle.std.proofs.Common.{◌≡◌, ◌⊎◌, ℕ, ◌≤◌, ◌&&◌, nat_le, eqb, cond, true, List, [], ◌∷◌, ◌++◌, Option, Some, None, inl, inr, refl, sym, ◌∙◌, ap, subst, arith}
 use Rattle.std.specs.Prelude.{is_some}
 use Rattle.std.proofs.lemmas.Bool.{and_parts, leb-true, lt-ltb}
-use Rattle.sc_base.specs.Definitions.{Among, next_name, Drawer}
+use Rattle.sc_base.specs.Definitions.{Among}
 use Rattle.sc_group_table.specs.policy.Definitions.{is_reported}
 use Rattle.sc_node_table.specs.Values.{Draw, Command, OrderLine, OrderRefusal, Refused, Mail, Node, Client, Seat, Go, Input, Row, Report}
 use Rattle.sc_words.specs.declared.commands.orders.OrderRefusal.TheVariants.{NotLeader}
@@ -16,7 +16,7 @@ use Rattle.sc_words.specs.paxos.Definitions.{must_without, names_above, chosen_v
 use Rattle.sc_live_orderly.specs.Definitions.{GivesAllowedOrder}
 use Rattle.sc_law_walks.proofs.Lemmas.{either_way}
 use Rattle.sc_scenario.specs.declared.scenario.scenarios.Scenario.{Scenario}
-use Rattle.sc_node_table.specs.Definitions.{NodeState, result_sent, replica_of, group_of_order, ordered_of, untaken, queued_or_refused, ordered_command, ordered_row, ReplicaState, Place, next, last_slot, settled, may_offer, first_set}
+use Rattle.sc_node_table.specs.Definitions.{NodeState, result_sent, replica_of, group_of_order, ordered_of, untaken, ordered_row, ReplicaState, Place, next, last_slot, settled, may_offer, first_set}
 use Rattle.sc_meaning.specs.sound.Definitions.{Player, player_table, node_seat, births, as_nodes}
 use Rattle.sc_live_steps.specs.calm.Definitions.{IsAtRest, Rows}
 use Rattle.sc_live_steps.specs.orders.Definitions.{Asking, Unbound, Here, Stage, Still, Recorded, IsAt, MayFile}
@@ -33,6 +33,7 @@ use Rattle.sc_live_answers.proofs.ErrandsProofs.QuestionedGroups.{rests_idle}
 use Rattle.sc_live_answers.proofs.VotesProofs.ReportedMail.{told_behind, desk_reports}
 use Rattle.sc_live_answers.proofs.OrdersProofs.OrderFactsAtStart.{begun_so, still_unbound, ordered_unbound}
 use Rattle.sc_words.specs.declared.commands.orders.OrderResult.TheVariants.{Aborted}
+use Rattle.sc_law_walks.proofs.Lemmas.{order_refused}
 
 -- ---- the orders that rows give
 
@@ -101,11 +102,6 @@ is_node (Node node) k = (node, refl)
 is_node (Client client) k = absurd k
 
 -- ---- the row of an order
-
--- an order that is not taken is refused, and nothing else
-pub order_refused : (drawer : Drawer) (line : OrderLine) (r : ReplicaState) (why : OrderRefusal) → untaken drawer line r ≡ Some why → ordered_row drawer line (r, []) ≡ (r, result_sent r.me line.number (Refused why) [])
-unfolding ordered_row
-order_refused drawer line r why e = ap (λ (x : Option OrderRefusal). queued_or_refused x line.number (ordered_command (next_name drawer) line.number line.order) (r, [])) e
 
 module _ (words : ℕ → ℕ → ℕ × ℕ) (scenario : Scenario) (quiet : Rows) (seat : Seat Player) (line : OrderLine) (seated : IsSeat (births as_nodes scenario) seat) (home : (1 ≤ seat.who) × (seat.who ≤ scenario.nodes))
     (rests : (name : Draw) (who : ℕ) (r : ReplicaState) → view_at (births as_nodes scenario) quiet name who ≡ Some r → IsAtRest r × (r.running ≡ true → r.leader.reports ≡ []) × (next r ≤ last_slot))

@@ -4,9 +4,9 @@ use Rattle.std.specs.Prelude.{find}
 use Rattle.std.proofs.lemmas.Bool.{cases_Bool, cond_both, cond-true, eqb-true, eq-eqb, and_from, and_parts, le-leb, leb-true, both_ways}
 use Rattle.std.proofs.lemmas.Option.{none-some}
 use Rattle.sc_base.specs.Definitions.{Among, most_nodes, same_draw}
-use Rattle.sc_node_table.specs.Values.{Draw, Base, OrderLine, Mail, Node, Client, Seat, Input, Row}
+use Rattle.sc_node_table.specs.Values.{Draw, Base, Node, Client, Seat}
 use Rattle.sc_base.proofs.Lemmas.{draw_is}
-use Rattle.sc_actor.specs.Definitions.{input_of, acted, replay, value}
+use Rattle.sc_actor.specs.Definitions.{value}
 use Rattle.sc_actor.proofs.Lemmas.{lawful-prefix}
 use Rattle.sc_words.proofs.PaxosProofs.Lemmas.{find_found}
 use Rattle.sc_paxos_law.proofs.Lemmas.{Among-either, from_map}
@@ -24,22 +24,7 @@ use Rattle.sc_live_journals.specs.rows.Definitions.{replicas_of as view_replicas
 use Rattle.sc_live_answers.specs.Definitions.{AreAtNodes, IsPrefixOf, IsOfGroup, IsFoundPrefix, PrefixesAreFound}
 use Rattle.sc_live_answers.proofs.ReplicasProofs.ReplicaNodes.{at_nodes}
 use Rattle.sc_live_answers.proofs.LinksProofs.LinkLogs.{sources, well, turn, found}
-
--- ---- a client stays one
-
-abbrev pub IsClient : Player → Type 0
-IsClient (Node node) = ⊥
-IsClient (Client client) = Unit {0}
-
-acted_client : (player : Player) (o : Option (Input Mail OrderLine)) → IsClient player → IsClient (acted player_table player o).0
-acted_client (Node node) o is = absurd is
-acted_client (Client client) None is = tt
-acted_client (Client client) (Some input) is = tt
-
-pub replayed_client : (who : ℕ) (rows : List (Row Mail OrderLine)) (player : Player) (sent : List Mail) → IsClient player → IsClient (replay player_table who player sent rows)
-replayed_client who [] player sent is = is
-replayed_client who (row ∷ rows) player sent is =
-    replayed_client who rows _ (sent ++ row.sent) (cond_both (eqb row.who who) (acted player_table player (input_of sent row.event)).0 player IsClient (λ _. acted_client player (input_of sent row.event) is) (λ _. is))
+pub use Rattle.sc_law_entries.proofs.NamesProofs.Fresh.{IsClient, replay_client}
 
 no_replica : (name : Draw) (player : Player) → IsClient player → replica_of name (view_replicas player) ≡ None
 no_replica name (Node node) is = absurd is
@@ -131,7 +116,7 @@ module _ (bounded : ValidScenariosAreBounded) (begin : ValidScenariosBeginWell) 
                 let low = in_.0 in
                 let high = in_.1 in
                 absurd (out (omega (arith, own, low), omega (arith, own, high))))
-            | inr a ↦ no_replica name (value player_table seat prefix) (replayed_client seat.who prefix seat.actor [] (client_among scenario.groups scenario.clients seat a))
+            | inr a ↦ no_replica name (value player_table seat prefix) (replay_client seat.who seat.actor [] prefix (client_among scenario.groups scenario.clients seat a))
           ]
 
   abbrev is_home : ℕ → Bool

@@ -7,7 +7,7 @@ use Rattle.std.proofs.lemmas.Bool.{cases_Bool, cases_eq, cond-false, and_parts, 
 use Rattle.std.proofs.lemmas.List.{length_push}
 use Rattle.std.proofs.lemmas.Option.{none-some, same_Some}
 use Rattle.sc_base.specs.Definitions.{Among, client_actor}
-use Rattle.sc_node_table.specs.Values.{Op, Base, OrderLine, Mail, Request, Client, Seat, Event, Input, Got, Row}
+use Rattle.sc_node_table.specs.Values.{Op, Base, OrderLine, Mail, Request, Client, Seat, Event, Input, Row}
 use Rattle.sc_actor.specs.declared.rows.Event.TheVariants as Comes
 use Rattle.sc_actor.specs.declared.rows.Input.TheVariants.{Go}
 use Rattle.sc_actor.specs.declared.rows.Input.TheVariants.{Told as ToldInput}
@@ -30,6 +30,7 @@ use Rattle.sc_live_plain.specs.Definitions.{begun_ones, waiting_ones, begun_of}
 use Rattle.sc_live_plain.proofs.Lemmas.{map_among}
 use Rattle.sc_live_answers.specs.Definitions.{IssuedAreBegun}
 use Rattle.sc_live_steps.proofs.CalmProofs.Totals.{or_assoc}
+use Rattle.sc_law_walks.proofs.Lemmas.{got_no_go}
 
 -- ---- a client's own row
 
@@ -153,10 +154,6 @@ or_now_some None false n at e = cc
 is_told_one : (line : OrderLine) (input : Input Mail OrderLine) → Some (ToldInput line) ≡ Some input → input ≡ Go → ⊥
 is_told_one line input e f = (let bad : Some (ToldInput line) ≡ Some Go = e ∙ ap Some f in cc)
 
-is_got : (o : Option Mail) (input : Input Mail OrderLine) → option_map Got o ≡ Some input → input ≡ Go → ⊥
-is_got None input e f = absurd (none-some input e)
-is_got (Some mail) input e f = (let bad : Some (Got mail) ≡ Some Go = e ∙ ap Some f in cc)
-
 -- what an input leaves of a client, if there is one
 record IsActed (client : ClientState) (o : Option (Input Mail OrderLine)) (step : Player × List Mail) : Type 0 where
   after : ClientState
@@ -189,7 +186,7 @@ module _ (words : ℕ → ℕ → ℕ × ℕ) (scenario : Scenario) (first : Bas
     row = row_of player_table seat rows event
 
     fresh_now : (e : Event OrderLine) → IsCalmEvent (players words seats) rows seat.who e → (input : Input Mail OrderLine) → input_of (mails rows) e ≡ Some input → input ≡ Go → (k.client.waiting ≡ None) × (k.client.replies ≡ [])
-    fresh_now (Comes.Deliver number) c input e f = absurd (is_got _ input e f)
+    fresh_now (Comes.Deliver number) c input e f = absurd (got_no_go _ input e f)
     fresh_now Comes.Go c input e f = k.fresh c
     fresh_now (Comes.Told line) c input e f = absurd (is_told_one line input e f)
     fresh_now _ c input e f = absurd c
@@ -216,7 +213,7 @@ module _ (words : ℕ → ℕ → ℕ × ℕ) (scenario : Scenario) (first : Bas
     }
       where
         no_go : (e : Event OrderLine) → IsCalmEvent (players words seats) rows seat.who e → is_go e ≡ false → (input : Input Mail OrderLine) → input_of (mails rows) e ≡ Some input → input ≡ Go → ⊥
-        no_go (Comes.Deliver number) c s input w g = is_got _ input w g
+        no_go (Comes.Deliver number) c s input w g = got_no_go _ input w g
         no_go Comes.Go c s input w g = true≢false s
         no_go (Comes.Told line) c s input w g = is_told_one line input w g
         no_go _ c s input w g = c

@@ -22,7 +22,7 @@ use Rattle.sc_live_journals.specs.rows.Definitions.{replicas_of as view_replicas
 use Rattle.sc_live_journals.specs.charts.Definitions.{replicas_of, all_replicas, names_at, went_in, LedStandOnce}
 use Rattle.sc_live_journals.proofs.ChartsProofs.Lemmas.{led_by}
 use Rattle.sc_live_answers.specs.Definitions.{LawfulReplicasAreNamedOnce, GoneAgree, IsQuietPrefix, IsFoundPrefix, PrefixesAreFound}
-use Rattle.sc_live_answers.proofs.QuietProofs.QuietPrefixes.{IsClient, replayed_client, client_among, seat_in, node_among}
+use Rattle.sc_live_answers.proofs.QuietProofs.QuietPrefixes.{IsClient, replay_client, client_among, seat_in, node_among}
 use Rattle.sc_live_answers.proofs.LinesProofs.Frames.{found_once}
 use Rattle.sc_live_answers.proofs.ReplicasProofs.AllReplicas.{from_seats, into_seats}
 
@@ -101,7 +101,7 @@ module _ (bounded : ValidScenariosAreBounded) (named : LawfulReplicasAreNamedOnc
             let low = within.0 in
             let high = within.1 in
             (m.0, found.views (name_of r) m.0 ∙ of_node m.0 (omega (arith, own, low)) (omega (arith, own, high)) (value player_table (seat_of m.0) prefix) refl (subst (λ s. Among r (replicas_of (value player_table s prefix))) (sym m.2) f.2)))
-        | inr client ↦ absurd (no_client (value player_table f.0 prefix) r (replayed_client f.0.who prefix f.0.actor [] (client_among scenario.groups scenario.clients f.0 client)) f.2)
+        | inr client ↦ absurd (no_client (value player_table f.0 prefix) r (replay_client f.0.who f.0.actor [] prefix (client_among scenario.groups scenario.clients f.0 client)) f.2)
       ]
     where
       of_node : (me : ℕ) → 1 ≤ me → me ≤ scenario.nodes → (p : Player) → value player_table (seat_of me) prefix ≡ p → Among r (replicas_of p) → view_at seats prefix (name_of r) me ≡ Some r

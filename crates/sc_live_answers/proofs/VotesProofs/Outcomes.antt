@@ -63,11 +63,11 @@ merges into offer frozen group own f o keys = (_, refl)
 -- ---- stories
 
 -- what a story says of its outcome
-abbrev FitsStory : Story → Type 0
-FitsStory y = (outcome : Outcome) → y.outcome ≡ Some outcome → (offer : Offer) → y.offer ≡ Some offer → (frozen : Frozen) → y.vote ≡ Some (Vows.Yes frozen) → IsTakenBy outcome offer frozen
+abbrev OutcomeFits : Story → Type 0
+OutcomeFits y = (outcome : Outcome) → y.outcome ≡ Some outcome → (offer : Offer) → y.offer ≡ Some offer → (frozen : Frozen) → y.vote ≡ Some (Vows.Yes frozen) → IsTakenBy outcome offer frozen
 
 abbrev AllFit : Stories → Type 0
-AllFit ys = (tx : Draw) (y : Story) → ys tx ≡ Some y → FitsStory y
+AllFit ys = (tx : Draw) (y : Story) → ys tx ≡ Some y → OutcomeFits y
 
 no_outcome : (outcome : Outcome) → None ≡ Some outcome → ⊥
 no_outcome outcome e = cc
@@ -81,21 +81,21 @@ same_vote f frozen e = cc
 same_none : (vote : Option Vote) (frozen : Frozen) → vote ≡ None → vote ≡ Some (Vows.Yes frozen) → ⊥
 same_none vote frozen e v = no_vote frozen (sym e ∙ v)
 
-new_fits : (s : Group) (body : Body) → FitsStory (new_story s body)
+new_fits : (s : Group) (body : Body) → OutcomeFits (new_story s body)
 new_fits s body outcome e = absurd (no_outcome outcome e)
 
 new_put : (ys : Stories) (tx : Draw) (s : Group) (body : Body) → AllFit ys → AllFit (put ys tx (Some (new_story s body)))
-new_put ys tx s body old = put_so (λ t y. FitsStory y) ys tx (Some (new_story s body)) (λ y e. subst FitsStory (same_Some (new_story s body) y e) (new_fits s body)) old
+new_put ys tx s body old = put_so (λ t y. OutcomeFits y) ys tx (Some (new_story s body)) (λ y e. subst OutcomeFits (same_Some (new_story s body) y e) (new_fits s body)) old
 
-watched_fits : (o : Option Past) (y : Story) → FitsStory y → FitsStory (with_watch_vote o y)
+watched_fits : (o : Option Past) (y : Story) → OutcomeFits y → OutcomeFits (with_watch_vote o y)
 watched_fits None y k = k
 watched_fits (Some past) y k = k
 
 -- with an outcome that its participant takes
-decided_fits : (o : Outcome) (y : Story) → ((offer : Offer) → y.offer ≡ Some offer → (frozen : Frozen) → y.vote ≡ Some (Vows.Yes frozen) → IsTakenBy o offer frozen) → FitsStory (with_decision (Some o) y)
+decided_fits : (o : Outcome) (y : Story) → ((offer : Offer) → y.offer ≡ Some offer → (frozen : Frozen) → y.vote ≡ Some (Vows.Yes frozen) → IsTakenBy o offer frozen) → OutcomeFits (with_decision (Some o) y)
 decided_fits o y takes outcome e offer is frozen vote = subst (λ x. IsTakenBy x offer frozen) (same_Some o outcome e) (takes offer is frozen vote)
 
-changed_fits : (s : Group) (vote : Vote) (y : Story) → FitsStory y → FitsStory (with_answer s.core vote Was.Changed y)
+changed_fits : (s : Group) (vote : Vote) (y : Story) → OutcomeFits y → OutcomeFits (with_answer s.core vote Was.Changed y)
 changed_fits s (Vows.Yes frozen) y k = k
 changed_fits s (Vows.No why) y k = k
 
@@ -122,13 +122,13 @@ module _ (sources : Sources) (ring : Ring) (gs : Groups) (ys : Stories) (g : Dra
     early y e none (Is.Migrated node) out own o frozen = absurd (let v = ((k.0.story tx y e).earned (Is.Migrated node) out (λ q. cc)).0 own o in same_none y.vote v.0 none v.1)
     early y e none Is.Divided out own o frozen = absurd (let v = ((k.0.story tx y e).earned Is.Divided out (λ q. cc)).0 own o in same_none y.vote v.0 none v.1)
 
-    with_cast : (y : Story) → ys tx ≡ Some y → (o : Option Vote) → (v : Option Vote) → y.vote ≡ v → vote_in s (applied s (Prepared tx offer)).1 ≡ o → FitsStory (with_vote o y)
+    with_cast : (y : Story) → ys tx ≡ Some y → (o : Option Vote) → (v : Option Vote) → y.vote ≡ v → vote_in s (applied s (Prepared tx offer)).1 ≡ o → OutcomeFits (with_vote o y)
     with_cast y e None v was c = old tx y e
     with_cast y e (Some vote) (Some before) was c = absurd (let none : None ≡ Some vote = sym (once y e before was) ∙ c in cc)
     with_cast y e (Some vote) None was c = λ outcome out own o frozen _. early y e was outcome out own o frozen
 
     prepared_fits : AllFit (retold ys tx (with_vote (vote_in s (applied s (Prepared tx offer)).1)))
-    prepared_fits = retold_so (λ t y. FitsStory y) ys tx (with_vote (vote_in s (applied s (Prepared tx offer)).1)) (λ y e. with_cast y e (vote_in s (applied s (Prepared tx offer)).1) y.vote refl refl) old
+    prepared_fits = retold_so (λ t y. OutcomeFits y) ys tx (with_vote (vote_in s (applied s (Prepared tx offer)).1)) (λ y e. with_cast y e (vote_in s (applied s (Prepared tx offer)).1) y.vote refl refl) old
 
   -- ---- what a coordinator decides
 
@@ -140,9 +140,9 @@ module _ (sources : Sources) (ring : Ring) (gs : Groups) (ys : Stories) (g : Dra
     voted_is y e frozen v = same_vote f frozen (sym (its_vote y e) ∙ v)
 
     abbrev Answer : Group × Effect → Type 0
-    Answer r = (y : Story) → ys tx ≡ Some y → FitsStory (with_answer s.core (Vows.Yes f) r.1 y)
+    Answer r = (y : Story) → ys tx ≡ Some y → OutcomeFits (with_answer s.core (Vows.Yes f) r.1 y)
 
-    idle_so : (y : Story) → ys tx ≡ Some y → FitsStory (with_answer s.core (Vows.Yes f) (Was.NoEffect tx) y)
+    idle_so : (y : Story) → ys tx ≡ Some y → OutcomeFits (with_answer s.core (Vows.Yes f) (Was.NoEffect tx) y)
     idle_so y e = old tx y e
 
     module _ (at order : ℕ) (lock : s.core.lock ≡ Coordinating tx (At.Repart at) order None) where
@@ -219,7 +219,7 @@ module _ (sources : Sources) (ring : Ring) (gs : Groups) (ys : Stories) (g : Dra
   -- ---- other decisions
 
   abbrev Decided_so : Draw → Group × Effect → Type 0
-  Decided_so tx r = (y : Story) → ys tx ≡ Some y → FitsStory (with_decision (decided_in r.1) y)
+  Decided_so tx r = (y : Story) → ys tx ≡ Some y → OutcomeFits (with_decision (decided_in r.1) y)
 
   idle_at : (tx : Draw) → Decided_so tx (s, Was.NoEffect tx)
   idle_at tx y e = old tx y e
@@ -260,7 +260,7 @@ module _ (sources : Sources) (ring : Ring) (gs : Groups) (ys : Stories) (g : Dra
 
   -- a No aborts
   abbrev Denied : Draw → Vote → Group × Effect → Type 0
-  Denied tx vote r = (y : Story) → ys tx ≡ Some y → FitsStory (with_answer s.core vote r.1 y)
+  Denied tx vote r = (y : Story) → ys tx ≡ Some y → OutcomeFits (with_answer s.core vote r.1 y)
 
   denied_at : (tx : Draw) (why : _) (by : ℕ) (l : Lock) → Denied tx (Vows.No why) (vote_recorded l s tx (Vows.No why) by)
   denied_at tx why by Free = λ y e. old tx y e
@@ -282,11 +282,11 @@ module _ (sources : Sources) (ring : Ring) (gs : Groups) (ys : Stories) (g : Dra
       cond_both (is_changed (applied s (Split at child order)).1 && not (is_alone s.core)) (put ys child (Some (new_story s (At.Split at child)))) ys AllFit (λ _. new_put ys child s (At.Split at child) old) (λ _. old)
   entry_fits (Begin tx body order) a = cond_both (is_changed (applied s (Begin tx body order)).1) (put ys tx (Some (new_story s body))) ys AllFit (λ _. new_put ys tx s body old) (λ _. old)
   entry_fits (Prepared tx offer) a = prepared_fits tx offer a
-  entry_fits (Watched tx watch) a = retold_so (λ t y. FitsStory y) ys tx _ (λ y e. watched_fits (watch_vote_in (applied s (Watched tx watch)).1) y (old tx y e)) old
-  entry_fits (RecordVote tx (Vows.Yes f) by) a = retold_so (λ t y. FitsStory y) ys tx (with_answer s.core (Vows.Yes f) (applied s (RecordVote tx (Vows.Yes f) by)).1) (recorded_so tx f a by s.core.lock refl) old
-  entry_fits (RecordVote tx (Vows.No why) by) a = retold_so (λ t y. FitsStory y) ys tx (with_answer s.core (Vows.No why) (applied s (RecordVote tx (Vows.No why) by)).1) (denied_at tx why by s.core.lock) old
-  entry_fits (RecordWatch tx vote by) a = retold_so (λ t y. FitsStory y) ys tx (with_decision (decided_in (applied s (RecordWatch tx vote by)).1)) (watch_recorded_at tx vote s.core.lock refl) old
-  entry_fits (GiveUp tx) a = retold_so (λ t y. FitsStory y) ys tx (with_decision (decided_in (applied s (GiveUp tx)).1))
+  entry_fits (Watched tx watch) a = retold_so (λ t y. OutcomeFits y) ys tx _ (λ y e. watched_fits (watch_vote_in (applied s (Watched tx watch)).1) y (old tx y e)) old
+  entry_fits (RecordVote tx (Vows.Yes f) by) a = retold_so (λ t y. OutcomeFits y) ys tx (with_answer s.core (Vows.Yes f) (applied s (RecordVote tx (Vows.Yes f) by)).1) (recorded_so tx f a by s.core.lock refl) old
+  entry_fits (RecordVote tx (Vows.No why) by) a = retold_so (λ t y. OutcomeFits y) ys tx (with_answer s.core (Vows.No why) (applied s (RecordVote tx (Vows.No why) by)).1) (denied_at tx why by s.core.lock) old
+  entry_fits (RecordWatch tx vote by) a = retold_so (λ t y. OutcomeFits y) ys tx (with_decision (decided_in (applied s (RecordWatch tx vote by)).1)) (watch_recorded_at tx vote s.core.lock refl) old
+  entry_fits (GiveUp tx) a = retold_so (λ t y. OutcomeFits y) ys tx (with_decision (decided_in (applied s (GiveUp tx)).1))
       (cond_both (Rattle.sc_group_table.specs.machine.Transactions.is_coordinating s.core.lock tx) _ _ (Decided_so tx) (λ _. abort_at tx) (λ _. idle_at tx)) old
 
 -- ---- all entries

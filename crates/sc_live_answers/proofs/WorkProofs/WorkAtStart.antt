@@ -1,12 +1,12 @@
 -- An order given in a quiet journal stands at its group, or nothing does.
-use Rattle.std.proofs.Common.{◌≡◌, ℕ, ◌≤◌, eqb, cond, true, false, true≢false, List, [], ◌∷◌, ◌++◌, Option, Some, None, inl, inr, refl, sym, ◌∙◌, ap, subst}
+use Rattle.std.proofs.Common.{◌≡◌, ℕ, ◌≤◌, true, false, true≢false, List, [], Option, Some, None, inl, inr, refl, sym, ◌∙◌, ap, subst}
 use Rattle.sc_base.specs.Definitions.{Each, next_name}
-use Rattle.sc_node_table.specs.Values.{Draw, Command, Order, OrderLine, OrderRefusal, Refused, Mail, Node, Client, Seat, Go, Input}
+use Rattle.sc_node_table.specs.Values.{Draw, Command, Order, OrderLine, OrderRefusal, Refused, Mail, Node, Client, Seat, Go}
 use Rattle.sc_words.specs.declared.commands.orders.Order.TheVariants as An
 use Rattle.sc_words.specs.declared.commands.orders.OrderRefusal.TheVariants.{NotLeader}
 use Rattle.sc_actor.specs.declared.rows.Event.TheVariants.{Told}
 use Rattle.sc_actor.specs.declared.rows.Input.TheVariants.{Told as ToldInput}
-use Rattle.sc_actor.specs.Definitions.{value, acted, input_of, replay, row_of, is_quiet}
+use Rattle.sc_actor.specs.Definitions.{value, row_of, is_quiet}
 use Rattle.sc_client_table.specs.table.Definitions.{Client as ClientState}
 use Rattle.sc_live_orderly.specs.Definitions.{AreInTime}
 use Rattle.sc_live_orderly.proofs.Lemmas.{in_time_before, in_time_tidy, quiet-empty}
@@ -20,7 +20,6 @@ use Rattle.sc_live_steps.proofs.OrdersProofs.Lemmas.{cases-draw}
 use Rattle.sc_live_journals.specs.rows.Definitions.{view_at, IsSeat, with_event, IsReplicasRow, IsWellKept}
 use Rattle.sc_live_journals.proofs.RowsProofs.Lemmas.{names_stay, found_name, rows_replicas, view_was, sent_is, Plays, Found, found_well, replay_well}
 use Rattle.sc_live_journals.specs.groups.Definitions.{ScenariosAreWellBorn}
-use Rattle.sc_law_walks.proofs.Lemmas.{either_way}
 use Rattle.sc_live_journals.proofs.ScenesProofs.Lemmas.{client_leaves, now_is, all_sent}
 use Rattle.sc_live_answers.specs.Definitions.{Task, is_split, AreAtWork, IsTaskOf, OrdersBeginWork}
 use Rattle.sc_live_answers.proofs.WorkProofs.Affairs.{Affair, BeginsFree, AreGood}
@@ -31,24 +30,8 @@ use Rattle.sc_live_answers.proofs.WorkProofs.WorkInPrefixes.{AreHeld, goes_on, h
 use Rattle.sc_live_answers.proofs.ChildrenProofs.DrawnNames.{drawn_nowhere, drawn_unknown}
 use Rattle.std.proofs.lemmas.Option.{same_Some}
 use Rattle.sc_live_answers.proofs.BallotsProofs.WellPlayers.{plays_of}
-use Rattle.sc_live_answers.proofs.OrdersProofs.HeldOrdersAtStart.{order_refused}
-
--- who is born as a client stays one
-IsClient : Player → Type 0
-IsClient (Node node) = ⊥
-IsClient (Client client) = Unit {0}
-
-acted_client : (player : Player) (o : Option (Input Mail OrderLine)) → IsClient player → IsClient (acted player_table player o).0
-unfolding IsClient
-acted_client (Client client) None k = tt
-acted_client (Client client) (Some input) k = tt
-acted_client (Node node) o k = absurd k
-
-replay_client : (who : ℕ) (rows : Rows) (player : Player) (sent : List Mail) → IsClient player → IsClient (replay player_table who player sent rows)
-replay_client who [] player sent k = k
-replay_client who (row ∷ rows) player sent k =
-    replay_client who rows (cond (eqb row.who who) (acted player_table player (input_of sent row.event)).0 player) (sent ++ row.sent)
-    (either_way IsClient (eqb row.who who) (acted player_table player (input_of sent row.event)).0 player (acted_client player (input_of sent row.event) k) k)
+use Rattle.sc_law_walks.proofs.Lemmas.{order_refused}
+use Rattle.sc_law_entries.proofs.NamesProofs.Fresh.{IsClient, replay_client}
 
 -- at one that rests nothing stands
 rest_so : (a : Affair) (begins : BeginsFree a) (name : Draw) (r : ReplicaState) → IsAtRest r → HeldSo a name r
@@ -114,9 +97,8 @@ module _ (well : ScenariosAreWellBorn) (words : ℕ → ℕ → ℕ × ℕ) (sce
 
     -- who is a node was born as one
     born_node : (player : Player) → seat.actor ≡ player → (born : NodeState) × (seat.actor ≡ Node born)
-    unfolding IsClient
     born_node (Node born) e = (born, e)
-    born_node (Client client) e = absurd (subst IsClient is (replay_client seat.who quiet seat.actor [] (subst IsClient (sym e) tt)))
+    born_node (Client client) e = absurd (subst IsClient is (replay_client seat.who seat.actor [] quiet (subst IsClient (sym e) tt)))
 
     none_begins : replica_of group node.replicas ≡ None → Done
     none_begins here =

@@ -1,5 +1,5 @@
 -- Each entry of a group's log brings nodes of the scenario, row by row of a lawful journal of a valid scenario.
-use Rattle.std.proofs.Common.{◌≡◌, ℕ, Bool, List, [], ◌∷◌, ◌++◌, length, drop, inl, inr, refl, sym, ◌∙◌, ap, subst, append_assoc, append-nil}
+use Rattle.std.proofs.Common.{◌≡◌, ℕ, Bool, List, [], ◌∷◌, ◌++◌, length, drop, inl, inr, refl, sym, ◌∙◌, subst, append_assoc, append-nil}
 use Rattle.sc_base.specs.Definitions.{Among, Each, Drawer, next_name}
 use Rattle.sc_node_table.specs.Values.{Command, Base, Route, OrderLine, Mail, MailBody, Event, Tick, Row}
 use Rattle.sc_actor.specs.declared.rows.Event.TheVariants.{Told}
@@ -12,15 +12,14 @@ use Rattle.sc_words.proofs.PaxosProofs.Lemmas.{Each-among, Each-append, Each-fro
 use Rattle.sc_paxos_law.proofs.Lemmas.{Among-right}
 use Rattle.sc_scenario.specs.scenario.Definitions.{IsBounded, IsBoundedLine, IsUpTo}
 use Rattle.sc_scenario.specs.declared.scenario.scenarios.Scenario.{Scenario}
-use Rattle.sc_meaning.specs.sound.Definitions.{groups_at, birth_at, decided_log, decided_state, Ahead, Lawful, schedule, system_of}
+use Rattle.sc_meaning.specs.sound.Definitions.{groups_at, decided_log, decided_state, Ahead, Lawful, schedule, system_of}
 use Rattle.sc_law_entries.specs.ring.Definitions.{Sources}
-use Rattle.sc_law_entries.proofs.RingProofs.Lemmas.{some_none}
-use Rattle.sc_law_entries.specs.logs.Definitions.{Rows, added_by, AreFound, IsNewborn, DecidesInTurn}
+use Rattle.sc_law_entries.specs.logs.Definitions.{Rows, added_by, AreFound, DecidesInTurn}
 use Rattle.sc_law_entries.proofs.LogsProofs.Lemmas.{groups_are_found, groups_are_old_or_new, deciding_rows_stay, in_turn_parts}
 use Rattle.sc_law_entries.proofs.NamesProofs.Lemmas.{Each-drop}
 use Rattle.sc_law_groups.proofs.GroupProofs.Lemmas.{at_start, first_of, h_of, Kept, IsLater, Moved, push, decided_made, entry_offered, each_got, GivesAllowedOrder, told_induction, HasPlayers, MayTell, KnowsOffspring, moved, MayTick}
 use Rattle.sc_law_groups.specs.whole.Definitions.{BeginsWell, OrdersAreAllowed}
-use Rattle.sc_law_groups.proofs.WholeProofs.Lemmas.{newborn_is_new, StepsKeep, IsNew, IsOldOrNew, goes_on_from, grown, members_stay_rosters, Holds}
+use Rattle.sc_law_groups.proofs.WholeProofs.Lemmas.{newborn_is_new, StepsKeep, IsOldOrNew, goes_on_from, grown, members_stay_rosters, Holds}
 use Rattle.sc_live_journals.proofs.LogsProofs.JournalPrefixes.{prefix}
 use Rattle.sc_live_journals.proofs.LogsProofs.NodesInGroups.{BringsNodes, HasNodes, SaysNodes, log_nodes}
 use Rattle.sc_live_journals.proofs.LogsProofs.NamedNodes.{says_nodes}

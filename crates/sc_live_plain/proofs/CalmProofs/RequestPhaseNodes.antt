@@ -1,5 +1,5 @@
 -- Between two orders each row of a node leaves a journal in which clients ask alone.
-use Rattle.std.proofs.Common.{◌≡◌, ℕ, zero, suc, ◌≤◌, eqb, true, false, cond, List, [], ◌∷◌, ◌++◌, map, drop, find, Some, inl, inr, refl, sym, ◌∙◌, ap, subst, arith}
+use Rattle.std.proofs.Common.{◌≡◌, ℕ, ◌≤◌, eqb, true, false, cond, List, [], ◌∷◌, ◌++◌, map, drop, find, Some, inl, inr, refl, sym, ◌∙◌, ap, subst, arith}
 use Rattle.std.specs.Option.{option_map}
 use Rattle.std.proofs.lemmas.Bool.{cases_eq, eq-eqb}
 use Rattle.sc_base.specs.Definitions.{Among, Each, client_actor}
@@ -23,6 +23,7 @@ use Rattle.sc_live_plain.proofs.PlainProofs.PlainBeginnings.{IsStage}
 use Rattle.sc_live_plain.proofs.PlainProofs.PlainSteps.{node_number, value_others, gone_others, begun_still, client_away}
 use Rattle.sc_live_plain.proofs.RowsProofs.RowViews.{Journal, replica_is, replica_others}
 use Rattle.sc_live_plain.proofs.CalmProofs.CalmNodes.{aside_mail, aside_mail_mark, step_is, Turns, turns, stays_by, me_stays}
+use Rattle.sc_law_walks.proofs.Lemmas.{Each-drop}
 
 module _ (words : ℕ → ℕ → ℕ × ℕ) (scenario : Scenario) (stage : IsStage scenario) (set : Setting) (is : IsSetting set) (rows : Journal) (t : IsTidy rows) (j : IsAsking words scenario set stage.first rows) where
   abbrev sys : System Player Mail OrderLine
@@ -51,12 +52,6 @@ module _ (words : ℕ → ℕ → ℕ × ℕ) (scenario : Scenario) (stage : IsS
     calm = subst (λ b. IsCalmClient set asks b c.client) (sym (gone_others words scenario stage rows row (client_actor asks.client) ne)) c.calm;
   }
 
-  drop_each : {X : Type 0} (P : X → Type 0) (n : ℕ) (xs : List X) → Each P xs → Each P (drop n xs)
-  drop_each P zero [] e = tt
-  drop_each P zero (x ∷ xs) e = e
-  drop_each P (suc n) [] e = tt
-  drop_each P (suc n) (x ∷ xs) e = drop_each P n xs e.1
-
   -- what is left of the mail of each is calm
   pub left_more : (row : Row Mail OrderLine) → IsMore (IsBegun scenario rows) (IsBegun scenario (rows ++ row ∷ []))
       → ((who : ℕ) → rest (system_of as_nodes words scenario) (rows ++ row ∷ []) who ≡ drop (taken who row) (rest (system_of as_nodes words scenario) rows who) ++ mail_for (system_of as_nodes words scenario) who row.sent)
@@ -65,7 +60,7 @@ module _ (words : ℕ → ℕ → ℕ × ℕ) (scenario : Scenario) (stage : IsS
       let P : Mail → Type 0 = IsCalmMail (IsBegun scenario (rows ++ row ∷ [])) set in
       subst (Each P) (sym (after who))
       (Each-append P (drop (taken who row) (rest sys rows who)) (mail_for sys who row.sent)
-      (drop_each P (taken who row) (rest sys rows who) (Each-weaker (IsCalmMail (IsBegun scenario rows) set) P (calm_mail_more (IsBegun scenario rows) (IsBegun scenario (rows ++ row ∷ [])) more set) (rest sys rows who) (j.left who born)))
+      (Each-drop P (taken who row) (rest sys rows who) (Each-weaker (IsCalmMail (IsBegun scenario rows) set) P (calm_mail_more (IsBegun scenario rows) (IsBegun scenario (rows ++ row ∷ [])) more set) (rest sys rows who) (j.left who born)))
       (Each-filter P (λ (mail : Mail). eqb (sys.receiver mail) who) row.sent sent))
 
   -- the value of who acts

@@ -12,6 +12,7 @@ use Rattle.sc_live_orderly.specs.Definitions.{deliveries, Owing, owed, owed_at_b
 use Rattle.sc_live_plain.specs.Definitions.{IsGroupAt, Frame, player_owes, mail_owes, IsBegun, IsPlainClient, IsPlainMail, IsPlainNode}
 use Rattle.sc_live_plain.proofs.PlainProofs.PlainBeginnings.{frames_of, IsStage}
 use Rattle.sc_live_plain.proofs.RowsProofs.RowViews.{Journal}
+use Rattle.sc_law_groups.proofs.GroupProofs.Lemmas.{EachClient}
 
 -- what players and mail owe, by the number of groups
 abbrev pub owing_of : Scenario → Owing Player Mail
@@ -34,7 +35,7 @@ module _ (words : ℕ → ℕ → ℕ × ℕ) (scenario : Scenario) (stage : IsS
   -- all players, all mail and all groups after some rows, and what is owed still
   pub record IsPlainJournal (rows : Journal) : Type 0 where
     pub nodes : (me : ℕ) → 1 ≤ me → me ≤ scenario.nodes → IsNodeAt rows me
-    pub clients : (asks : Asks) → Among asks scenario.clients → IsClientAt rows asks
+    pub clients : EachClient scenario (IsClientAt rows)
     pub sent : Each (IsPlainMail (IsBegun scenario rows) (frames_of scenario)) (mails rows)
     pub groups : (frame : Frame) → Among frame (frames_of scenario) → IsGroupAt words scenario rows frame
     pub owes : deliveries rows + owed (system_of as_nodes words scenario) (owing_of scenario) rows ≤ owed_at_birth (system_of as_nodes words scenario) (owing_of scenario)

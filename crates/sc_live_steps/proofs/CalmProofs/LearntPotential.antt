@@ -1,6 +1,5 @@
 -- A replica that learns an entry raises nothing, also where it is elected by it.
-use Rattle.std.proofs.Common.{◌≡◌, ℕ, zero, suc, ◌+◌, ◌-◌, ◌^◌, ◌≤◌, eqb, Bool, true, false, true≢false, cond, List, [], ◌∷◌, length, sum_by, Option, Some, None, refl, sym, ◌∙◌, ap, subst, arith}
-use Rattle.std.specs.List.{filter}
+use Rattle.std.proofs.Common.{◌≡◌, ℕ, zero, suc, ◌+◌, ◌-◌, ◌^◌, ◌≤◌, eqb, Bool, true, false, true≢false, cond, List, [], length, sum_by, Option, Some, None, refl, sym, ◌∙◌, ap, subst, arith}
 use Rattle.std.specs.Option.{option_map}
 use Rattle.sc_base.specs.Definitions.{most_nodes, least_of}
 use Rattle.sc_node_table.specs.Values.{Ballot, Command, Effect, Route, OrderResult, Mail, Prepare, Told, Flight}
@@ -12,17 +11,10 @@ use Rattle.sc_node_table.specs.Definitions.{is_in_some, nodes_to, open_nodes, el
 use Rattle.sc_live_steps.specs.calm.Definitions.{Ways, mail_owes, replica_owes, idle_owes, election, place_owes}
 use Rattle.sc_live_steps.proofs.CalmProofs.PotentialSums.{sent_owes, all_owe, without_flight_owes, without_slot_owes, idle_most as idle_low}
 use Rattle.sc_live_steps.proofs.FollowingProofs.FollowerTables.{left_same as left_learnt, learnt_same as learnt_learnt, welcomed_same as welcomed_learnt}
+use Rattle.std.proofs.lemmas.List.Sums.{length-filter, count_by-le-length}
 pub use Rattle.sc_law_walks.proofs.Lemmas.{entered_running, entered_ready}
 
 -- ---- the nodes of an election
-
-pub filter_short : {X : Type 0} (test : X → Bool) (xs : List X) → length (filter test xs) ≤ length xs
-filter_short test [] = omega arith
-filter_short {X} test (x ∷ xs) = by (test x) (filter_short test xs)
-  where
-    by : (b : Bool) → length (filter test xs) ≤ length xs → length (cond b (x ∷ filter test xs) (filter test xs)) ≤ length (x ∷ xs)
-    by true le = omega (arith, le)
-    by false le = omega (arith, le)
 
 pub count_numbers : (from count : ℕ) → length (numbers_from from count) ≡ count
 count_numbers from zero = refl
@@ -31,9 +23,10 @@ count_numbers from (suc count) = ap suc (count_numbers (from + 1) count)
 open_few : (sets : List (List ℕ)) → length (open_nodes sets) ≤ 32
 unfolding nodes_to
 open_few sets =
-    let short = filter_short (λ node. is_in_some sets node) (numbers_from 1 most_nodes) in
+    let counted = length-filter (λ node. is_in_some sets node) (numbers_from 1 most_nodes) in
+    let short = count_by-le-length (λ node. is_in_some sets node) (numbers_from 1 most_nodes) in
     let all = count_numbers 1 most_nodes in
-    omega (arith, short, all)
+    omega (arith, counted, short, all)
 
 module _ (ways : Ways) where
   -- ---- what is reported to the desk owes nothing

@@ -14,9 +14,10 @@ use Rattle.sc_node_table.specs.Definitions.{sent, entered, order_result, effect_
 use Rattle.sc_law_walks.proofs.Lemmas.{vote_step, decided_walk, finish_step}
 use Rattle.sc_live_steps.specs.calm.Definitions.{AreBounded, said_place, newcomers, Ways, mail_owes}
 use Rattle.sc_live_steps.proofs.CalmProofs.PotentialSums.{sent_owes}
-use Rattle.sc_live_steps.proofs.CalmProofs.LearntPotential.{filter_short, begun_owes}
+use Rattle.sc_live_steps.proofs.CalmProofs.LearntPotential.{begun_owes}
 use Rattle.sc_live_steps.proofs.CalmProofs.MemberChanges.{among_member, same_new, one_new, entered_members, ordered_members}
 use Rattle.sc_paxos_law.proofs.Lemmas.{Among-left as among_more}
+use Rattle.std.proofs.lemmas.List.Sums.{length-filter, count_by-le-length}
 
 -- ---- whom an entry adds
 
@@ -30,7 +31,10 @@ same_added command r same = none_added command r (λ x a. among_member x (member
 
 -- no more than are members after it
 pub few_added : (command : Command) (r : ReplicaState) → length (members (entered command r)) ≤ 9 → length (newcomers command r) ≤ 9
-few_added command r few = let le = filter_short (λ node. not (is_member (members r) node)) (members (entered command r)) in omega (arith, le, few)
+few_added command r few =
+    let added = length-filter (λ node. not (is_member (members r) node)) (members (entered command r)) in
+    let le = count_by-le-length (λ node. not (is_member (members r) node)) (members (entered command r)) in
+    omega (arith, added, le, few)
 
 by_members : (P : List ℕ → Type 0) (draw : Draw) (why : Option OrderRefusal) (after group : Group) → P after.core.members → P group.core.members → P (ordered_by (Some draw) why after group).0.core.members
 by_members P draw why after group a g = by (has_named group.core draw) (ordered_members P group.core.gone why after group a g)

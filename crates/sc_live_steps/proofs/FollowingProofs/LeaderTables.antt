@@ -11,6 +11,7 @@ use Rattle.sc_node_table.specs.Definitions.{ReplicaState, Place, listed, name_of
 use Rattle.sc_live_steps.specs.following.Definitions.{Mark, Asks, Promises, Course, Progress, Sets, IsInFlight, members_at, IsLed, IsStill, IsStopped, LeadsBy, voters_of, IsPolled, IsLeadOf, progress_by, LeadsInto, StopsAlone, marks_for, to_bound, IsCount, IsElsewhere, IsOffer, IsOffered, IsCounted, IsKept, Leads, told_from}
 use Rattle.sc_live_steps.proofs.FollowingProofs.LeastMembers.{none_decided}
 use Rattle.sc_live_steps.proofs.FollowingProofs.Marks.{among-right}
+use Rattle.std.proofs.lemmas.Option.{same_Some}
 pub use Rattle.sc_law_walks.proofs.Lemmas.{none_there}
 
 -- ---- the votes for what is in flight
@@ -24,15 +25,12 @@ pub record Flies (r : ReplicaState) (slot : ℕ) (voters : List ℕ) : Type 0 wh
   pub found : flight_at slot r.leader.flights ≡ Some flight
   pub votes : kept_voters flight.voters ≡ voters
 
-some_there : {X : Type 0} (x y : X) → Some x ≡ Some y → x ≡ y
-some_there x y e = cc
-
 pub voters_fly : (r : ReplicaState) (slot : ℕ) (voters : List ℕ) → voters_of r slot ≡ Some voters → Flies r slot voters
 voters_fly r slot voters e = by (not r.running || (ltb slot (next r) || is_some (at_slot r.ready slot))) refl e
   where
     found_by : (r.running ≡ true) → next r ≤ slot → at_slot r.ready slot ≡ None → (o : Option (Flight Command)) → flight_at slot r.leader.flights ≡ o → option_map (λ (f : Flight Command). kept_voters f.voters) o ≡ Some voters → Flies r slot voters
     found_by on from none None is e = cc
-    found_by on from none (Some f) is e = record { running = on; from = from; ready = none; flight = f; found = is; votes = some_there (kept_voters f.voters) voters e }
+    found_by on from none (Some f) is e = record { running = on; from = from; ready = none; flight = f; found = is; votes = same_Some (kept_voters f.voters) voters e }
 
     runs : (b : Bool) → not b ≡ false → b ≡ true
     runs true e = refl
