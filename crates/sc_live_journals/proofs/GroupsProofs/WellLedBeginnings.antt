@@ -54,7 +54,7 @@ module _ (at : Sets) (over : Ends) (by : Tellers) (words : ℕ → ℕ → ℕ �
 
     well : IsCourseOf at seats rows base (begun_course base) → ((node : ℕ) (r : ReplicaState) → view_at seats rows base.core.id node ≡ Some r → r.running ≡ true → IsOrderly r) → IsWellLed at over by words seats rows base (begun_course base)
     well given orderly = record {
-      followed = record { follows = idle-keeps at start now 0 None (λ who. []) (λ who. []) marks row idle following; given = given };
+      followed = record { follows = idle-keeps start now 0 None (λ who. []) (λ who. []) marks row idle at following; given = given };
       heeded = hints_are_kept.idle at by start now 0 None (λ who. []) (λ who. []) marks hints hints so.rosters row idle following (λ who ne. refl) refl (hints_are_kept.begin at by ballot hints (λ node ne open_. heads node));
       low = λ who. subst (AreLow (now.next who)) (sym (nothing (dated_at (players words seats) rows base.core.id who) (marks_all base.core.id (rest (players words seats) rows who) ∙ none who))) tt;
       own = own_is_kept.idle at start now 0 None (λ who. []) (λ who. []) marks row idle following tt (own_is_kept.begin at ballot);
