@@ -37,8 +37,9 @@ pub use Rattle.sc_live_plain.proofs.CalmProofs.RequestPhaseClients.{asking_row}
 pub use Rattle.sc_live_plain.proofs.CalmProofs.RequestsAfterQuiet.{quiet_ask}
 pub use Rattle.sc_live_plain.proofs.CalmProofs.CalmWaitingRequests.{AreSought, IsSought, sought_row}
 pub use Rattle.sc_live_plain.proofs.CalmProofs.RequestLines.{lines_answered, asked_node}
-pub use Rattle.sc_live_plain.proofs.LeadersProofs.Flights.{numbered_get, numbered_past, only_flight, vote_kept, voted_count}
+pub use Rattle.sc_live_plain.proofs.LeadersProofs.Flights.{numbered_get, numbered_past, only_flight, voted_count}
 pub use Rattle.sc_live_plain.proofs.Laws.{plain_lines_end_quiet, requests_go_on, quiet_journals_ask}
 pub use Rattle.sc_live_plain.proofs.BudgetProofs.LastLineEnds.{all_plain, last_lines_quiet}
 pub use Rattle.sc_live_plain.proofs.BudgetProofs.QuietLineEnds.{lines_plain}
 pub use Rattle.sc_live_plain.proofs.BudgetProofs.LightJournals.{is_node_born}
+pub use Rattle.sc_live_steps.proofs.FollowingProofs.KeptVotes.{vote_kept}

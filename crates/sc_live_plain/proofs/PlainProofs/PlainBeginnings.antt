@@ -49,17 +49,14 @@ module _ (scenario : Scenario) (bounded : IsBounded scenario) where
   pub of_groups : (base : Base) → Among base scenario.groups → (k : ℕ) × (k < length bounded.starts) × (base_at bounded.starts k ≡ base)
   of_groups base a = of_up_to bounded.starts (length bounded.starts) base (subst (Among base) bounded.groups a)
 
-  line_bounded : (k : ℕ) → k < length bounded.starts → IsBoundedGroup scenario.nodes (group_at bounded.starts k)
-  line_bounded k low = bounded.each k (record { lo = 0; members = [] }) low
-
   within : (k : ℕ) → k < length bounded.starts → (node : ℕ) → is_member (group_at bounded.starts k).members node ≡ true → (1 ≤ node) × (node ≤ scenario.nodes)
   within k low node m =
       let members = (group_at bounded.starts k).members in
-      Each-among (IsUpTo scenario.nodes) members node (Each-from_All (IsUpTo scenario.nodes) members (line_bounded k low).members_in) (member-among members node m)
+      Each-among (IsUpTo scenario.nodes) members node (Each-from_All (IsUpTo scenario.nodes) members (bounded.each k (record { lo = 0; members = [] }) low).members_in) (member-among members node m)
 
   frame_at : (k : ℕ) → k < length bounded.starts → IsFrame (frame_of (base_at bounded.starts k))
   frame_at k low =
-      let roster = (line_bounded k low).roster in
+      let roster = (bounded.each k (record { lo = 0; members = [] }) low).roster in
       record {
         free = refl;
         stands = refl;

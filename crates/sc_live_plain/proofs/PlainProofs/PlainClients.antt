@@ -14,7 +14,7 @@ use Rattle.sc_client_table.specs.lookup.Definitions.{KnownGroups, chosen, target
 use Rattle.sc_client_table.specs.table.Definitions.{Client, request_at, waiting_request, ClientStep, asked_of, sent_where, chosen_for, request_sent, started, waits_for, was_asked, answer_taken, got, table}
 use Rattle.sc_scenario.specs.declared.scenario.scenarios.Asks.{Asks}
 use Rattle.sc_live_plain.specs.Definitions.{Frame, body_owes, mail_owes, waiting_ones, begun_ones, client_owes, way_of, IsWaiting, IsResting, IsPlainClient, Requests, IsPlainBody, IsPlainMail}
-use Rattle.sc_live_plain.proofs.PlainProofs.PlainKnownGroups.{IsRound, chosen_frame, target_leads, one_chosen, known_grows, prefix_frames}
+use Rattle.sc_live_plain.proofs.PlainProofs.PlainKnownGroups.{IsRound, chosen_frame, target_leads, one_chosen, known_grows, among_first}
 use Rattle.sc_live_plain.proofs.RowsProofs.RepeatedMail.{mail_of}
 use Rattle.sc_live_plain.proofs.RowsProofs.Lists.{some_is}
 
@@ -80,7 +80,7 @@ module _ (frames : List Frame) (round : IsRound frames) (asks : Asks) where
       let request_ : waiting_request client ≡ Some (seq, op) = ap (request_at client.requests) k.waits ∙ ap (λ (o : Option Op). option_map (λ x. (seq, x)) o) k.op_is in
       record {
         frame = c.frame;
-        is_frame = prefix_frames frames round reached k.low c.frame c.is_frame;
+        is_frame = among_first reached frames c.frame c.is_frame;
         after_is =
             ap (λ (o : Option (ℕ × Op)). sent_where client (chosen_for client o)) request_
             ∙ ap (sent_where client) chosen_
