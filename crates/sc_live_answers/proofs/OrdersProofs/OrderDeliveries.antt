@@ -14,6 +14,7 @@ use Rattle.sc_scenario.specs.declared.scenario.scenarios.Scenario.{Scenario}
 use Rattle.sc_scenario.specs.scenario.Definitions.{ValidScenariosAreBounded}
 use Rattle.sc_meaning.specs.sound.Definitions.{Player, player_table, births, as_nodes}
 use Rattle.sc_live_steps.specs.calm.Definitions.{Chart, players, IsCalmFor, FindsCalm, MayAskThere, Points, StandsOnce, Rows, led_elsewhere, leads, is_leading, is_led}
+use Rattle.sc_live_journals.proofs.ChartsProofs.Lemmas.{upto_low}
 use Rattle.sc_live_journals.specs.rows.Definitions.{replicas_of, replica_in, view_at, with_event}
 use Rattle.sc_live_journals.specs.mail.Definitions.{SlotsAreLeft}
 use Rattle.sc_live_journals.specs.logs.Definitions.{SlotsHaveRosters}
@@ -101,14 +102,6 @@ module _ (births : List (Seat Player)) (rows : Rows) (name : Draw) where
 
   pub named_so : (who : ℕ) (r : ReplicaState) → view who ≡ Some r → name_of r ≡ name
   named_so who r e = (let s = seat_of who r e in named_there (value player_table s.seat rows) r s.has)
-
-upto_low : (s : System Player Mail OrderLine) (rows : Rows) (n : ℕ) → quiet_upto s rows n ≤ n
-upto_low s rows zero = omega arith
-upto_low s rows (suc n) = by (is_quiet s (take (suc n) rows)) (upto_low s rows n)
-  where
-    by : (b : Bool) → quiet_upto s rows n ≤ n → cond b (suc n) (quiet_upto s rows n) ≤ suc n
-    by true le = omega arith
-    by false le = omega (arith, le)
 
 pub runs_there : (o : Option ReplicaState) → is_running o ≡ true → (r : ReplicaState) × (o ≡ Some r) × (r.running ≡ true)
 runs_there None e = cc
