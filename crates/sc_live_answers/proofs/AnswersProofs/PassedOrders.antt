@@ -1,5 +1,5 @@
 -- A whole journal in which no line was cut off was quiet after a line of many deliveries behind an order, when the order had been given.
-use Rattle.std.proofs.Common.{◌≡◌, ℕ, Bool, true, false, true≢false, cond, eqb, List, [], ◌∷◌, ◌++◌, find, Some, None, inl, refl, sym, ◌∙◌, ap}
+use Rattle.std.proofs.Common.{◌≡◌, ℕ, true, false, true≢false, cond, eqb, List, [], ◌∷◌, ◌++◌, find, Some, None, inl, refl, sym, ◌∙◌, ap}
 use Rattle.std.specs.Prelude.{is_none}
 use Rattle.std.specs.Option.{option_map}
 use Rattle.sc_base.specs.Definitions.{Among}

@@ -1,10 +1,10 @@
 -- The chart of some rows counts as the setting does that the last quiet journal before them gives.
-use Rattle.std.proofs.Common.{◌≡◌, ℕ, zero, suc, ◌+◌, ◌≤◌, cond, true, false, true≢false, Bool, List, ◌∷◌, ◌-◌, length, take, min, Option, Some, None, inl, inr, refl, sym, ◌∙◌, ap, subst, arith}
+use Rattle.std.proofs.Common.{◌≡◌, ℕ, zero, suc, ◌+◌, ◌≤◌, cond, true, false, true≢false, Bool, List, ◌∷◌, ◌-◌, length, min, Option, Some, None, inl, inr, refl, sym, ◌∙◌, ap, subst, arith}
 use Rattle.std.specs.Prelude.{filter, is_some, ◌||◌, not}
 use Rattle.std.proofs.lemmas.List.{take_all}
 use Rattle.sc_base.specs.Definitions.{Among, Each}
 use Rattle.sc_node_table.specs.Values.{Draw, Base, Route, OrderLine, Mail, Seat, Row}
-use Rattle.sc_actor.specs.Definitions.{value, is_quiet}
+use Rattle.sc_actor.specs.Definitions.{value}
 use Rattle.sc_node_table.specs.Definitions.{replica_of, ReplicaState, name_of}
 use Rattle.sc_words.proofs.PaxosProofs.Lemmas.{Among-filter, Each-among, Each-from, Each-passes}
 use Rattle.sc_scenario.specs.declared.scenario.scenarios.Scenario.{Scenario}

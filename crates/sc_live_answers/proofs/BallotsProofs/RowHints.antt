@@ -8,20 +8,18 @@ use Rattle.sc_actor.specs.Definitions.{mails, row_of}
 use Rattle.sc_live_orderly.specs.Definitions.{IsCalmEvent, AreInTime}
 use Rattle.sc_live_orderly.proofs.Lemmas.{in_time_before}
 use Rattle.sc_words.specs.paxos.Definitions.{IsAtLeast, promise_counted}
-use Rattle.sc_words.proofs.PaxosProofs.Lemmas.{Each-among}
 use Rattle.sc_scenario.specs.declared.scenario.scenarios.Scenario.{Scenario}
 use Rattle.sc_node_table.specs.Definitions.{entered, NodeState, group_of_mail, pumped, ReplicaState, Place, Executed, childless, listed, name_of, next, set_at, mailed, leads, promise_row, voted, accepted_row}
-use Rattle.sc_law_groups.proofs.GroupProofs.Lemmas.{number_among}
 use Rattle.sc_law_walks.specs.Definitions.{GoesOn}
 use Rattle.sc_law_walks.proofs.Lemmas.{entered_next}
 use Rattle.sc_meaning.specs.sound.Definitions.{Player, player_table, births, as_nodes}
 use Rattle.sc_live_steps.specs.calm.Definitions.{players, Rows}
 use Rattle.sc_live_steps.specs.following.Definitions.{from_slot_of, next_by, Mark, Asks, Votes, Tells, Installs, Prepares, Promises, mark_of, Course, Progress, Sets, members_at, IsFit, Tellers, hint_by, AreHeeded, GoesBy, StepsBy, Stays, MayElect}
 use Rattle.sc_live_steps.proofs.FollowingProofs.Lemmas.{prepares_are_known, tables_elect, same_mark, hints_follow}
-use Rattle.sc_live_journals.specs.rows.Definitions.{view_at, mark_in, taken_mark, next_in, promise_in, progress_at, IsScene, IsOwnMail, IsOwnAsking, IsSeat, with_event, IsReplicasRow}
+use Rattle.sc_live_journals.specs.rows.Definitions.{view_at, mark_in, taken_mark, next_in, promise_in, progress_at, IsScene, IsSeat, with_event, IsReplicasRow}
 use Rattle.sc_live_journals.proofs.RowsProofs.RowMarks.{HasMark}
 use Rattle.sc_live_journals.proofs.GroupsProofs.JournalEvents.{asks_own}
-use Rattle.sc_live_journals.proofs.RowsProofs.Lemmas.{entered_name, ballots_own, apart_off, head, within, fit, known}
+use Rattle.sc_live_journals.proofs.RowsProofs.Lemmas.{entered_name, apart_off, head, within, fit, known}
 use Rattle.sc_live_journals.specs.groups.Definitions.{Ends, hint_in, hints_at, dated_at, IsWellLed, IsOfLog, AreWellBorn, HasOneLog, IsSentSo}
 use Rattle.sc_live_journals.proofs.GroupsProofs.Lemmas.{rows_dated, scene}
 use Rattle.sc_live_journals.specs.mail.Definitions.{JournalsKeepIdle}

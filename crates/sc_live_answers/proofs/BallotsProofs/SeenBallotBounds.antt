@@ -13,7 +13,7 @@ use Rattle.sc_law_groups.proofs.GroupProofs.Lemmas.{number_among}
 use Rattle.sc_law_walks.specs.Definitions.{GoesOn}
 use Rattle.sc_meaning.specs.sound.Definitions.{Player, player_table, births, as_nodes}
 use Rattle.sc_live_steps.specs.calm.Definitions.{players, Rows}
-use Rattle.sc_live_steps.specs.following.Definitions.{Mark, Asks, Tells, Prepares, mark_of, Course, Sets, IsKnown, IsFit, Tellers}
+use Rattle.sc_live_steps.specs.following.Definitions.{Asks, Tells, Prepares, mark_of, Course, Sets, IsKnown, IsFit, Tellers}
 use Rattle.sc_live_steps.proofs.FollowingProofs.Lemmas.{tables_elect, same_mark}
 use Rattle.sc_live_journals.specs.rows.Definitions.{view_at, taken_mark, promise_in, IsSeat, with_event}
 use Rattle.sc_live_journals.proofs.RowsProofs.Lemmas.{entered_name, rows_are, fit, known, view_others}

@@ -1,12 +1,12 @@
 -- A group is gone by its log as its replicas say.
-use Rattle.std.proofs.Common.{◌≡◌, ℕ, ◌+◌, ◌-◌, zero, suc, ◌⊎◌, inl, inr, ◌<◌, ◌≤◌, true, false, true≢false, List, [], ◌++◌, length, take, is_some, Some, None, refl, sym, ◌∙◌, ap, subst, arith}
+use Rattle.std.proofs.Common.{◌≡◌, ℕ, ◌+◌, ◌-◌, zero, suc, ◌⊎◌, inl, inr, ◌<◌, ◌≤◌, true, false, true≢false, List, [], length, take, is_some, Some, None, refl, sym, ◌∙◌, ap, subst, arith}
 use Rattle.std.proofs.lemmas.Bool.{cases_lt}
 use Rattle.sc_base.specs.Definitions.{Among, IsRoster, is_member}
-use Rattle.sc_node_table.specs.Values.{Ballot, Command, Base, Route, Mail, MailBody, Accepted as AcceptedMail, Learn, Seat}
+use Rattle.sc_node_table.specs.Values.{Ballot, Command, Base, Route, Mail, Accepted as AcceptedMail, Learn, Seat}
 use Rattle.sc_base.proofs.Lemmas.{same_name}
 use Rattle.sc_group_table.specs.machine.Definitions.{Group, group_of, state_after}
 use Rattle.sc_actor.specs.Definitions.{mails, numbered}
-use Rattle.sc_paxos_law.specs.Definitions.{IsLog, Accepted, IsLawfulHistory}
+use Rattle.sc_paxos_law.specs.Definitions.{Accepted, IsLawfulHistory}
 use Rattle.sc_scenario.specs.scenario.Definitions.{ValidScenariosAreBounded}
 use Rattle.sc_scenario.specs.declared.scenario.scenarios.Scenario.{Scenario}
 use Rattle.sc_node_table.specs.Definitions.{entered, NodeState, ReplicaState, next, mailed, accepted_row}
@@ -14,12 +14,12 @@ use Rattle.sc_meaning.specs.sound.Definitions.{decided_log, Ahead, Player, route
 use Rattle.sc_law_entries.specs.logs.Definitions.{Rows}
 use Rattle.sc_law_entries.specs.ring.Definitions.{Sources}
 use Rattle.sc_law_entries.specs.names.Definitions.{OtherNamesAreFree, TakenOrdersAreAllowed, TakenWishesAreAllowed, WishesAreAtPositions, owner_in}
-use Rattle.sc_law_groups.proofs.GroupProofs.Lemmas.{h_of, IsLearnt, Steps, rule, first, IsTrue, number_among}
-use Rattle.sc_law_groups.specs.whole.Definitions.{BeginsWell, section_op, OrdersAreAllowed, MayQueue, IsHeardAt, ValidScenariosBeginWell}
+use Rattle.sc_law_groups.proofs.GroupProofs.Lemmas.{h_of, IsLearnt, Steps, rule, first}
+use Rattle.sc_law_groups.specs.whole.Definitions.{BeginsWell, section_op, OrdersAreAllowed, ValidScenariosBeginWell}
 use Rattle.sc_law_groups.proofs.WholeProofs.Lemmas.{orders_allowed}
 use Rattle.sc_live_steps.specs.following.Definitions.{members_at}
 use Rattle.sc_live_journals.specs.logs.Definitions.{logged_sets, IsGroupOf, HasReplica}
-use Rattle.sc_live_journals.proofs.LogsProofs.Lemmas.{ArePrefixes, said_in, IsAlong, entered_along, part, roster, prefixes, sent_in, along, opens, flying}
+use Rattle.sc_live_journals.proofs.LogsProofs.Lemmas.{ArePrefixes, said_in, IsAlong, entered_along, part, roster, prefixes, along, opens, flying}
 use Rattle.sc_live_journals.specs.groups.Definitions.{RestsBy}
 use Rattle.sc_live_answers.specs.Definitions.{over_at, GroupsBeginStanding, EndsAreLogged, ChildrenAreBegun, MembersMoveOneWay, state_at, ReplicasRunLogs}
 use Rattle.sc_live_answers.proofs.GroupsProofs.GroupBeginnings.{begun_first, begun_stands}

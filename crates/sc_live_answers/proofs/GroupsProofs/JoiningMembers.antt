@@ -7,7 +7,7 @@ use Rattle.sc_node_table.specs.Definitions.{entered, executed_one, next_child, n
 use Rattle.sc_law_walks.specs.Definitions.{IfThere}
 use Rattle.sc_law_walks.proofs.Lemmas.{entered_next, idle_ready, idle_pump}
 use Rattle.sc_live_steps.specs.following.Definitions.{Course, Progress, Sets, members_at, IsLed, IsNext, IsOn, IsOff, LeadsPast, AreNext, LeadsBy, IsLeadOf, DecidesNext, ActsAlone}
-use Rattle.sc_live_steps.proofs.FollowingProofs.Lemmas.{ReadyAlone, alone_on, on_leads, on_next, entries_lead, ready_of, ready_leads, slot_out, none_taken, pumps_offer, vote_row, entered_core}
+use Rattle.sc_live_steps.proofs.FollowingProofs.Lemmas.{ReadyAlone, alone_on, on_leads, on_next, entries_lead, ready_of, ready_leads, slot_out, pumps_offer, vote_row, entered_core}
 use Rattle.sc_live_answers.proofs.BallotsProofs.PrepareSlots.{MovesLast}
 use Rattle.sc_live_answers.proofs.ReplicasProofs.Cores.{called_core}
 

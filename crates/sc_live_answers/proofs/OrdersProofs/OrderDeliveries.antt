@@ -1,11 +1,11 @@
 -- What a delivery finds while an order is under way.
-use Rattle.std.proofs.Common.{◌≡◌, ℕ, ◌+◌, ◌≤◌, ◌^◌, zero, suc, eqb, cond, true, false, Bool, List, [], ◌∷◌, ◌++◌, length, map, take, find, Option, Some, None, ◌⊎◌, inl, inr, refl, sym, ◌∙◌, ap, subst, arith, append-nil, append_assoc, length-append}
+use Rattle.std.proofs.Common.{◌≡◌, ℕ, ◌+◌, ◌≤◌, ◌^◌, eqb, true, false, Bool, List, [], ◌∷◌, ◌++◌, length, map, find, Option, Some, None, ◌⊎◌, inl, inr, refl, sym, ◌∙◌, ap, subst, arith, append-nil, append_assoc, length-append}
 use Rattle.std.specs.Prelude.{is_some, ◌||◌}
 use Rattle.std.proofs.lemmas.Bool.{eqb-true}
 use Rattle.sc_base.specs.Definitions.{Among, Each, same_draw}
 use Rattle.sc_base.proofs.Lemmas.{draw_is}
 use Rattle.sc_node_table.specs.Values.{Draw, Base, Route, OrderLine, Mail, MailBody, Request, Promise, Accepted, TxPrepare, TxVote, TxOutcome, TxElsewhere, TxWatch, TxWatched, Node, Client, Seat, Deliver}
-use Rattle.sc_actor.specs.Definitions.{mails, numbered, value, System, row_of, numbers_of, is_quiet}
+use Rattle.sc_actor.specs.Definitions.{mails, numbered, value, System, row_of, numbers_of}
 use Rattle.sc_live_orderly.specs.Definitions.{IsCalmRow, AreInTime}
 use Rattle.sc_live_orderly.proofs.Lemmas.{in_time_before, in_time_tidy, last_in_time, TakesFirst, takes_first, is_born-from}
 use Rattle.sc_node_table.specs.Definitions.{NodeState, replica_of, group_of_mail, ReplicaState, name_of}

@@ -1,5 +1,5 @@
 -- Before the first row of a valid scenario all is quiet.
-use Rattle.std.proofs.Common.{◌≡◌, ℕ, ◌+◌, Bool, true, false, true≢false, cond, List, [], ◌∷◌, ◌++◌, map, filter, replicate, Some, None, inl, inr, refl, sym, ◌∙◌, ap, subst, arith}
+use Rattle.std.proofs.Common.{◌≡◌, ℕ, Bool, true, false, true≢false, cond, List, [], ◌∷◌, ◌++◌, map, filter, replicate, Some, None, inl, inr, refl, sym, ◌∙◌, ap, subst, arith}
 use Rattle.std.proofs.lemmas.Bool.{cond_both, cond-true, eqb-true, eq-eqb}
 use Rattle.sc_base.specs.Definitions.{Among, Each, same_draw, is_member, least_of}
 use Rattle.sc_node_table.specs.Values.{Draw, Base, Core}
@@ -9,7 +9,7 @@ use Rattle.sc_words.proofs.PaxosProofs.Lemmas.{at_least_itself, Each-among, find
 use Rattle.sc_paxos_law.proofs.Lemmas.{from_map}
 use Rattle.sc_group_table.specs.machine.Definitions.{group_of}
 use Rattle.sc_node_table.specs.Definitions.{born_replicas, born_node, replica_of, is_node, ReplicaState, name_of, next, members, first_ballot, born_replica, slots_ahead}
-use Rattle.sc_scenario.specs.scenario.Definitions.{base_at, IsBounded, ValidScenariosAreBounded}
+use Rattle.sc_scenario.specs.scenario.Definitions.{IsBounded, ValidScenariosAreBounded}
 use Rattle.sc_scenario.specs.declared.scenario.scenarios.Asks.{Asks}
 use Rattle.sc_scenario.specs.declared.scenario.scenarios.Scenario.{Scenario}
 use Rattle.sc_meaning.specs.sound.Definitions.{route_of}

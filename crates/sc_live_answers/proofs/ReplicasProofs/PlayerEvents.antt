@@ -14,7 +14,7 @@ use Rattle.sc_live_steps.specs.calm.Definitions.{players, Rows}
 use Rattle.sc_live_steps.specs.following.Definitions.{mark_of, Sets, Tellers}
 use Rattle.sc_live_journals.specs.rows.Definitions.{view_at, mark_in, taken_mark, begun_course, TakesMail, HoldsReplica, IsSeat, with_event, IsReplicasRow, LeavesAlone, LeavesOrCreates}
 use Rattle.sc_live_journals.proofs.GroupsProofs.JournalEvents.{holds_of}
-use Rattle.sc_live_journals.proofs.RowsProofs.Lemmas.{others_idle, rows_replicas, view_was, Plays, Found, found_well, replay_well}
+use Rattle.sc_live_journals.proofs.RowsProofs.Lemmas.{others_idle, rows_replicas, view_was, Plays, replay_well}
 use Rattle.sc_live_journals.specs.groups.Definitions.{Ends, IsLogsState, AreWellBorn, Delivers, HasOneLog, IsSentSo}
 use Rattle.sc_live_answers.proofs.BallotsProofs.WellPlayers.{plays_of}
 

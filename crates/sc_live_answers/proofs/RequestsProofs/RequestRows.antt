@@ -1,8 +1,7 @@
 -- Each row of a line of requests finds what it needs.
-use Rattle.std.proofs.Common.{◌≡◌, ℕ, ◌-◌, ◌≤◌, eqb, List, ◌∷◌, ◌++◌, find, Some, inl, inr, refl, sym, ◌∙◌, ap, subst}
-use Rattle.std.specs.Prelude.{slice_get}
+use Rattle.std.proofs.Common.{◌≡◌, ℕ, ◌≤◌, eqb, ◌∷◌, ◌++◌, find, Some, inl, inr, refl, sym, ◌∙◌, ap, subst}
 use Rattle.sc_base.specs.Definitions.{Among, Each, client_actor}
-use Rattle.sc_node_table.specs.Values.{Op, Base, OrderLine, Mail, Node, Client, Seat, Event, Deliver, Go}
+use Rattle.sc_node_table.specs.Values.{Base, OrderLine, Mail, Node, Client, Seat, Event, Deliver, Go}
 use Rattle.sc_actor.specs.Definitions.{mails, numbered, value, row_of, has_started, waiting, kth}
 use Rattle.sc_client_table.specs.table.Definitions.{Client as ClientState}
 use Rattle.sc_scenario.specs.declared.scenario.scenarios.Asks.{Asks}
@@ -14,7 +13,6 @@ use Rattle.sc_live_orderly.proofs.Lemmas.{TakesFirst, takes_first, is_born-from}
 use Rattle.sc_live_steps.specs.calm.Definitions.{Chart, IsCalmFor, MayGoNow, FindsCalm, led_elsewhere}
 use Rattle.sc_live_plain.proofs.PlainProofs.BegunRequestCounts.{begun_right}
 use Rattle.sc_live_plain.specs.Definitions.{IsAskingNode, IsAskingClient, IsAsking, AreFarFromLast, IsLinkedSetting, IsCalmClient, Setting, IsSetting, IsCalmMail, IsBegun}
-use Rattle.sc_live_plain.proofs.PlainProofs.PlainSteps.{same_client}
 use Rattle.sc_live_plain.proofs.CalmProofs.RequestPhaseNodes as turns_of
 use Rattle.sc_live_plain.proofs.Lemmas.{IsStage, stage, Journal, of_player}
 use Rattle.sc_live_answers.specs.Definitions.{CountsAs, AreReached, AllAskLeaders, IsAnswerTo, AnswersAreHeardCalmly, ClientsGoCalmly, AnswersAreExpected, LinesAskLeaders, NodesMayPump, AreNear, RequestRowsFindCalm}

@@ -10,7 +10,7 @@ use Rattle.sc_base.proofs.Lemmas.{draw_is, same_name}
 use Rattle.sc_words.proofs.PaxosProofs.Lemmas.{Each-among}
 use Rattle.sc_client_table.specs.declared.lookup.ways.Way.{Way}
 use Rattle.sc_client_table.specs.lookup.Definitions.{far, new_way, KnownGroups, way_to, chosen, changed, preferring, starting, learnt_from_not_mine}
-use Rattle.sc_paxos_law.proofs.Lemmas.{from_map, Among-left, Among-right, Among-either}
+use Rattle.sc_paxos_law.proofs.Lemmas.{from_map, Among-right, Among-either}
 use Rattle.sc_live_plain.specs.Definitions.{FollowedBy, AreRoundRing, start_of, start_known, KnowsFirst, ClientsLearnInTurn, Frame}
 use Rattle.sc_live_plain.proofs.PlainProofs.PlainKnownGroups.{IsChosen, among_first, chosen_is, parts_of, take_prefix}
 use Rattle.sc_live_plain.proofs.RowsProofs.Lists.{map_among}

@@ -1,18 +1,14 @@
 -- What a vote makes of the flights, and of those that voted.
-use Rattle.std.proofs.Common.{◌≡◌, ℕ, zero, suc, ◌+◌, ◌*◌, ◌<◌, ◌≤◌, ◌||◌, eqb, Bool, true, false, cond, List, [], ◌∷◌, ◌++◌, length, map, count_by, Option, Some, None, inl, inr, refl, sym, ◌∙◌, ap, subst, arith}
+use Rattle.std.proofs.Common.{◌≡◌, ℕ, zero, suc, ◌+◌, ◌<◌, ◌≤◌, eqb, true, false, cond, List, [], ◌∷◌, length, map, Option, Some, None, inl, inr, refl, sym, ◌∙◌, ap, arith}
 use Rattle.std.specs.Prelude.{slice_get}
-use Rattle.std.proofs.lemmas.Bool.{cond_both, cond-true, cond-false, cases_Bool, eqb-true, eq-eqb, ne_eqb, lt-ltb, both_ways, or_cases, or_parts, or_left}
-use Rattle.sc_base.specs.Definitions.{Among, Each, votes_of, is_majority, is_member, with_member, IsRoster}
+use Rattle.std.proofs.lemmas.Bool.{cond_both, cond-true, cond-false, eqb-true, eq-eqb, ne_eqb, both_ways}
+use Rattle.sc_base.specs.Definitions.{Among, Each}
 use Rattle.sc_node_table.specs.Values.{Command, Flight}
-use Rattle.sc_base.proofs.Lemmas.{length_with as with_one}
-use Rattle.sc_words.specs.paxos.Definitions.{flight_at, without_flight, kept_voters, add_voter, voters_after, with_voters}
+use Rattle.sc_words.specs.paxos.Definitions.{flight_at, without_flight, with_voters}
 use Rattle.sc_node_table.specs.Definitions.{numbers_from}
-use Rattle.sc_paxos_law.proofs.Lemmas.{member-among}
 use Rattle.sc_live_plain.proofs.RowsProofs.SlotCounts.{one_yes, one_no, count-cons}
 use Rattle.sc_live_plain.proofs.LeadersProofs.LeadingReplicas.{flights_at}
 use Rattle.sc_live_plain.proofs.RowsProofs.Lists.{some_is}
-use Rattle.sc_live_steps.proofs.FollowingProofs.KeptVotes.{with_own}
-use Rattle.sc_live_steps.proofs.FollowingProofs.Lemmas.{with_kept}
 
 -- ---- the flights
 
