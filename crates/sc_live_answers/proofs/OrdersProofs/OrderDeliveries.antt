@@ -276,27 +276,24 @@ module _ (named_at : JournalMailFinds) (strays : StrayMailFinds) (for_node : Mai
 
     -- ---- what it needs
 
-    plain_at : (o : Option ReplicaState) → replica_of name node.replicas ≡ o → IsPlainAt o
-    plain_at o e = subst IsPlainAt e k.plain
-
     needs_some : (r : ReplicaState) → replica_of name node.replicas ≡ Some r → (b : MailBody) → mail.body ≡ b → NeedsBesides chart.ways r b
     needs_some r here (Request group client seq op) body = absurd (subst IsNoRequest body k.unasked)
-    needs_some r here (Promise group ballot reports) body = plain_at (Some r) here
+    needs_some r here (Promise group ballot reports) body = subst IsPlainAt here k.plain
     needs_some r here (Accepted group ballot slot) body = subst (MayCountAt slot) here (counts_here slot)
     needs_some r here (TxPrepare tx offer) body =
         let part : offer.part ≡ name = (let e : Some offer.part ≡ Some name = sym (ap group_of_mail body) ∙ of in cc) in
         let q = question_stage name tx offer.coord false offer.by mail.to now under.stage under.untouched.stands
         (errand_way (Question tx offer.coord false offer.by mail.to) (ap (errand_by mail.from mail.to) body ∙ ap (λ n. Some (n, Question tx offer.coord false offer.by mail.to)) part)) in
-        (plain_at (Some r) here, subst (λ n. Points chart.ways n r) (sym part) (question_points tx offer.coord false offer.by mail.to q r here), question_asks tx offer.coord false offer.by mail.to q ∙ ap (λ n. Some (n, false)) (sym part))
-    needs_some r here (TxVote tx coord part vote) body = plain_at (Some r) here
-    needs_some r here (TxOutcome tx part outcome) body = plain_at (Some r) here
+        (subst IsPlainAt here k.plain, subst (λ n. Points chart.ways n r) (sym part) (question_points tx offer.coord false offer.by mail.to q r here), question_asks tx offer.coord false offer.by mail.to q ∙ ap (λ n. Some (n, false)) (sym part))
+    needs_some r here (TxVote tx coord part vote) body = subst IsPlainAt here k.plain
+    needs_some r here (TxOutcome tx part outcome) body = subst IsPlainAt here k.plain
     needs_some r here (TxElsewhere tx coord hint) body = asks_there tx coord hint body r here
     needs_some r here (TxWatch tx watch) body =
         let part : watch.part ≡ name = (let e : Some watch.part ≡ Some name = sym (ap group_of_mail body) ∙ of in cc) in
         let q = question_stage name tx watch.coord true watch.by mail.to now under.stage under.untouched.stands
         (errand_way (Question tx watch.coord true watch.by mail.to) (ap (errand_by mail.from mail.to) body ∙ ap (λ n. Some (n, Question tx watch.coord true watch.by mail.to)) part)) in
-        (plain_at (Some r) here, subst (λ n. Points chart.ways n r) (sym part) (question_points tx watch.coord true watch.by mail.to q r here), question_asks tx watch.coord true watch.by mail.to q ∙ ap (λ n. Some (n, true)) (sym part))
-    needs_some r here (TxWatched tx coord part vote) body = plain_at (Some r) here
+        (subst IsPlainAt here k.plain, subst (λ n. Points chart.ways n r) (sym part) (question_points tx watch.coord true watch.by mail.to q r here), question_asks tx watch.coord true watch.by mail.to q ∙ ap (λ n. Some (n, true)) (sym part))
+    needs_some r here (TxWatched tx coord part vote) body = subst IsPlainAt here k.plain
     needs_some r here _ body = tt
 
     needs : NeedsAt chart.ways (replica_of name node.replicas) mail.body

@@ -15,7 +15,8 @@ use Rattle.sc_live_orderly.proofs.Lemmas.{is_born-from, seat_found}
 use Rattle.sc_paxos_law.proofs.Lemmas.{Among-right}
 use Rattle.sc_live_plain.specs.Definitions.{IsAsking, AreRequests, NobodyWaits, AreSeated, HaveAllReplies, LinesAreAnswered, Asks as AsksFor, Votes, mark, IsVoting, replica_at, votes_in, marks_at, IsLinkedSetting, IsCalmClient, Setting, IsSetting, Frame, IsBegun, IsWaiting}
 use Rattle.sc_live_plain.proofs.CalmProofs.RequestPhaseClients.{asking_row}
-use Rattle.sc_live_plain.proofs.CalmProofs.CalmWaitingRequests.{AreSought, sought_row}
+use Rattle.sc_live_plain.proofs.CalmProofs.CalmWaitingRequests.{sought_row}
+use Rattle.sc_live_plain.proofs.CalmProofs.SoughtRequests.{AreSought}
 use Rattle.sc_live_plain.proofs.PlainProofs.PlainBeginnings.{IsStage, stage}
 use Rattle.sc_live_plain.proofs.PlainProofs.PlainSteps.{node_born, node_number}
 use Rattle.sc_live_plain.proofs.RowsProofs.RowViews.{Journal, replica_is}

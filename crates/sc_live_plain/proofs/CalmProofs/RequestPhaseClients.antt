@@ -17,6 +17,7 @@ use Rattle.sc_meaning.specs.sound.Definitions.{Player, player_table, node_seat, 
 use Rattle.sc_live_orderly.specs.Definitions.{IsTidy, IsOrderly, IsInOrder, rest, mail_for, taken}
 use Rattle.sc_live_orderly.proofs.Lemmas.{TakesFirst, takes_first, is_born-from, rest-row}
 use Rattle.sc_live_plain.specs.Definitions.{IsAskingClient, IsAsking, AreFarFromLast, RequestsGoOn, Mark, Other, mark, marks_for, marks_at, IsOther, IsTaken, IsLinkedSetting, IsCalmClient, BeginsBy, StaysCalm, Setting, IsSetting, IsCalmMail, begun_ones, waiting_ones, begun_of, IsBegun}
+use Rattle.sc_live_plain.proofs.PlainProofs.PlainClients.{unasked}
 use Rattle.sc_live_plain.proofs.CalmProofs.MoreCalmRequests.{aside_mark, takes_only, go_only}
 use Rattle.sc_live_plain.proofs.CalmProofs.RequestPhaseNodes as turns_of
 use Rattle.sc_live_plain.proofs.PlainProofs.MorePlainRequests.{IsMore}
@@ -28,7 +29,7 @@ use Rattle.sc_live_plain.proofs.PlainProofs.PlainBeginnings.{IsStage, stage}
 use Rattle.sc_live_plain.proofs.PlainProofs.PlainSteps.{client_number, value_others, started_still, begun_more, same_client, node_away}
 use Rattle.sc_live_plain.proofs.RowsProofs.RowViews.{Journal, replica_others, replica_none}
 use Rattle.sc_live_plain.proofs.PlainProofs.PlainJournals.{of_player}
-use Rattle.sc_live_plain.proofs.CalmProofs.CalmClients.{clients_calm, unasked, Seeks, Ignores, takes_calm, go_calm}
+use Rattle.sc_live_plain.proofs.CalmProofs.CalmClients.{clients_calm, Seeks, Ignores, takes_calm, go_calm}
 
 module _ (words : ℕ → ℕ → ℕ × ℕ) (scenario : Scenario) (begins : IsStage scenario) (set : Setting) (is : IsSetting set) (linked : IsLinkedSetting set) (rows : Journal) (t : IsTidy rows) (j : IsAsking words scenario set begins.first rows) where
   abbrev sys : System Player Mail OrderLine
@@ -145,7 +146,7 @@ module _ (words : ℕ → ℕ → ℕ × ℕ) (scenario : Scenario) (begins : Is
 
       pub go_more : begun_ones c.client ≤ begun_ones (table c.client GoInput).0
       go_more =
-          let none = unasked set asks c.client fresh.state in
+          let none = unasked c.client fresh.state in
           let waits = ap waiting_ones none.0 in
           let replies = ap length none.1 in
           omega (arith, waits, replies)

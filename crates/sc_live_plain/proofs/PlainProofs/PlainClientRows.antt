@@ -192,7 +192,7 @@ module _ (words : ℕ → ℕ → ℕ × ℕ) (scenario : Scenario) (stage : IsS
 
     pub go_more : begun_ones c.client ≤ begun_ones (table c.client GoInput).0
     go_more =
-        let none = unasked (frames_of scenario) round asks c.client fresh.state in
+        let none = unasked c.client fresh.state in
         let waits = ap waiting_ones none.0 in
         let replies = ap length none.1 in
         omega (arith, waits, replies)

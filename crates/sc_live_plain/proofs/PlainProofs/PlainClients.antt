@@ -43,6 +43,11 @@ pub record DidIgnore (before : Client) (mail : Mail) (after : ClientStep) : Type
   pub no_reply : (seq : ℕ) → before.waiting ≡ Some seq → (group : Draw) (reply : Reply) → mail.body ≡ Answer group seq (Value reply) → ⊥
   pub not_sent : (seq target : ℕ) (group : Draw) → before.waiting ≡ Some seq → before.asked ≡ Some (group, target) → (arc : Arc) (succ : Link) → mail.from ≡ target → mail.body ≡ Answer group seq (NotMine arc succ) → ⊥
 
+-- a client that has not started has asked nothing
+pub unasked : (client : Client) → IsResting false client ⊎ ((false ≡ true) × IsWaiting client) → (client.waiting ≡ None) × (client.replies ≡ [])
+unasked client (inl rests) = elim (rests.replies) [ inl is ↦ (rests.waits, is.1) | inr is ↦ (let bad : false ≡ true = is.0 in cc) ]
+unasked client (inr is) = (let bad : false ≡ true = is.0 in cc)
+
 module _ (frames : List Frame) (round : IsRound frames) (asks : Asks) where
   abbrev groups : ℕ
   groups = length frames
@@ -366,11 +371,6 @@ module _ (frames : List Frame) (round : IsRound frames) (asks : Asks) where
     pub row : ClientRow begun true after
     pub owed : client_owes groups after.0 + sum_by mail_owes after.1 ≤ client_owes groups client
     pub response : DidAsk after ⊎ DidEnd after
-
-  -- a client that has not started has asked nothing
-  pub unasked : (client : Client) → IsResting false client ⊎ ((false ≡ true) × IsWaiting client) → (client.waiting ≡ None) × (client.replies ≡ [])
-  unasked client (inl rests) = elim (rests.replies) [ inl is ↦ (rests.waits, is.1) | inr is ↦ (let bad : false ≡ true = is.0 in cc) ]
-  unasked client (inr is) = (let bad : false ≡ true = is.0 in cc)
 
   pub go_row : (begun' : Requests) (client : Client) → IsPlainClient frames asks false client
       → ((n : ℕ) (op : Op) → 1 ≤ n → slice_get client.requests (n - 1) ≡ Some op → n ≤ begun_ones (table client Go).0 → begun' client.me n op) → Goes begun' client (table client Go)
