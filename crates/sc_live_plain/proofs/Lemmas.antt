@@ -31,14 +31,17 @@ pub use Rattle.sc_live_plain.proofs.CalmProofs.QuietFrames.{quiet_stand_plain as
 pub use Rattle.sc_live_plain.proofs.CalmProofs.KnownGroups.{learn_in_turn as clients_learn_in_turn, name_in, id_of, learn_in_turn, gap, near_behind, set_names, started_names}
 pub use Rattle.sc_live_plain.proofs.CalmProofs.CalmRows.{may_pump, serves_all, runs, follows}
 pub use Rattle.sc_live_plain.proofs.CalmProofs.CalmNodes.{nodes_calm as nodes_stay_calm, stays_by, Turns, step_is, StepsAside, aside_step, turns, aside_is, aside_answer}
-pub use Rattle.sc_live_plain.proofs.CalmProofs.CalmClients.{clients_calm as clients_stay_calm, unasked, waiting_home}
+pub use Rattle.sc_live_plain.proofs.CalmProofs.CalmClients.{clients_calm as clients_stay_calm, waiting_home, CalmSays, calm_says}
+pub use Rattle.sc_live_plain.proofs.PlainProofs.PlainClients.{unasked}
 pub use Rattle.sc_live_plain.proofs.CalmProofs.MoreCalmRequests.{aside_mark, takes_only, go_only}
 pub use Rattle.sc_live_plain.proofs.CalmProofs.RequestPhaseClients.{asking_row}
 pub use Rattle.sc_live_plain.proofs.CalmProofs.RequestsAfterQuiet.{quiet_ask}
-pub use Rattle.sc_live_plain.proofs.CalmProofs.CalmWaitingRequests.{AreSought, IsSought, sought_row}
+pub use Rattle.sc_live_plain.proofs.CalmProofs.CalmWaitingRequests.{sought_row}
+pub use Rattle.sc_live_plain.proofs.CalmProofs.SoughtRequests.{AreSought, IsSought}
 pub use Rattle.sc_live_plain.proofs.CalmProofs.RequestLines.{lines_answered, asked_node}
-pub use Rattle.sc_live_plain.proofs.LeadersProofs.Flights.{numbered_get, numbered_past, only_flight, vote_kept, voted_count}
+pub use Rattle.sc_live_plain.proofs.LeadersProofs.Flights.{numbered_get, numbered_past, only_flight, voted_count}
 pub use Rattle.sc_live_plain.proofs.Laws.{plain_lines_end_quiet, requests_go_on, quiet_journals_ask}
 pub use Rattle.sc_live_plain.proofs.BudgetProofs.LastLineEnds.{all_plain, last_lines_quiet}
 pub use Rattle.sc_live_plain.proofs.BudgetProofs.QuietLineEnds.{lines_plain}
 pub use Rattle.sc_live_plain.proofs.BudgetProofs.LightJournals.{is_node_born}
+pub use Rattle.sc_live_steps.proofs.FollowingProofs.KeptVotes.{vote_kept}

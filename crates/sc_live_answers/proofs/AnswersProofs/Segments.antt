@@ -130,7 +130,7 @@ module _ (s : System Player Mail OrderLine) where
             ap (take (length clear.before)) clear.rows_are ∙ (take-append-le (length clear.before) clear.before clear.after (omega arith) ∙ take_all (length clear.before) clear.before (omega arith)) in
             let least = quiet_longest rows (length clear.before) (length rows) n_low (ap (is_quiet s) prefix_is ∙ clear.quiet) in
             let size = length-take (quiet_upto s rows (length rows)) rows in
-            let most = upto_low s rows row (length rows) in
+            let most = upto_low s rows (length rows) in
             let same = ap length prefix in
             let low : length clear.before ≤ length quiet = omega (arith, least, size, most, same) in
             let untold = stands_behind (λ (r : Row Mail OrderLine). is_told r.event ≡ false) clear.before clear.after quiet order.first order.more (sym clear.rows_are ∙ (e ∙ ap (λ b. quiet ++ b) order.behind_are)) low clear.untold in

@@ -31,6 +31,14 @@ use Rattle.std.proofs.lemmas.Option.{same_Some}
 pub some_none : {X : Type 0} (x : X) (o : Option X) → o ≡ Some x → o ≡ None → ⊥
 some_none x o e f = (let bad : Some x ≡ None = sym e ∙ f in cc)
 
+-- a mail that names no group but this one
+abbrev pub NamesAlone : Base → Mail → Type 0
+NamesAlone base mail = (g : Draw) → group_of_mail mail.body ≡ Some g → g ≡ base.core.id
+
+-- a mail whose mark for the group is fit for the replica that takes it
+abbrev pub FitsMail : Base → Mail → ReplicaState → Type 0
+FitsMail base mail r = (mark : Mark) → mark_of base.core.id mail.from mail.body ≡ Some mark → IsFit (next r) r.acceptor.promised mark
+
 module _ (words : ℕ → ℕ → ℕ × ℕ) (at : Sets) (over : Ends) (by : Tellers) (scenario : Scenario) (rows : Rows) (seat : Seat Player) (event : Event OrderLine) (base : Base) (course : Course) (idle : JournalsKeepIdle) (wb : AreWellBorn (births as_nodes scenario))
     (one : HasOneLog at over by (births as_nodes scenario) (with_event rows seat event) base) (so : IsSentSo (births as_nodes scenario) (with_event rows seat event) base) (timely : AreInTime (players words (births as_nodes scenario)) (with_event rows seat event))
     (born : IsSeat (births as_nodes scenario) seat) (calm : IsCalmEvent (players words (births as_nodes scenario)) rows seat.who event) (was : IsWellLed at over by words (births as_nodes scenario) rows base course) where
@@ -89,7 +97,7 @@ module _ (words : ℕ → ℕ → ℕ × ℕ) (at : Sets) (over : Ends) (by : Te
     view = t.row_.was
 
     -- its body, with the group's name
-    pub own_name : (g : Draw) → group_of_mail mail.body ≡ Some g → g ≡ base.core.id
+    pub own_name : NamesAlone base mail
     own_name g e = same_Some g name (sym e ∙ t.group)
 
     pub marked : (mark : Mark) → mark_of base.core.id mail.from mail.body ≡ Some mark → taken_mark name (mails rows) event ≡ Some mark

@@ -8,22 +8,22 @@ use Rattle.sc_actor.specs.Definitions.{mails, row_of}
 use Rattle.sc_live_orderly.specs.Definitions.{IsCalmEvent, AreInTime}
 use Rattle.sc_live_orderly.proofs.Lemmas.{in_time_before}
 use Rattle.sc_words.specs.paxos.Definitions.{IsAtLeast, promise_counted}
-use Rattle.sc_words.proofs.PaxosProofs.Lemmas.{Each-among}
 use Rattle.sc_scenario.specs.declared.scenario.scenarios.Scenario.{Scenario}
 use Rattle.sc_node_table.specs.Definitions.{entered, NodeState, group_of_mail, pumped, ReplicaState, Place, Executed, childless, listed, name_of, next, set_at, mailed, leads, promise_row, voted, accepted_row}
-use Rattle.sc_law_groups.proofs.GroupProofs.Lemmas.{number_among}
 use Rattle.sc_law_walks.specs.Definitions.{GoesOn}
 use Rattle.sc_law_walks.proofs.Lemmas.{entered_next}
 use Rattle.sc_meaning.specs.sound.Definitions.{Player, player_table, births, as_nodes}
 use Rattle.sc_live_steps.specs.calm.Definitions.{players, Rows}
 use Rattle.sc_live_steps.specs.following.Definitions.{from_slot_of, next_by, Mark, Asks, Votes, Tells, Installs, Prepares, Promises, mark_of, Course, Progress, Sets, members_at, IsFit, Tellers, hint_by, AreHeeded, GoesBy, StepsBy, Stays, MayElect}
 use Rattle.sc_live_steps.proofs.FollowingProofs.Lemmas.{prepares_are_known, tables_elect, same_mark, hints_follow}
-use Rattle.sc_live_journals.specs.rows.Definitions.{view_at, mark_in, taken_mark, next_in, promise_in, progress_at, IsScene, IsOwnMail, IsOwnAsking, IsSeat, with_event, IsReplicasRow}
-use Rattle.sc_live_journals.proofs.RowsProofs.Lemmas.{entered_name, ballots_own, apart_off, head, within, fit, known}
+use Rattle.sc_live_journals.specs.rows.Definitions.{view_at, mark_in, taken_mark, next_in, promise_in, progress_at, IsScene, IsSeat, with_event, IsReplicasRow}
+use Rattle.sc_live_journals.proofs.RowsProofs.RowMarks.{HasMark}
+use Rattle.sc_live_journals.proofs.GroupsProofs.JournalEvents.{asks_own}
+use Rattle.sc_live_journals.proofs.RowsProofs.Lemmas.{entered_name, apart_off, head, within, fit, known}
 use Rattle.sc_live_journals.specs.groups.Definitions.{Ends, hint_in, hints_at, dated_at, IsWellLed, IsOfLog, AreWellBorn, HasOneLog, IsSentSo}
 use Rattle.sc_live_journals.proofs.GroupsProofs.Lemmas.{rows_dated, scene}
 use Rattle.sc_live_journals.specs.mail.Definitions.{JournalsKeepIdle}
-use Rattle.sc_live_answers.proofs.BallotsProofs.PrepareSlotRows.{kept_of, turn, s, named_is, own_name, marked, dated_is, most, goes}
+use Rattle.sc_live_answers.proofs.BallotsProofs.PrepareSlotRows.{NamesAlone, FitsMail, kept_of, turn, s, named_is, own_name, marked, dated_is, most, goes}
 use Rattle.sc_live_answers.proofs.BallotsProofs.GreatestBallots.{stays_or_may, entered_top}
 use Rattle.sc_live_answers.proofs.ReplicasProofs.PlayerEvents.{TurnsMail, IsTurn, TurnRests, TurnCreates, TurnTakes, TurnMakes, TurnTold}
 use Rattle.std.proofs.lemmas.Option.{same_Some, none-some}
@@ -60,23 +60,18 @@ module _ (words : ℕ → ℕ → ℕ × ℕ) (at : Sets) (over : Ends) (by : Te
     pub own : name_of r ≡ base.core.id
     own = named_is words at over by scenario rows seat event base course idle wb one so timely born calm was number mail node r t
 
-    named_as : (g : Draw) → group_of_mail mail.body ≡ Some g → g ≡ base.core.id
+    named_as : NamesAlone base mail
     named_as g e = own_name words at over by scenario rows seat event base course idle wb one so timely born calm was number mail node r t g e
 
     mark_is : (mark : Mark) → mark_of base.core.id mail.from mail.body ≡ Some mark → taken_mark base.core.id (mails rows) event ≡ Some mark
     mark_is mark e = marked words at over by scenario rows seat event base course idle wb one so timely born calm was number mail node r t mark e
 
-    fits : (mark : Mark) → mark_of base.core.id mail.from mail.body ≡ Some mark → IsFit (next r) r.acceptor.promised mark
+    fits : FitsMail base mail r
     fits mark is = fit at words all rows seat node base course the_scene number mail t.takes r t.has mark is (mailed mail.from mail.body (r, [])).0 t.row_
-
-    -- each asks in a ballot of its own
-    asks_own : (b : MailBody) → mail.body ≡ b → IsOwnAsking mail.from b
-    asks_own b e = subst (IsOwnAsking mail.from) e
-        (Each-among IsOwnMail (mails rows) mail (ballots_own words all rows wb.alone (in_time_before (players words all) rows (row_of player_table seat rows event) timely)) (number_among (mails rows) number mail t.takes.sent))
 
     -- an entry that it learns
     module _ (slot : ℕ) (command : Command) (body : mail.body ≡ Learn base.core.id slot command) where
-      abbrev is_told : mark_of base.core.id mail.from mail.body ≡ Some (Tells slot)
+      abbrev is_told : HasMark base mail (Tells slot)
       is_told = ap (mark_of name mail.from) body ∙ same_mark name (Tells slot)
 
       pub told_fit : IsFit (next r) r.acceptor.promised (Tells slot)
@@ -141,7 +136,7 @@ module _ (words : ℕ → ℕ → ℕ × ℕ) (at : Sets) (over : Ends) (by : Te
           let is : mark_of name mail.from mail.body ≡ Some (Asks ballot slot) = ap (mark_of name mail.from) body ∙ same_mark name (Asks ballot slot) in
           let f : IsFit (next r) r.acceptor.promised (Asks ballot slot) = fits (Asks ballot slot) is in
           let on : GoesOn ballot r = goes words at over by scenario rows seat event base course idle wb one so timely born calm was number mail node r t ballot (subst (IsAtLeast course.ballot) (sym f.2) (most words at over by scenario rows seat event base course idle wb one so timely born calm was number mail node r t)) in
-          as_mark (Asks ballot slot) is (inl (ap (λ n. (mailed n mail.body (r, [])).0.0.hint) (asks_own (Accept g ballot slot command) e)
+          as_mark (Asks ballot slot) is (inl (ap (λ n. (mailed n mail.body (r, [])).0.0.hint) (asks_own words all rows wb.alone (in_time_before (players words all) rows (row_of player_table seat rows event) timely) number mail t.takes.sent (Accept g ballot slot command) e)
           ∙ (ap (λ b. (mailed ballot.node b (r, [])).0.0.hint) (body ∙ ap (λ n. Accept n ballot slot command) (sym own)) ∙ hints_follow.accept at by ballot slot command r f on t.has.well.2 off)))
       hinted_by (Prepare g ballot from_slot) e =
           let body : mail.body ≡ Prepare name ballot from_slot = e ∙ ap (λ n. Prepare n ballot from_slot) (named_as g (ap group_of_mail e)) in
@@ -151,7 +146,7 @@ module _ (words : ℕ → ℕ → ℕ × ℕ) (at : Sets) (over : Ends) (by : Te
           let dated = rows_dated words all rows (row_of player_table seat rows event) base course course timely in
           let dated_one = dated_is words at over by scenario rows seat event base course idle wb one so timely born calm was number mail node r t (Prepares ballot) is ∙ ap (λ b. Some (Prepares ballot, from_slot_of b)) body in
           let low = prepares_are_known.above now (dated_at (players words all) rows name) seat.who ballot from_slot dated.left r was.low (dated.takes ∙ ap (λ o. listed o ++ dated.left) dated_one) (sym (ap (next_in base seat.who) t.row_.was)) t.has.well.2 in
-          as_mark (Prepares ballot) is (inl (ap (λ n. (mailed n mail.body (r, [])).0.0.hint) (asks_own (Prepare g ballot from_slot) e)
+          as_mark (Prepares ballot) is (inl (ap (λ n. (mailed n mail.body (r, [])).0.0.hint) (asks_own words all rows wb.alone (in_time_before (players words all) rows (row_of player_table seat rows event) timely) number mail t.takes.sent (Prepare g ballot from_slot) e)
           ∙ (ap (λ b. (mailed ballot.node b (r, [])).0.0.hint) (body ∙ ap (λ n. Prepare n ballot from_slot) (sym own)) ∙ hints_follow.prepare at by ballot from_slot r f on low off)))
       hinted_by (Learn g slot command) e =
           let body : mail.body ≡ Learn name slot command = e ∙ ap (λ n. Learn n slot command) (named_as g (ap group_of_mail e)) in

@@ -5,6 +5,7 @@ use Rattle.sc_base.specs.Definitions.{Each, is_member}
 use Rattle.sc_node_table.specs.Values.{Ballot, Seat, Event, Command, Noop, Call, Base, OrderLine, Flight}
 use Rattle.sc_actor.specs.Definitions.{row_of, mails}
 use Rattle.sc_node_table.specs.Definitions.{is_act, ReplicaState, flying, listed, next, at_slot}
+use Rattle.sc_live_orderly.proofs.Lemmas.{Each-behind}
 use Rattle.sc_live_orderly.specs.Definitions.{AreInTime}
 use Rattle.sc_words.specs.paxos.Definitions.{flight_at}
 use Rattle.sc_words.proofs.PaxosProofs.Lemmas.{Each-among, Each-append, Each-weaker, find_found}
@@ -23,10 +24,6 @@ use Rattle.sc_live_answers.specs.Definitions.{IsOrdersAlone, HasNoRounds, IsNoRo
 each_left : {X : Type 0} (P : X → Type 0) (xs ys : List X) → Each P (xs ++ ys) → Each P xs
 each_left P [] ys e = tt
 each_left P (x ∷ xs) ys e = (e.0, each_left P xs ys e.1)
-
-each_right : {X : Type 0} (P : X → Type 0) (xs ys : List X) → Each P (xs ++ ys) → Each P ys
-each_right P [] ys e = e
-each_right P (x ∷ xs) ys e = each_right P xs ys e.1
 
 told_quiet : (at : Sets) (course : Course) (slot who : ℕ) → (is_member (members_at at (slot + 1)) who ≡ true → is_member (members_at at slot) who ≡ true) → Each IsNoRound (reported_of at course slot who)
 told_quiet at course slot who k =
@@ -48,7 +45,7 @@ row_quiet : (now after : Progress) (node : ℕ) (taken : Option Mark) (sent mark
 row_quiet now after node taken sent marks marks_after row had sends who = elim (cases_eq who node) [
   | inl is ↦ subst (λ n. Each IsNoRound (marks_after n)) (sym is)
       (subst (Each IsNoRound) (sym row.own)
-      (Each-append IsNoRound row.left (sent node) (each_right IsNoRound (listed taken) row.left (subst (Each IsNoRound) row.takes (had node))) (sends node)))
+      (Each-append IsNoRound row.left (sent node) (Each-behind IsNoRound (listed taken) row.left (subst (Each IsNoRound) row.takes (had node))) (sends node)))
   | inr ne ↦ subst (Each IsNoRound) (sym (row.others who ne)) (Each-append IsNoRound (marks who) (sent who) (had who) (sends who))
 ]
 

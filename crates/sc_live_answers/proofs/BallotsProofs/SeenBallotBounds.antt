@@ -13,7 +13,7 @@ use Rattle.sc_law_groups.proofs.GroupProofs.Lemmas.{number_among}
 use Rattle.sc_law_walks.specs.Definitions.{GoesOn}
 use Rattle.sc_meaning.specs.sound.Definitions.{Player, player_table, births, as_nodes}
 use Rattle.sc_live_steps.specs.calm.Definitions.{players, Rows}
-use Rattle.sc_live_steps.specs.following.Definitions.{Mark, Asks, Tells, Prepares, mark_of, Course, Sets, IsKnown, IsFit, Tellers}
+use Rattle.sc_live_steps.specs.following.Definitions.{Asks, Tells, Prepares, mark_of, Course, Sets, IsKnown, IsFit, Tellers}
 use Rattle.sc_live_steps.proofs.FollowingProofs.Lemmas.{tables_elect, same_mark}
 use Rattle.sc_live_journals.specs.rows.Definitions.{view_at, taken_mark, promise_in, IsSeat, with_event}
 use Rattle.sc_live_journals.proofs.RowsProofs.Lemmas.{entered_name, rows_are, fit, known, view_others}
@@ -22,7 +22,7 @@ use Rattle.sc_live_journals.proofs.GroupsProofs.Lemmas.{replicas_kept, scenarios
 use Rattle.sc_live_journals.specs.mail.Definitions.{JournalsKeepIdle}
 use Rattle.sc_live_answers.specs.Definitions.{IsAskedOn, IsSentOn, SaysWell}
 use Rattle.sc_live_answers.proofs.BallotsProofs.AcceptedReports.{IsPlainMail, StandsAt, asked_low, polled_stands, nacked_low, nacked_stands}
-use Rattle.sc_live_answers.proofs.BallotsProofs.PrepareSlotRows.{kept_of, turn, s, named_is, own_name, marked, most, goes, leader_moves, some_none}
+use Rattle.sc_live_answers.proofs.BallotsProofs.PrepareSlotRows.{NamesAlone, FitsMail, kept_of, turn, s, named_is, own_name, marked, most, goes, leader_moves, some_none}
 use Rattle.sc_live_answers.proofs.BallotsProofs.Ballots.{All_, mail_sees, order_sees}
 use Rattle.sc_live_answers.proofs.BallotsProofs.GreatestBallots.{IsIdleMail, mail_idly, order_idly, told_idly, installed_keeps, made_keeps, stays_or_may, entered_top}
 use Rattle.sc_live_answers.proofs.ReplicasProofs.PlayerEvents.{TurnsMail, IsTurn, TurnRests, TurnCreates, TurnTakes, TurnMakes, TurnTold}
@@ -98,13 +98,10 @@ module _ (words : ℕ → ℕ → ℕ × ℕ) (at : Sets) (over : Ends) (by : Te
     viewed : view_at all (with_event rows seat event) base.core.id seat.who ≡ Some (mailed mail.from mail.body (r, [])).0.0
     viewed = ap (λ e. view_at all (with_event rows seat e) name seat.who) t.event_is ∙ t.row_.is
 
-    named_as : (g : Draw) → group_of_mail mail.body ≡ Some g → g ≡ base.core.id
+    named_as : NamesAlone base mail
     named_as g e = own_name words at over by scenario rows seat event base course idle wb one so timely born calm was number mail node r t g e
 
-    goes_on_ : (ballot : Ballot) → IsAtLeast course.ballot ballot → GoesOn ballot r
-    goes_on_ ballot least = goes words at over by scenario rows seat event base course idle wb one so timely born calm was number mail node r t ballot least
-
-    fits : (mark : Mark) → mark_of base.core.id mail.from mail.body ≡ Some mark → IsFit (next r) r.acceptor.promised mark
+    fits : FitsMail base mail r
     fits mark is =
         fit at words all rows seat node base course (scene at over by words all rows seat node base course (s words at over by scenario rows seat event base course idle wb one so timely born calm was number mail node r t)) number mail t.takes r t.has mark is
         (mailed mail.from mail.body (r, [])).0 t.row_
@@ -148,11 +145,11 @@ module _ (words : ℕ → ℕ → ℕ × ℕ) (at : Sets) (over : Ends) (by : Te
         let f : IsFit (next r) r.acceptor.promised (Asks ballot slot) = fits (Asks ballot slot) (ap (mark_of name mail.from) (e ∙ ap (λ n. Accept n ballot slot command) (named_as g (ap group_of_mail e))) ∙ same_mark name (Asks ballot slot)) in
         let low : below r.top ballot ≡ false = subst (IsAtLeast r.top) (sym f.2) (topped scenario rows base seat.who r t.row_.was).1 in
         let least = subst (IsAtLeast course.ballot) (sym f.2) (most words at over by scenario rows seat event base course idle wb one so timely born calm was number mail node r t) in
-        ShowsNone (same_least r.top after.top (ap (λ b. (mailed mail.from b (r, [])).0.0.top) e ∙ (asked_low All_ (λ x. x ≡ r.top) mail.from g ballot slot command r (goes_on_ ballot least) low tt (stands (λ x. x ≡ r.top) refl)).1))
+        ShowsNone (same_least r.top after.top (ap (λ b. (mailed mail.from b (r, [])).0.0.top) e ∙ (asked_low All_ (λ x. x ≡ r.top) mail.from g ballot slot command r (goes words at over by scenario rows seat event base course idle wb one so timely born calm was number mail node r t ballot least) low tt (stands (λ x. x ≡ r.top) refl)).1))
     shows (Prepare g ballot from_slot) e =
         let is : mark_of name mail.from mail.body ≡ Some (Prepares ballot) = ap (mark_of name mail.from) (e ∙ ap (λ n. Prepare n ballot from_slot) (named_as g (ap group_of_mail e))) ∙ same_mark name (Prepares ballot) in
         let known = known_prepare ballot is in
-        let either = (polled_stands All_ (λ x. (x ≡ r.top) ⊎ (x ≡ ballot)) mail.from g ballot from_slot r (goes_on_ ballot known) (inr refl) (stands (λ x. (x ≡ r.top) ⊎ (x ≡ ballot)) (inl refl))).1 in
+        let either = (polled_stands All_ (λ x. (x ≡ r.top) ⊎ (x ≡ ballot)) mail.from g ballot from_slot r (goes words at over by scenario rows seat event base course idle wb one so timely born calm was number mail node r t ballot known) (inr refl) (stands (λ x. (x ≡ r.top) ⊎ (x ≡ ballot)) (inl refl))).1 in
         elim either [
           | inl same ↦ ShowsNone (same_least r.top after.top (ap (λ b. (mailed mail.from b (r, [])).0.0.top) e ∙ same))
           | inr new ↦ ShowsAsked ballot (marked words at over by scenario rows seat event base course idle wb one so timely born calm was number mail node r t (Prepares ballot) is) (ap (λ b. (mailed mail.from b (r, [])).0.0.top) e ∙ new)

@@ -1,7 +1,7 @@
 -- Each child that a node makes by a mail is a group of the journal, as it began.
 use Rattle.std.proofs.Common.{◌≡◌, ℕ, ◌≤◌, eqb, true, List, [], ◌∷◌, ◌++◌, length, map, drop, Option, Some, None, inl, inr, refl, sym, ◌∙◌, ap, subst, arith}
 use Rattle.sc_base.specs.Definitions.{Among, Each, same_draw, is_member}
-use Rattle.sc_node_table.specs.Values.{Draw, Command, Base, Route, Mail, MailBody, Accepted as AcceptedMail, Learn, Node, Client, Seat}
+use Rattle.sc_node_table.specs.Values.{Draw, Command, Base, Route, Mail, MailBody, Accepted as AcceptedMail, Learn, Node, Seat}
 use Rattle.sc_base.proofs.Lemmas.{same_name, draw_is}
 use Rattle.sc_actor.specs.Definitions.{mails, numbered, value}
 use Rattle.sc_group_table.specs.machine.Definitions.{group_of, state_after}
@@ -19,7 +19,7 @@ use Rattle.sc_law_groups.proofs.GroupProofs.Lemmas.{first_of, h_of, held, IsOneO
 use Rattle.sc_law_groups.specs.whole.Definitions.{BeginsWell, OrdersAreAllowed, stories_at, MayQueue, IsHeardAt, PartiesAreApart, MergesFit}
 use Rattle.sc_law_groups.proofs.WholeProofs.Lemmas.{parties_are_apart, merges_fit, goes_on_from, speaks, members_stay_rosters, Holds}
 use Rattle.sc_live_journals.specs.rows.Definitions.{IsSeat, made_children, AreAsBegun}
-use Rattle.sc_live_journals.proofs.LogsProofs.Lemmas.{whole, prefix}
+use Rattle.sc_live_journals.proofs.LogsProofs.Lemmas.{no_client, one_node, whole, prefix}
 pub use Rattle.sc_live_journals.proofs.LogsProofs.LoggedChildren.{child_in}
 
 -- a replica's part of a row begins
@@ -115,14 +115,8 @@ module _ (sources : Sources) (ahead : Ahead) (words : ℕ → ℕ → ℕ × ℕ
           | inr a ↦ (
               let at = from_map (client_seat route) scenario.clients seat a in
               let client = then_.kept.clients at.0 at.1 in
-              absurd (no_client client.client (sym client.value_is ∙ ap (λ (s : Seat Player). value player_table s rows) at.2 ∙ is)))
+              absurd (no_client client.client node (sym client.value_is ∙ ap (λ (s : Seat Player). value player_table s rows) at.2 ∙ is)))
         ]
-      where
-        no_client : (client : _) → ◌≡◌ {A = Player} (Client client) (Node node) → ⊥
-        no_client client e = cc
-
-    one_node : (other : NodeState) → ◌≡◌ {A = Player} (Node other) (Node node) → other ≡ node
-    one_node other e = cc
 
     pub children_as_begun : (place : ℕ) (mail : Mail) (group : Draw) → numbered (mails rows) place ≡ Some mail → group_of_mail mail.body ≡ Some group
         → AreAsBegun base seat.who (made_children (replica_of group node.replicas) mail.from mail.body)
@@ -134,7 +128,7 @@ module _ (sources : Sources) (ahead : Ahead) (words : ℕ → ℕ → ℕ × ℕ
             let in_list = find_found (λ (s : ReplicaState). same_draw (name_of s) group) node.replicas r here in
             let named = draw_is (name_of r) group in_list.1 in
             let at = then_.kept.nodes number.0 number.1 number.2 in
-            let same : at.node ≡ node = one_node at.node (sym at.value_is ∙ number.3) in
+            let same : at.node ≡ node = one_node at.node node (sym at.value_is ∙ number.3) in
             let inside : Among r at.node.replicas = subst (λ (x : NodeState). Among r x.replicas) (sym same) in_list.0 in
             let mine = Each-among (λ s. IsOneOf bases (name_of s)) at.node.replicas r at.is.known inside in
             let parent = mine.0 in

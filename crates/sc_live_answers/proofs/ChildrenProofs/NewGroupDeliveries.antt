@@ -4,7 +4,7 @@ use Rattle.std.specs.List.{list_any}
 use Rattle.std.proofs.lemmas.Bool.{cases_Bool, cond-false, eqb-true, cases_eq}
 use Rattle.sc_base.specs.Definitions.{Among, same_ballot, same_draw, is_member}
 use Rattle.sc_node_table.specs.Values.{Ballot, Draw, Command, Base, OrderLine, Mail, MailBody, Accepted, Learn, Install, Seat, Deliver, Node, NotYet}
-use Rattle.sc_actor.specs.Definitions.{mails, numbered, row_of}
+use Rattle.sc_actor.specs.Definitions.{row_of}
 use Rattle.sc_live_orderly.proofs.Lemmas.{is_born-from}
 use Rattle.sc_group_table.specs.machine.Definitions.{child_by, Group, group_of, state_after, applied, right_members}
 use Rattle.sc_scenario.specs.declared.scenario.scenarios.Scenario.{Scenario}
@@ -115,25 +115,22 @@ module _ (laws : OfJournals) (well : ScenariosAreWellBorn) (keeps : DeliveriesKe
   abbrev after : Rows
   after = with_event rows seat (Deliver number)
 
-  taken : (mail : Mail) × (numbered (mails rows) number ≡ Some mail)
-  taken = taken_mail words (births as_nodes scenario) rows seat number w.guided.seated w.guided.timely
-
   abbrev mail : Mail
-  mail = taken.0
+  mail = (taken_mail words (births as_nodes scenario) rows seat number w.guided.seated w.guided.timely).0
 
   says : SaysWork task mail.body
-  says = takes_one words (births as_nodes scenario) rows seat number w.guided.seated w.guided.timely (λ m. SaysWork task m.body) (w.work.mail seat.who (is_born-from (players words (births as_nodes scenario)) seat.who seat w.guided.seated)) mail taken.1
+  says = takes_one words (births as_nodes scenario) rows seat number w.guided.seated w.guided.timely (λ m. SaysWork task m.body) (w.work.mail seat.who (is_born-from (players words (births as_nodes scenario)) seat.who seat w.guided.seated)) mail (taken_mail words (births as_nodes scenario) rows seat number w.guided.seated w.guided.timely).1
 
   -- the mail is of no group that was nowhere
   no_mail : (base : Base) → Among base (groups_at as_nodes scenario.groups journal) → IsNowhere (births as_nodes scenario) quiet base.core.id → group_of_mail mail.body ≡ Some base.core.id → ⊥
   no_mail base is nowhere =
       takes_one words (births as_nodes scenario) rows seat number w.guided.seated w.guided.timely (λ m. group_of_mail m.body ≡ Some base.core.id → ⊥)
-      ((w.under.young base is nowhere).unsent seat.who (is_born-from (players words (births as_nodes scenario)) seat.who seat w.guided.seated)) mail taken.1
+      ((w.under.young base is nowhere).unsent seat.who (is_born-from (players words (births as_nodes scenario)) seat.who seat w.guided.seated)) mail (taken_mail words (births as_nodes scenario) rows seat number w.guided.seated w.guided.timely).1
 
   kind : RowKind words (births as_nodes scenario) rows seat number mail
   kind =
-      row_kind words (births as_nodes scenario) rows seat number w.guided.seated w.guided.timely mail taken.1
-      (λ group seq answer e. keeps.unanswered words (births as_nodes scenario) rows seat number task w.guided.seated w.guided.timely w.work mail group seq answer taken.1 e)
+      row_kind words (births as_nodes scenario) rows seat number w.guided.seated w.guided.timely mail (taken_mail words (births as_nodes scenario) rows seat number w.guided.seated w.guided.timely).1
+      (λ group seq answer e. keeps.unanswered words (births as_nodes scenario) rows seat number task w.guided.seated w.guided.timely w.work mail group seq answer (taken_mail words (births as_nodes scenario) rows seat number w.guided.seated w.guided.timely).1 e)
       (λ node is. node_number well scenario rows seat node w.guided.seated is)
 
   else_stays : (name : Draw) (who : ℕ) → (who ≡ seat.who → ⊥) → view_at (births as_nodes scenario) after name who ≡ view_at (births as_nodes scenario) rows name who

@@ -1,15 +1,16 @@
 -- What is delivered while an order is under way is for a node: no such mail goes to a client.
+use Rattle.sc_live_journals.proofs.LogsProofs.Lemmas.{no_client}
 use Rattle.std.proofs.Common.{◌≡◌, ℕ, eqb, find, true, List, [], ◌++◌, Option, Some, None, inl, inr, refl, sym, ◌∙◌, ap, subst}
 use Rattle.std.proofs.lemmas.Bool.{cases_Bool}
 use Rattle.std.proofs.lemmas.Option.{none-some}
 use Rattle.sc_base.specs.Definitions.{Among, Each, is_member}
-use Rattle.sc_node_table.specs.Values.{Draw, Base, OrderLine, Mail, MailBody, Request, Answer, Prepare, Promise, Accept, Accepted, Nack, Learn, Ask, Install, Told, Node, Client, Seat, Deliver}
+use Rattle.sc_node_table.specs.Values.{Draw, Base, OrderLine, Mail, MailBody, Request, Answer, Prepare, Promise, Accept, Accepted, Nack, Learn, Ask, Install, Told, Client, Seat, Deliver}
 use Rattle.sc_actor.specs.Definitions.{mails, value, System, row_of}
 use Rattle.sc_client_table.specs.table.Definitions.{Client as ClientState}
 use Rattle.sc_live_steps.specs.following.Definitions.{Mark, Asks, Votes, Tells, Installs, Prepares, Promises, mark_of, marks_of}
 use Rattle.sc_live_steps.proofs.FollowingProofs.Lemmas.{same_mark}
 use Rattle.sc_law_groups.proofs.GroupProofs.Lemmas.{number_among}
-use Rattle.sc_node_table.specs.Definitions.{NodeState, born_node, group_of_mail, listed, slots_ahead}
+use Rattle.sc_node_table.specs.Definitions.{born_node, group_of_mail, listed, slots_ahead}
 use Rattle.sc_live_orderly.specs.Definitions.{is_born, AreInTime}
 use Rattle.sc_live_orderly.proofs.Lemmas.{in_time_before, in_time_tidy, last_in_time, TakesFirst, takes_first, is_born-from}
 use Rattle.sc_words.proofs.PaxosProofs.Lemmas.{Each-among}
@@ -24,9 +25,6 @@ use Rattle.sc_live_answers.specs.Definitions.{IsNodeOf, GoesToNode, RefusesToNod
 use Rattle.sc_live_answers.proofs.ErrandsProofs.ErrandReceivers.{node_seated}
 use Rattle.sc_live_answers.proofs.ReplicasProofs.Nodes.{node_replays}
 use Rattle.sc_live_answers.proofs.ErrandsProofs.StrayMail.{told_zero as told_to}
-
-pub roles_differ : (client : ClientState) (node : NodeState) → ◌≡◌ {A = Player} (Client client) (Node node) → ⊥
-roles_differ client node e = cc
 
 one_seat : (one other : Seat Player) → Some one ≡ Some other → one ≡ other
 one_seat one other e = cc
@@ -57,7 +55,7 @@ module _ (post_law : MailIsPosted) (desk_law : DesksAreNotBorn) (members_law : M
   away node =
       let same = one_seat seat (node_seat as_nodes scenario.groups scenario.policy seat.who) (sym on.seated ∙ node_seated scenario seat.who node) in
       let stays = node_replays seat.who [] rows (born_node slots_ahead seat.who scenario.groups scenario.policy) in
-      roles_differ client stays.0 (sym is ∙ (ap (λ (x : Seat Player). value player_table x rows) same ∙ stays.1))
+      no_client client stays.0 (sym is ∙ (ap (λ (x : Seat Player). value player_table x rows) same ∙ stays.1))
 
   away_to : IsNodeOf scenario d.mail.to → ⊥
   away_to node = away (subst (IsNodeOf scenario) d.receiver node)

@@ -1,12 +1,12 @@
 -- A group is gone by its log as its replicas say.
-use Rattle.std.proofs.Common.{◌≡◌, ℕ, ◌+◌, ◌-◌, zero, suc, ◌⊎◌, inl, inr, ◌<◌, ◌≤◌, true, false, true≢false, List, [], ◌++◌, length, take, is_some, Some, None, refl, sym, ◌∙◌, ap, subst, arith}
+use Rattle.std.proofs.Common.{◌≡◌, ℕ, ◌+◌, ◌-◌, zero, suc, ◌⊎◌, inl, inr, ◌<◌, ◌≤◌, true, false, true≢false, List, [], length, take, is_some, Some, None, refl, sym, ◌∙◌, ap, subst, arith}
 use Rattle.std.proofs.lemmas.Bool.{cases_lt}
 use Rattle.sc_base.specs.Definitions.{Among, IsRoster, is_member}
-use Rattle.sc_node_table.specs.Values.{Ballot, Command, Base, Route, Mail, MailBody, Accepted as AcceptedMail, Learn, Seat}
+use Rattle.sc_node_table.specs.Values.{Ballot, Command, Base, Route, Mail, Accepted as AcceptedMail, Learn, Seat}
 use Rattle.sc_base.proofs.Lemmas.{same_name}
 use Rattle.sc_group_table.specs.machine.Definitions.{Group, group_of, state_after}
 use Rattle.sc_actor.specs.Definitions.{mails, numbered}
-use Rattle.sc_paxos_law.specs.Definitions.{IsLog, Accepted, IsLawfulHistory}
+use Rattle.sc_paxos_law.specs.Definitions.{Accepted, IsLawfulHistory}
 use Rattle.sc_scenario.specs.scenario.Definitions.{ValidScenariosAreBounded}
 use Rattle.sc_scenario.specs.declared.scenario.scenarios.Scenario.{Scenario}
 use Rattle.sc_node_table.specs.Definitions.{entered, NodeState, ReplicaState, next, mailed, accepted_row}
@@ -14,12 +14,12 @@ use Rattle.sc_meaning.specs.sound.Definitions.{decided_log, Ahead, Player, route
 use Rattle.sc_law_entries.specs.logs.Definitions.{Rows}
 use Rattle.sc_law_entries.specs.ring.Definitions.{Sources}
 use Rattle.sc_law_entries.specs.names.Definitions.{OtherNamesAreFree, TakenOrdersAreAllowed, TakenWishesAreAllowed, WishesAreAtPositions, owner_in}
-use Rattle.sc_law_groups.proofs.GroupProofs.Lemmas.{h_of, IsLearnt, Steps, rule, first, IsTrue, number_among}
-use Rattle.sc_law_groups.specs.whole.Definitions.{BeginsWell, section_op, OrdersAreAllowed, MayQueue, IsHeardAt, ValidScenariosBeginWell}
+use Rattle.sc_law_groups.proofs.GroupProofs.Lemmas.{h_of, IsLearnt, Steps, rule, first}
+use Rattle.sc_law_groups.specs.whole.Definitions.{BeginsWell, section_op, OrdersAreAllowed, ValidScenariosBeginWell}
 use Rattle.sc_law_groups.proofs.WholeProofs.Lemmas.{orders_allowed}
 use Rattle.sc_live_steps.specs.following.Definitions.{members_at}
 use Rattle.sc_live_journals.specs.logs.Definitions.{logged_sets, IsGroupOf, HasReplica}
-use Rattle.sc_live_journals.proofs.LogsProofs.Lemmas.{IsAlong, entered_along, part, roster, prefixes, sent_in, along, opens, flying}
+use Rattle.sc_live_journals.proofs.LogsProofs.Lemmas.{ArePrefixes, said_in, IsAlong, entered_along, part, roster, prefixes, along, opens, flying}
 use Rattle.sc_live_journals.specs.groups.Definitions.{RestsBy}
 use Rattle.sc_live_answers.specs.Definitions.{over_at, GroupsBeginStanding, EndsAreLogged, ChildrenAreBegun, MembersMoveOneWay, state_at, ReplicasRunLogs}
 use Rattle.sc_live_answers.proofs.GroupsProofs.GroupBeginnings.{begun_first, begun_stands}
@@ -82,7 +82,7 @@ module _ (bounded : ValidScenariosAreBounded) (begin : ValidScenariosBeginWell) 
     abbrev first_members : IsRoster base.core.members
     first_members = roster sources ahead words scenario route well journal orders group.lawful base group.stands
 
-    abbrev all_prefixes : (log : List Command) → IsLog (rule ahead base) h log → (length log ≤ length all) × (take (length log) all ≡ log)
+    abbrev all_prefixes : ArePrefixes ahead base journal
     all_prefixes = prefixes sources ahead words scenario route well journal orders group.lawful base group.stands
 
     abbrev Along : ReplicaState → Type 0
@@ -102,13 +102,6 @@ module _ (bounded : ValidScenariosAreBounded) (begin : ValidScenariosBeginWell) 
         let same : length k.whole ≡ next r - 1 = omega (arith, next_is) in
         (omega (arith, next_is), k.group_is ∙ ap (state_after (group_of base)) (sym (all_prefixes k.whole k.is_log).1) ∙ ap (λ n. state_after (group_of base) (take n all)) same)
 
-    said : (rows more : Rows) → journal ≡ rows ++ more → (number : ℕ) (mail : Mail) (body : MailBody) → numbered (mails rows) number ≡ Some mail → mail.body ≡ body
-        → IsTrue ahead base (MayQueue sources ahead scenario journal base) (IsHeardAt sources ahead scenario journal) h mail body
-    said rows more e number mail body sent is =
-        subst (IsTrue ahead base (MayQueue sources ahead scenario journal base) (IsHeardAt sources ahead scenario journal) h mail) is
-        ((part sources ahead words scenario route well journal orders group.lawful base group.stands).true_mail mail
-        (sent_in sources ahead words scenario route well journal orders group.lawful base group.stands rows more e mail (number_among (mails rows) number mail sent)))
-
     module _ (rows : Rows) (seat : Seat Player) (node : NodeState) (r : ReplicaState) (has : HasReplica ahead scenario journal base rows seat node r) where
       k : Along r
       k = along sources ahead words scenario route well journal orders group.lawful base group.stands rows seat node r has group.open_slots
@@ -122,7 +115,7 @@ module _ (bounded : ValidScenariosAreBounded) (begin : ValidScenariosBeginWell) 
       entered_ends : (number : ℕ) (mail : Mail) (slot : ℕ) (command : Command) → numbered (mails rows) number ≡ Some mail → mail.body ≡ Learn base.core.id slot command → slot ≡ next r
           → is_some (entered command r).group.core.gone ≡ over_at ahead base journal (next (entered command r))
       entered_ends number mail slot command sent is at =
-          let t = subst (λ n. IsLearnt (rule ahead base) h n command) at (said rows has.more has.prefix number mail (Learn base.core.id slot command) sent is (same_name base.core.id base.core.id refl)) in
+          let t = subst (λ n. IsLearnt (rule ahead base) h n command) at (said_in sources ahead words scenario route well journal orders group.lawful base group.stands rows has.more has.prefix number mail (Learn base.core.id slot command) sent is (same_name base.core.id base.core.id refl)) in
           along_ends (entered command r) (entered_along ahead group.open_slots base first_members h lawful_steps all all_prefixes command r k t)
 
       voted_rests : r.running ≡ true → r.group.core.gone ≡ None → (number : ℕ) (mail : Mail) (ballot : Ballot) (slot : ℕ) → numbered (mails rows) number ≡ Some mail → mail.body ≡ AcceptedMail base.core.id ballot slot
@@ -132,7 +125,7 @@ module _ (bounded : ValidScenariosAreBounded) (begin : ValidScenariosBeginWell) 
           subst (λ b. next (mailed mail.from b (r, [])).0.0 ≤ over_slot) (sym is) (by (cases_lt over_slot (next r)) (cases_lt over_slot (next (accepted_row mail.from ballot slot (r, [])).0.0)))
         where
           did : (command : Command) × Among (Accepted mail.from ballot slot command) h
-          did = said rows has.more has.prefix number mail (AcceptedMail base.core.id ballot slot) sent is (same_name base.core.id base.core.id refl)
+          did = said_in sources ahead words scenario route well journal orders group.lawful base group.stands rows has.more has.prefix number mail (AcceptedMail base.core.id ballot slot) sent is (same_name base.core.id base.core.id refl)
 
           stood : over_at ahead base journal (next r) ≡ false
           stood = sym replica_ends ∙ ap is_some stands

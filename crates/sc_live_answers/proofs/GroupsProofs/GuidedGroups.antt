@@ -37,6 +37,10 @@ some_member : (members : List ℕ) → 1 ≤ length members → (who : ℕ) × (
 some_member [] some = absurd (omega (arith, some))
 some_member (m ∷ members) some = (m, or_left (eqb m m) (list_any (λ other. eqb other m) members) (eq-eqb m m refl))
 
+-- while a group is nowhere, its first members are sent nothing
+abbrev pub AreQuietWhileYoung : (ℕ → ℕ → ℕ × ℕ) → Scenario → Rows → Rows → Type 0
+AreQuietWhileYoung words scenario journal rows = (base : Base) → Among base (groups_at as_nodes scenario.groups journal) → IsQuietWhileYoung words (births as_nodes scenario) rows base
+
 -- where no mail of a group is under way, some replica of it is at its newest state
 module _ (rosters_law : SlotsHaveRosters) (logs_law : ReplicasRunLogs) (views_law : ViewsAreReplicas) (words : ℕ → ℕ → ℕ × ℕ) (scenario : Scenario) (journal rows more : Rows) (base : Base) (group : IsGroupOf as_nodes words scenario journal base) (split : journal ≡ rows ++ more)
     (t : IsSentThrough (logged_sets as_nodes base journal) (over_at as_nodes base journal) (slot_leaders_at as_nodes scenario base journal) words (births as_nodes scenario) rows base) (none : (who : ℕ) → marks_at (players words (births as_nodes scenario)) rows base.core.id who ≡ []) where
@@ -93,7 +97,7 @@ module _ (few_law : SlotsAreLeft) (logs_law : ReplicasRunLogs) (views_law : View
     (words : ℕ → ℕ → ℕ × ℕ) (scenario : Scenario) (journal rows : Rows) (seat : Seat Player) (event : Event OrderLine) (calm : IsCalmJournal words scenario journal)
     (prefix : IsPrefixOf journal (with_event rows seat event)) (seated : IsSeat (births as_nodes scenario) seat) (timely : AreInTime (players words (births as_nodes scenario)) (with_event rows seat event)) (sent : AreSent words scenario journal rows)
     (reached_so : (base : Base) (among : Among base (groups_at as_nodes scenario.groups journal)) → IsReachedSo (births as_nodes scenario) rows base (sent base among).course)
-    (young : (base : Base) → Among base (groups_at as_nodes scenario.groups journal) → IsQuietWhileYoung words (births as_nodes scenario) rows base) where
+    (young : AreQuietWhileYoung words scenario journal rows) where
   abbrev s : System Player Mail OrderLine
   s = players words (births as_nodes scenario)
 
@@ -186,7 +190,7 @@ module _ (last_law : ReplicasLast) (no_law : NoMailForStrangers) (words : ℕ �
   grows name who r e = subst (λ l. IsLater r (view_at all l name who)) (sym rows_are) (last_law words scenario quiet after name who r (subst (AreInTime sys) rows_are timely_before) e)
 
   -- a first member without replica is sent nothing
-  pub young_quiet : (base : Base) → Among base (groups_at as_nodes scenario.groups journal) → IsQuietWhileYoung words all rows base
+  pub young_quiet : AreQuietWhileYoung words scenario journal rows
   young_quiet base among who member none = elim (there_or all quiet base.core.id) [
     | inl there ↦ (
         let has = under.rests.members base among there who member in

@@ -7,7 +7,7 @@ use Rattle.sc_node_table.specs.Definitions.{entered, executed_one, next_child, n
 use Rattle.sc_law_walks.specs.Definitions.{IfThere}
 use Rattle.sc_law_walks.proofs.Lemmas.{entered_next, idle_ready, idle_pump}
 use Rattle.sc_live_steps.specs.following.Definitions.{Course, Progress, Sets, members_at, IsLed, IsNext, IsOn, IsOff, LeadsPast, AreNext, LeadsBy, IsLeadOf, DecidesNext, ActsAlone}
-use Rattle.sc_live_steps.proofs.FollowingProofs.Lemmas.{entries_lead, stays_led, ready_of, ready_leads, slot_out, none_taken, pumps_offer, vote_row, entered_core}
+use Rattle.sc_live_steps.proofs.FollowingProofs.Lemmas.{ReadyAlone, alone_on, on_leads, on_next, entries_lead, ready_of, ready_leads, slot_out, pumps_offer, vote_row, entered_core}
 use Rattle.sc_live_answers.proofs.BallotsProofs.PrepareSlots.{MovesLast}
 use Rattle.sc_live_answers.proofs.ReplicasProofs.Cores.{called_core}
 
@@ -20,10 +20,6 @@ acts_or_same (Call client seq op) r = inr (entered_core (Call client seq op) r �
 acts_or_same _ r = inl refl
 
 -- ---- what is executed at once
-
--- an act that is ready is all that is in flight or ready
-abbrev ReadyAlone : Course → ReplicaState → Type 0
-ReadyAlone course r = (slot : ℕ) (command : Command) → next r ≤ slot → at_slot r.ready slot ≡ Some command → is_act command ≡ true → course.bound ≡ next r + 1
 
 -- an act is in flight or ready at a replica, from its next slot on
 abbrev pub HasAct : ReplicaState → Type 0
@@ -57,26 +53,10 @@ module _ (at : Sets) (course : Course) (command : Command) (place : Place) (led 
   past : LeadsPast at course command place mid
   past = entries_lead at course command place led is_next
 
-  on_led : IsOn command place.0 mid.0 → IsLed at course mid.0
-  on_led on = subst (IsLed at course) (sym on.is) (stays_led at course command place.0 led ready is_next on.acts on.backlog on.stands on.stays)
-
-  up_on : IsOn command place.0 mid.0 → next mid.0 ≡ next place.0 + 1
-  up_on on = ap next on.is ∙ entered_next command place.0
-
   on_acts : IsOn command place.0 mid.0 → ReadyActs X mid.0
   on_acts on slot other least e act =
-      let up = up_on on in
+      let up = on_next command place.0 mid.0 on in
       acts slot other (omega (arith, least, up)) (sym (ap (λ (q : ReplicaState). at_slot q.ready slot) on.is ∙ slot_out (next place.0) slot place.0.ready (λ is. omega (arith, least, up, is))) ∙ e) act
-
-  on_alone : IsOn command place.0 mid.0 → ReadyAlone course mid.0
-  on_alone on slot other least e act =
-      let up = up_on on in
-      let old : at_slot place.0.ready slot ≡ Some other = sym (ap (λ (q : ReplicaState). at_slot q.ready slot) on.is ∙ slot_out (next place.0) slot place.0.ready (λ is. omega (arith, least, up, is))) ∙ e in
-      let bound = alone slot other (omega (arith, least, up)) old act in
-      absurd (free_there slot other old (none_taken place.0 slot (led.may.free slot (omega (arith, bound, least, up)))).1)
-    where
-      free_there : (slot : ℕ) (other : Command) → at_slot place.0.ready slot ≡ Some other → at_slot place.0.ready slot ≡ None → ⊥
-      free_there slot other i j = cc
 
   -- by this entry members come and go if it is alone
   moves_alone : (course.bound ≤ next place.0 + 1) ⊎ (members_at at (next place.0 + 1) ≡ members_at at (next place.0))
@@ -106,9 +86,9 @@ module _ (at : Sets) (course : Course) (command : Command) (place : Place) (led 
   step_goes : (es : List (ℕ × Command)) → AreNext at es mid → (IsLed at course mid.0 → ReadyAlone course mid.0 → ReadyActs X mid.0 → GoesFrom X at course (next mid.0) (executed_ready es mid).0.0)
       → GoesFrom X at course (next place.0) (pumped (executed_ready es mid).0).0
   step_goes es are rest = elim (past.state) [
-    | inl on ↦ (let b : LeadsBy at course mid (executed_ready es mid).0 = ready_leads at course es mid (on_led on) are in
-        let up = up_on on in
-        let goes = rest (on_led on) (on_alone on) (on_acts on) in
+    | inl on ↦ (let b : LeadsBy at course mid (executed_ready es mid).0 = ready_leads at course es mid (on_leads at course command place.0 led ready is_next mid.0 on) are in
+        let up = on_next command place.0 mid.0 on in
+        let goes = rest (on_leads at course command place.0 led ready is_next mid.0 on) (alone_on at course command place.0 mid.0 led on alone) (on_acts on) in
         let all : GoesFrom X at course (next place.0) (executed_ready es mid).0.0 = (joins (executed_ready es mid).0.0 (subst (λ n. MovesLast at course n (next (executed_ready es mid).0.0)) up goes.0), goes.1, goes.2) in
         elim (b.state) [
           | inl still ↦ subst (GoesFrom X at course (next place.0)) (sym (pumps_offer at _ (executed_ready es mid).0 still.led.may).is) all

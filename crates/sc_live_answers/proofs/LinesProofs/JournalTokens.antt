@@ -169,7 +169,7 @@ module _ (c : ℕ) (words : ℕ → ℕ → ℕ × ℕ) (scenario : Scenario) (b
         let k = clients_of.c words scenario begins set is linked rows t j asks a born in
         let fresh = clients_of.fresh words scenario begins set is linked rows t j asks a born fine in
         go_after sys begins.seats_apart (token_owing c) rows (cseat asks) born
-        (subst (λ (p : Player). owed_by (token_owing c) (player_table p GoInput) ≤ player_token c p) (sym k.is) (go_tokens c k.client (unasked set asks k.client fresh.state).0))
+        (subst (λ (p : Player). owed_by (token_owing c) (player_table p GoInput) ≤ player_token c p) (sym k.is) (go_tokens c k.client (unasked k.client fresh.state).0))
     client_falls Tick fine = absurd fine
     client_falls _ fine = absurd fine
 

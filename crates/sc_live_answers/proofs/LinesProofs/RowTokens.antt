@@ -15,7 +15,7 @@ use Rattle.sc_live_plain.proofs.Lemmas.{accept_is}
 use Rattle.sc_live_plain.proofs.RowsProofs.AcceptAndLearnRows.{accepted_state}
 use Rattle.sc_live_answers.proofs.LinesProofs.PumpTokens.{IsFree, sent_token, others_token, answer_token, without_flight_tokens, taken_flight_tokens, with_voters_tokens, taken_slot_tokens, with_slot_tokens, pump_tokens, request_tokens}
 use Rattle.sc_live_answers.proofs.RequestsProofs.RequestRowEffects.{voter_at}
-use Rattle.sc_live_steps.proofs.CalmProofs.Lemmas.{ready_is}
+use Rattle.sc_live_steps.proofs.FollowingProofs.Lemmas.{ready_of}
 
 module _ (c : ℕ) (begun : Requests) (frame : Frame) (is : IsFrame frame) (first : ReplicaState) (free : IsFree first) (bound : ℕ) where
   -- ---- entries of a leader
@@ -93,7 +93,7 @@ module _ (c : ℕ) (begun : Requests) (frame : Frame) (is : IsFrame frame) (firs
           → HoldsAfter (elim o [ None ↦ childless place | Some command ↦ ending (next_child command place.0) (executed_ready es (executed_one true command place)) ])
       by None is_ more = h
       by (Some command) is_ more =
-          let at = ready_is place.0 command is_ in
+          let at = ready_of command place.0 is_ in
           pumps_on (executed_ready es (executed_one true command place)).0 (more (executed_one true command place) (one_on command place (plain_at place command h at) at h))
 
   executes_on : (command : Command) (place : Place) → at_slot place.0.ready (next place.0) ≡ Some command → Holds place → Holds (executed true command place).0

@@ -10,9 +10,10 @@ use Rattle.sc_law_walks.proofs.Lemmas.{entered_next}
 use Rattle.sc_meaning.specs.sound.Definitions.{Player, player_table}
 use Rattle.sc_live_steps.specs.calm.Definitions.{players, MayCount, MayTake, StaysIn, IsCalmMailAt, Takes as TakesAt, Learns as LearnsAt, Makes as MakesAt, Misses as MissesAt, MayPump, Follows, group_owes, after_mail, MayMiss, Ways, StandsOnce, Rows, led_elsewhere}
 use Rattle.sc_live_steps.proofs.CalmProofs.Lemmas.{unbound_new}
-use Rattle.sc_live_steps.specs.following.Definitions.{Mark, Asks, Votes, Tells, Installs, Prepares, Promises, mark_of, Course, Progress, Sets, members_at, IsHeir, Tellers, AreHeeded, Stays}
+use Rattle.sc_live_steps.specs.following.Definitions.{IsOther, Mark, Asks, Votes, Tells, Installs, Prepares, Promises, mark_of, Course, Progress, Sets, members_at, IsHeir, Tellers, AreHeeded, Stays}
 use Rattle.sc_live_steps.proofs.FollowingProofs.Lemmas.{same_mark, states, heirs_elect}
 use Rattle.sc_live_journals.specs.rows.Definitions.{promise_in, progress_at, marks_at, mark_in, taken_mark, IsScene, TakesMail, HoldsReplica, with_event, IsReplicasRow}
+use Rattle.sc_live_journals.proofs.RowsProofs.RowMarks.{HasMark}
 use Rattle.sc_live_journals.proofs.RowsProofs.Lemmas.{names_stay, apart_off as led_off, goes_on, row_in, head, all_fit, known, within, no_lead, fit, found_name, rows_replicas, Plays, Found, found_well, replay_well}
 use Rattle.sc_live_journals.specs.groups.Definitions.{Ends, hint_in, hints_at, IsOfLog, IsLogsState, AreWellBorn}
 use Rattle.sc_live_answers.specs.Definitions.{MeetsMail, IsPlain, NeedsBesides, IsNoRequest, NeedsAt}
@@ -54,13 +55,13 @@ module _ (at : Sets) (over : Ends) (by : Tellers) (words : ℕ → ℕ → ℕ �
 
   -- the one that leads sends a state as a member
   module _ (slot : ℕ) (state : Base) (sets : List (List ℕ)) (body : mail.body ≡ Install base.core.id slot state sets) where
-    abbrev state_mark : mark_of base.core.id mail.from mail.body ≡ Some (Installs slot)
+    abbrev state_mark : HasMark base mail (Installs slot)
     state_mark = ap (mark_of name mail.from) body ∙ same_mark name (Installs slot)
 
     logs : IsLogsState at by base slot mail.from state sets
     logs = m.one.sent rows seat number mail slot state sets m.delivers body
 
-    no_leader : course.runs ≡ true → seat.who ≡ course.ballot.node → ⊥
+    no_leader : IsOther course seat.who
     no_leader = (let least = (all_fit at words births rows seat node base course scene number mail takes (Installs slot) state_mark).0 in no_lead at words births rows seat node base course scene number mail takes (Installs slot) state_mark (omega (arith, least)))
 
     sent_member : is_member state.core.members mail.from ≡ true
@@ -160,7 +161,7 @@ module _ (at : Sets) (over : Ends) (by : Tellers) (words : ℕ → ℕ → ℕ �
       abbrev mark : Mark
       mark = Tells slot
 
-      abbrev is : mark_of base.core.id mail.from mail.body ≡ Some (Tells slot)
+      abbrev is : HasMark base mail (Tells slot)
       is = ap (mark_of name mail.from) body ∙ same_mark name (Tells slot)
 
       fits : slot ≡ next r
@@ -172,7 +173,7 @@ module _ (at : Sets) (over : Ends) (by : Tellers) (words : ℕ → ℕ → ℕ �
       most : suc slot ≤ course.newest
       most = within at words births rows seat node base course scene number mail takes mark is
 
-      leads_not : course.runs ≡ true → seat.who ≡ course.ballot.node → ⊥
+      leads_not : IsOther course seat.who
       leads_not = (let place = (all_fit at words births rows seat node base course scene number mail takes mark is).0.1 in no_lead at words births rows seat node base course scene number mail takes mark is (omega (arith, place)))
 
       off : r.running ≡ false

@@ -47,8 +47,12 @@ module _ (at : Sets) (by : Tellers) (now after : Progress) (node : ℕ) (taken :
     same_hint : Silent at by (sent who) → SameHint who
     same_hint s = hint_more ∙ s.hint (pledged (now.promise who) (marks who)) (hinted at by (now.promise who) (hints who) (marks who))
 
+  -- what is passed stays so
+  abbrev PassedStay : Type 0
+  PassedStay = (ballot : Ballot) → IsPassed now marks ballot → IsPassed after marks_after ballot
+
   -- one that is so stays so, where what is passed stays passed
-  fated_on : (who : ℕ) → SameHint who → SamePromise who → ((ballot : Ballot) → IsPassed now marks ballot → IsPassed after marks_after ballot) → IsFated at by now hints marks who → IsFated at by after hints_after marks_after who
+  fated_on : (who : ℕ) → SameHint who → SamePromise who → PassedStay → IsFated at by now hints marks who → IsFated at by after hints_after marks_after who
   fated_on who hint promise up f = record {
     hint_is = hint ∙ (f.hint_is ∙ ap (λ (b : Ballot). Some b.node) (sym promise));
     passed = subst (IsPassed after marks_after) (sym promise) (up (pledged (now.promise who) (marks who)) f.passed);
@@ -60,7 +64,7 @@ module _ (at : Sets) (by : Tellers) (now after : Progress) (node : ℕ) (taken :
   -- ---- rows in which the course stays
 
   module _ (same : after.course ≡ now.course) (promises : (who : ℕ) → SamePromise who) (reaches : (who : ℕ) → SameReach who) (hint : (who : ℕ) → (who ≡ node → ⊥) → SameHint who) (grows : now.next node ≤ after.next node) where
-    passed_on : (ballot : Ballot) → IsPassed now marks ballot → IsPassed after marks_after ballot
+    passed_on : PassedStay
     passed_on ballot (inl e) = inl (e ∙ ap (λ (c : Course). c.ballot) (sym same))
     passed_on ballot (inr lt) = inr (subst (λ (b : Ballot). ballot.round < b.round) (sym (promises ballot.node)) lt)
 
@@ -222,7 +226,7 @@ module _ (at : Sets) (by : Tellers) (now after : Progress) (node : ℕ) (taken :
         ]
 
     -- what is passed stays so: no promise of another falls, and the leader's own is the ballot's
-    passed_then : (ballot : Ballot) → IsPassed now marks ballot → IsPassed after marks_after ballot
+    passed_then : PassedStay
     passed_then ballot (inl e) = inl (e ∙ sym l.ballot)
     passed_then ballot (inr lt) = elim (cases_eq ballot.node node) [
       | inr ne ↦ (let up = promised_up ballot.node ne in inr (omega (arith, lt, up)))

@@ -10,7 +10,7 @@ use Rattle.sc_live_steps.specs.calm.Definitions.{Rows}
 use Rattle.sc_live_steps.proofs.OrdersProofs.Lemmas.{cases-draw}
 use Rattle.sc_live_steps.specs.orders.Definitions.{works, Answers, Ends, First, Here, IsNone, Lone, Next, Records, Scene, Turn, Work, free, is_watch, Closes, ClosesBoth, Filed, IsUnderWay, Leg, Mailed, Ordered, Recorded, Replied, SentOn, Stage, Still, Weighs, closing, heard, parties_of, IsUnbound, Asks as AsksStage}
 use Rattle.sc_live_journals.proofs.RowsProofs.Lemmas.{all_fit, goes_on, known, no_lead}
-use Rattle.sc_live_journals.specs.rows.Definitions.{progress_at, view_at, IsScene, TakesMail, with_event}
+use Rattle.sc_live_journals.specs.rows.Definitions.{progress_at, IsScene, TakesMail, with_event}
 use Rattle.sc_live_journals.proofs.ScenesProofs.Lemmas.{tell}
 use Rattle.sc_live_journals.specs.scenes.Definitions.{FindsFlight, LeaderFinds, scene_at, LeadsAlone}
 use Rattle.sc_live_steps.proofs.FollowingProofs.Lemmas.{same_mark}
@@ -75,20 +75,17 @@ module _ (words : ℕ → ℕ → ℕ × ℕ) (births : List (Seat Player)) (row
   abbrev pub takes : TakesMail words births rows seat number mail
   takes = record { timely = h.taking.timely; sent = h.taking.sent; comes = h.taking.comes }
 
-  pub here_view : view_at births rows base.core.id seat.who ≡ Some r
-  here_view = view_here words births rows seat number mail base node r h
-
   delivers : Delivers (with_event rows seat (Deliver number)) rows seat number mail
   delivers = record { row = record { more = []; is = sym (append-nil (with_event rows seat (Deliver number))) }; sent = h.taking.sent }
 
   pub leads : IsLeadOf g.at (progress_at births rows base g.course) r × (seat.who ≡ g.course.ballot.node)
-  leads = gives g.at g.over g.by words births rows base g.course g.led seat.who r here_view runs
+  leads = gives g.at g.over g.by words births rows base g.course g.led seat.who r (view_here words births rows seat number mail base node r h) runs
 
   pub leads_alone : LeadsAlone births rows base.core.id seat.who r
-  leads_alone = alone g.at g.over g.by words births rows base g.course g.led seat.who r here_view runs
+  leads_alone = alone g.at g.over g.by words births rows base g.course g.led seat.who r (view_here words births rows seat number mail base node r h) runs
 
   pub free_of : IsUnbound r
-  free_of = unbound g.at g.over g.by words births rows base g.course g.led seat.who r here_view runs
+  free_of = unbound g.at g.over g.by words births rows base g.course g.led seat.who r (view_here words births rows seat number mail base node r h) runs
 
   pub named_so : (named : Draw) (body : MailBody) → mail.body ≡ body → group_of_mail body ≡ Some named → named ≡ base.core.id
   named_so named body e is = same_Some named base.core.id (sym is ∙ (ap group_of_mail (sym e) ∙ h.taking.named))
@@ -105,7 +102,7 @@ module _ (words : ℕ → ℕ → ℕ × ℕ) (births : List (Seat Player)) (row
     no_further_on up = no_lead g.at words births rows seat node base g.course the_scene number mail takes mark is up leads.0.runs leads.1
 
   goes_so : (ballot : Ballot) → below g.course.ballot ballot ≡ false → GoesOn ballot r
-  goes_so ballot low = goes_on g.at words births rows seat node base g.course the_scene r here_view ballot low
+  goes_so ballot low = goes_on g.at words births rows seat node base g.course the_scene r (view_here words births rows seat number mail base node r h) ballot low
 
   pub works_one : IsUnderWay (scene_at births rows) → (work : Option Work) × (works r ≡ listed work)
   works_one under = (let one = stages_leave_one (scene_at births rows) name under in (one.0, sym (tell.led births rows name seat.who r leads_alone).1.1 ∙ one.1))
@@ -129,7 +126,7 @@ module _ (words : ℕ → ℕ → ℕ × ℕ) (births : List (Seat Player)) (row
       goes_so ballot (known g.at words births rows seat node base g.course the_scene number mail takes (Prepares ballot) (marked (Prepare named ballot from_slot) (Prepares ballot) e is))
   finds (Nack named promised) e under u none votes =
       let own = named_so named (Nack named promised) e refl in
-      g.sends.nacks rows seat number mail promised r delivers (e ∙ ap (λ n. Nack n promised) own) here_view
+      g.sends.nacks rows seat number mail promised r delivers (e ∙ ap (λ n. Nack n promised) own) (view_here words births rows seat number mail base node r h)
   finds (Promise named ballot reports) e under u none votes =
       let own = named_so named (Promise named ballot reports) e refl in
       let one = works_one under in

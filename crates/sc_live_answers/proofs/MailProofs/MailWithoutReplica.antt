@@ -9,6 +9,7 @@ use Rattle.sc_live_answers.specs.Definitions.{IsGuided, IsNamedGuide, MissedAreF
 use Rattle.sc_live_journals.specs.groups.Definitions.{hints_at, IsLogsState, Delivers}
 use Rattle.sc_live_steps.specs.calm.Definitions.{Rows}
 use Rattle.sc_live_journals.specs.mail.Definitions.{IsPosted}
+use Rattle.sc_live_journals.proofs.RowsProofs.RowMarks.{HasMark}
 use Rattle.sc_live_journals.proofs.RowsProofs.Lemmas.{all_fit, head, no_lead}
 use Rattle.sc_live_journals.specs.rows.Definitions.{progress_at, view_at, IsScene, TakesMail, with_event}
 use Rattle.sc_live_journals.specs.scenes.Definitions.{IsState, NodeFinds, IsThere, MayJoin, IsTaking, NewestAreBound, NoneRuns}
@@ -37,7 +38,7 @@ module _ (words : ℕ → ℕ → ℕ × ℕ) (births : List (Seat Player)) (row
   sent : IsLogsState g.at g.by base slot mail.from state sets
   sent = g.log.sent rows seat number mail slot state sets delivers body
 
-  marked : mark_of base.core.id mail.from mail.body ≡ Some (Installs slot)
+  marked : HasMark base mail (Installs slot)
   marked = ap (mark_of base.core.id mail.from) body ∙ same_mark base.core.id (Installs slot)
 
   apart : g.course.runs ≡ true → seat.who ≡ g.course.ballot.node → ⊥

@@ -1,11 +1,11 @@
 -- What a delivery finds while an order is under way.
-use Rattle.std.proofs.Common.{◌≡◌, ℕ, ◌+◌, ◌≤◌, ◌^◌, zero, suc, eqb, cond, true, false, Bool, List, [], ◌∷◌, ◌++◌, length, map, take, find, Option, Some, None, ◌⊎◌, inl, inr, refl, sym, ◌∙◌, ap, subst, arith, append-nil, append_assoc, length-append}
+use Rattle.std.proofs.Common.{◌≡◌, ℕ, ◌+◌, ◌≤◌, ◌^◌, eqb, true, false, Bool, List, [], ◌∷◌, ◌++◌, length, map, find, Option, Some, None, ◌⊎◌, inl, inr, refl, sym, ◌∙◌, ap, subst, arith, append-nil, append_assoc, length-append}
 use Rattle.std.specs.Prelude.{is_some, ◌||◌}
 use Rattle.std.proofs.lemmas.Bool.{eqb-true}
 use Rattle.sc_base.specs.Definitions.{Among, Each, same_draw}
 use Rattle.sc_base.proofs.Lemmas.{draw_is}
 use Rattle.sc_node_table.specs.Values.{Draw, Base, Route, OrderLine, Mail, MailBody, Request, Promise, Accepted, TxPrepare, TxVote, TxOutcome, TxElsewhere, TxWatch, TxWatched, Node, Client, Seat, Deliver}
-use Rattle.sc_actor.specs.Definitions.{mails, numbered, value, System, row_of, numbers_of, is_quiet}
+use Rattle.sc_actor.specs.Definitions.{mails, numbered, value, System, row_of, numbers_of}
 use Rattle.sc_live_orderly.specs.Definitions.{IsCalmRow, AreInTime}
 use Rattle.sc_live_orderly.proofs.Lemmas.{in_time_before, in_time_tidy, last_in_time, TakesFirst, takes_first, is_born-from}
 use Rattle.sc_node_table.specs.Definitions.{NodeState, replica_of, group_of_mail, ReplicaState, name_of}
@@ -14,6 +14,7 @@ use Rattle.sc_scenario.specs.declared.scenario.scenarios.Scenario.{Scenario}
 use Rattle.sc_scenario.specs.scenario.Definitions.{ValidScenariosAreBounded}
 use Rattle.sc_meaning.specs.sound.Definitions.{Player, player_table, births, as_nodes}
 use Rattle.sc_live_steps.specs.calm.Definitions.{Chart, players, IsCalmFor, FindsCalm, MayAskThere, Points, StandsOnce, Rows, led_elsewhere, leads, is_leading, is_led}
+use Rattle.sc_live_journals.proofs.ChartsProofs.Lemmas.{upto_low}
 use Rattle.sc_live_journals.specs.rows.Definitions.{replicas_of, replica_in, view_at, with_event}
 use Rattle.sc_live_journals.specs.mail.Definitions.{SlotsAreLeft}
 use Rattle.sc_live_journals.specs.logs.Definitions.{SlotsHaveRosters}
@@ -101,14 +102,6 @@ module _ (births : List (Seat Player)) (rows : Rows) (name : Draw) where
 
   pub named_so : (who : ℕ) (r : ReplicaState) → view who ≡ Some r → name_of r ≡ name
   named_so who r e = (let s = seat_of who r e in named_there (value player_table s.seat rows) r s.has)
-
-upto_low : (s : System Player Mail OrderLine) (rows : Rows) (n : ℕ) → quiet_upto s rows n ≤ n
-upto_low s rows zero = omega arith
-upto_low s rows (suc n) = by (is_quiet s (take (suc n) rows)) (upto_low s rows n)
-  where
-    by : (b : Bool) → quiet_upto s rows n ≤ n → cond b (suc n) (quiet_upto s rows n) ≤ suc n
-    by true le = omega arith
-    by false le = omega (arith, le)
 
 pub runs_there : (o : Option ReplicaState) → is_running o ≡ true → (r : ReplicaState) × (o ≡ Some r) × (r.running ≡ true)
 runs_there None e = cc
@@ -283,27 +276,24 @@ module _ (named_at : JournalMailFinds) (strays : StrayMailFinds) (for_node : Mai
 
     -- ---- what it needs
 
-    plain_at : (o : Option ReplicaState) → replica_of name node.replicas ≡ o → IsPlainAt o
-    plain_at o e = subst IsPlainAt e k.plain
-
     needs_some : (r : ReplicaState) → replica_of name node.replicas ≡ Some r → (b : MailBody) → mail.body ≡ b → NeedsBesides chart.ways r b
     needs_some r here (Request group client seq op) body = absurd (subst IsNoRequest body k.unasked)
-    needs_some r here (Promise group ballot reports) body = plain_at (Some r) here
+    needs_some r here (Promise group ballot reports) body = subst IsPlainAt here k.plain
     needs_some r here (Accepted group ballot slot) body = subst (MayCountAt slot) here (counts_here slot)
     needs_some r here (TxPrepare tx offer) body =
         let part : offer.part ≡ name = (let e : Some offer.part ≡ Some name = sym (ap group_of_mail body) ∙ of in cc) in
         let q = question_stage name tx offer.coord false offer.by mail.to now under.stage under.untouched.stands
         (errand_way (Question tx offer.coord false offer.by mail.to) (ap (errand_by mail.from mail.to) body ∙ ap (λ n. Some (n, Question tx offer.coord false offer.by mail.to)) part)) in
-        (plain_at (Some r) here, subst (λ n. Points chart.ways n r) (sym part) (question_points tx offer.coord false offer.by mail.to q r here), question_asks tx offer.coord false offer.by mail.to q ∙ ap (λ n. Some (n, false)) (sym part))
-    needs_some r here (TxVote tx coord part vote) body = plain_at (Some r) here
-    needs_some r here (TxOutcome tx part outcome) body = plain_at (Some r) here
+        (subst IsPlainAt here k.plain, subst (λ n. Points chart.ways n r) (sym part) (question_points tx offer.coord false offer.by mail.to q r here), question_asks tx offer.coord false offer.by mail.to q ∙ ap (λ n. Some (n, false)) (sym part))
+    needs_some r here (TxVote tx coord part vote) body = subst IsPlainAt here k.plain
+    needs_some r here (TxOutcome tx part outcome) body = subst IsPlainAt here k.plain
     needs_some r here (TxElsewhere tx coord hint) body = asks_there tx coord hint body r here
     needs_some r here (TxWatch tx watch) body =
         let part : watch.part ≡ name = (let e : Some watch.part ≡ Some name = sym (ap group_of_mail body) ∙ of in cc) in
         let q = question_stage name tx watch.coord true watch.by mail.to now under.stage under.untouched.stands
         (errand_way (Question tx watch.coord true watch.by mail.to) (ap (errand_by mail.from mail.to) body ∙ ap (λ n. Some (n, Question tx watch.coord true watch.by mail.to)) part)) in
-        (plain_at (Some r) here, subst (λ n. Points chart.ways n r) (sym part) (question_points tx watch.coord true watch.by mail.to q r here), question_asks tx watch.coord true watch.by mail.to q ∙ ap (λ n. Some (n, true)) (sym part))
-    needs_some r here (TxWatched tx coord part vote) body = plain_at (Some r) here
+        (subst IsPlainAt here k.plain, subst (λ n. Points chart.ways n r) (sym part) (question_points tx watch.coord true watch.by mail.to q r here), question_asks tx watch.coord true watch.by mail.to q ∙ ap (λ n. Some (n, true)) (sym part))
+    needs_some r here (TxWatched tx coord part vote) body = subst IsPlainAt here k.plain
     needs_some r here _ body = tt
 
     needs : NeedsAt chart.ways (replica_of name node.replicas) mail.body

@@ -8,7 +8,6 @@ use Rattle.sc_actor.specs.declared.rows.Event.TheVariants.{Told}
 use Rattle.sc_actor.specs.declared.rows.Input.TheVariants.{Told as ToldInput}
 use Rattle.sc_actor.specs.Definitions.{value, numbers_of, row_of}
 use Rattle.sc_actor.proofs.Lemmas.{lawful-prefix}
-use Rattle.sc_client_table.specs.table.Definitions.{Client as ClientState}
 use Rattle.sc_words.specs.declared.commands.orders.Order.TheVariants as An
 use Rattle.sc_node_table.specs.Definitions.{NodeState, group_of_order, on_order, ordered_of, replica_of, ordered_command, ordered_row, untaken, ReplicaState, born_replica, listed, slots_ahead}
 use Rattle.sc_law_entries.specs.names.Definitions.{NodesHaveNames, OtherNamesAreFree, TakenOrdersAreAllowed, TakenWishesAreAllowed, WishesAreAtPositions}
@@ -134,9 +133,6 @@ module _ (words : ℕ → ℕ → ℕ × ℕ) (scenario : Scenario) (first : Bas
         same_here : view_at (births as_nodes scenario) next group seat.who ≡ view_at (births as_nodes scenario) quiet group seat.who → Done
         same_here e = same_not (ap (view_at all next group) here ∙ (e ∙ ap (view_at all quiet group) (sym here)))
 
-        of_client : (client : ClientState) → value player_table seat quiet ≡ Client client → Done
-        of_client client is = absurd (none_some (sym (view_is all quiet seat (Told line) group t.seated (Client client) is (Some (ToldInput line)) refl) ∙ now_here))
-
         module _ (node : NodeState) (is : value player_table seat quiet ≡ Node node) where
           refused : replica_of (group_of_order line.order) node.replicas ≡ None → Done
           refused none =
@@ -202,7 +198,7 @@ module _ (words : ℕ → ℕ → ℕ × ℕ) (scenario : Scenario) (first : Bas
           by_replica (Some x) e = at_replica x e
 
         by_player : (player : Player) → value player_table seat quiet ≡ player → Done
-        by_player (Client client) is = of_client client is
+        by_player (Client client) is = absurd (none_some (sym (view_is all quiet seat (Told line) group t.seated (Client client) is (Some (ToldInput line)) refl) ∙ now_here))
         by_player (Node node) is = by_replica node is (replica_of (group_of_order line.order) node.replicas) refl
 
       at_chief : Done

@@ -18,7 +18,7 @@ use Rattle.sc_live_journals.specs.rows.Definitions.{view_at, with_event}
 use Rattle.sc_live_journals.proofs.RowsProofs.Lemmas.{view_was}
 use Rattle.sc_live_journals.specs.mail.Definitions.{SlotsAreLeft, ReplicasLast, MailMayCome}
 use Rattle.sc_live_journals.specs.logs.Definitions.{ViewsAreReplicas, SlotsHaveRosters, logged_sets}
-use Rattle.sc_live_answers.specs.Definitions.{ReplicasRunLogs, IsUnsettled, IsNamedGuide, NewestStay, WellLedLeadAlone, IsOrdersRow, OrdersRowsFind, OrdersRowsMeet, IsQuietWhileYoung, IsSentStep, NextRowsAreSent, SentReplicas, IsNoRequest, IsPlainAt, over_at, slot_leaders_at, NextRowsRise, IsRisingOn, IsRoundSince, OrdersKeepRounds, PrefixesAreFound, NoMailForStrangers, IsCalmJournal, AreSent, ContinuesBy, IsNamedGroup, IsUnder, IsYoungAt, AllLeadAlone, IsKnownMail, OrderRowsFindCalm, ViewsAgree, ChildrenAreCreated, IsWorkingRow, ChildrenWereNowhere, IsUnanswered, YoungGroupsStay, AreSeen, IsTrueSince, LeadsSince, EntriesAreTrue, MailComesUnsettled, TakesSince, IsHinted, CoordinatorsAreHinted, HintedOrdersGoOn, AreSettled, CoordinatorsAreSettled, SettledOrdersGoOn, EndingGroupsGoOn, IsGoingSince, NamesStayFew, NoneWaits, AskedGroupsStood, ContinuesSince, TrueOrdersGoOn, IsGuidedRow, DeliveriesKeepWork, WorkStandsAlone, FlightsAreEntries, OrderErrandsGoToNodes, IsOfJournal, IsOrderedSince, DeliveriesKeepOrdered, TakersAreNodes, LawfulReplicasAreNamedOnce, IsTrueEntry, Does, HasNumber, LockNumber, IsRefusalSent, IsReported, IsGiven, IsOrderHeld, IsPrefixOf}
+use Rattle.sc_live_answers.specs.Definitions.{ReplicasRunLogs, IsUnsettled, IsNamedGuide, NewestStay, WellLedLeadAlone, IsOrdersRow, OrdersRowsFind, OrdersRowsMeet, IsSentStep, NextRowsAreSent, SentReplicas, IsNoRequest, IsPlainAt, over_at, slot_leaders_at, NextRowsRise, IsRisingOn, IsRoundSince, OrdersKeepRounds, PrefixesAreFound, NoMailForStrangers, IsCalmJournal, AreSent, ContinuesBy, IsNamedGroup, IsUnder, IsYoungAt, AllLeadAlone, IsKnownMail, OrderRowsFindCalm, ViewsAgree, ChildrenAreCreated, IsWorkingRow, ChildrenWereNowhere, IsUnanswered, YoungGroupsStay, AreSeen, IsTrueSince, LeadsSince, EntriesAreTrue, MailComesUnsettled, TakesSince, IsHinted, CoordinatorsAreHinted, HintedOrdersGoOn, AreSettled, CoordinatorsAreSettled, SettledOrdersGoOn, EndingGroupsGoOn, IsGoingSince, NamesStayFew, NoneWaits, AskedGroupsStood, ContinuesSince, TrueOrdersGoOn, IsGuidedRow, DeliveriesKeepWork, WorkStandsAlone, FlightsAreEntries, OrderErrandsGoToNodes, IsOfJournal, IsOrderedSince, DeliveriesKeepOrdered, TakersAreNodes, LawfulReplicasAreNamedOnce, IsTrueEntry, Does, HasNumber, LockNumber, IsRefusalSent, IsReported, IsGiven, IsOrderHeld, IsPrefixOf}
 use Rattle.sc_live_journals.specs.scenes.Definitions.{IsThere, IsNowhere, AreUntouched, IsDelivered, FreshGroupsStay, FindsOrder, GoesBy, StageAfter, IsTaking, LeadsAlone, scene_at}
 use Rattle.sc_live_steps.specs.entries.LoneEntries.{IsEntry}
 use Rattle.sc_live_journals.specs.charts.Definitions.{chart_at, quiet_prefix}
@@ -26,7 +26,7 @@ use Rattle.sc_live_plain.specs.Definitions.{replicas_after, DoHintsRise}
 use Rattle.sc_live_plain.proofs.Lemmas.{each_numbered}
 use Rattle.sc_client_table.specs.table.Definitions.{Client as ClientState}
 use Rattle.sc_live_answers.proofs.GroupsProofs.GuidedGroups as at_row
-use Rattle.sc_live_answers.proofs.GroupsProofs.GuidedGroups.{named_there, lead_alone}
+use Rattle.sc_live_answers.proofs.GroupsProofs.GuidedGroups.{AreQuietWhileYoung, named_there, lead_alone}
 use Rattle.sc_live_answers.proofs.OrdersProofs.ClientsUnderOrders.{started_still, other_stays}
 use Rattle.sc_live_answers.proofs.ReplicasProofs.PlayerReplicas.{place_of}
 use Rattle.sc_live_answers.proofs.ErrandsProofs.SentMailGroups.{known_after}
@@ -68,7 +68,7 @@ module _ (all_bounded : ValidScenariosAreBounded) (few_law : SlotsAreLeft) (logs
   abbrev under : IsUnder words scenario first journal quiet rows
   under = o.under
 
-  young : (base : Base) → Among base (groups_at as_nodes scenario.groups journal) → IsQuietWhileYoung words all rows base
+  young : AreQuietWhileYoung words scenario journal rows
   young = at_row.young_quiet last_law no_law words scenario first journal quiet rows o.behind seat number calm o.rows_are under on
 
   guide_of : (name : Draw) → IsNamedGroup scenario journal name → IsNamedGuide words all rows seat (Deliver number) name

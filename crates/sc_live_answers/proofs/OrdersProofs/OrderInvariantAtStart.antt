@@ -15,11 +15,11 @@ use Rattle.sc_live_steps.specs.orders.Definitions.{Stage, Still}
 use Rattle.sc_live_journals.specs.rows.Definitions.{view_at, marks_at, IsSeat, with_event}
 use Rattle.sc_live_journals.specs.mail.Definitions.{SlotsAreLeft}
 use Rattle.sc_live_journals.specs.logs.Definitions.{ViewsAreReplicas, SlotsHaveRosters, logged_sets}
-use Rattle.sc_live_answers.specs.Definitions.{ReplicasRunLogs, IsNamedGuide, IsReachedSo, NewestStay, IsOrdersRow, OrdersRowsFind, IsQuietWhileYoung, IsSentStep, NextRowsAreSent, SentReplicas, over_at, slot_leaders_at, NextRowsRise, IsRisingOn, IsRoundSince, OrdersKeepRounds, PrefixesAreFound, IsFoundPrefix, NoMailForStrangers, GoesToNode, OrderErrandsGoToNodes, NodeErrandsReachPlayers, IsCalmJournal, IsPrefixOf, AreSent, IsNamedGroup, RestsAt, IsUnder, IsYoungAt, GivenOrdersFindCalm, ViewsAgree, ChildrenAreCreated, YoungGroupsStay, TrueOrdersBegin, EndingGroupsBegin, NamesStayFew, NoneWaits, IsHinted, HintedOrdersBegin, SettledOrdersBegin, AreSeen, OrdersBeginWork, WorkStandsAlone, IsOrderedSince, OrdersBeginOrdered, IsGiven}
-use Rattle.sc_live_journals.specs.scenes.Definitions.{IsNowhere, AreUntouched, IsGivenInQuiet, FreshGroupsStay, FindsOrder, FoundOrdersStep, StageAfter}
+use Rattle.sc_live_answers.specs.Definitions.{ReplicasRunLogs, IsNamedGuide, IsReachedSo, NewestStay, IsOrdersRow, OrdersRowsFind, IsSentStep, NextRowsAreSent, SentReplicas, over_at, slot_leaders_at, NextRowsRise, IsRisingOn, IsRoundSince, OrdersKeepRounds, PrefixesAreFound, IsFoundPrefix, NoMailForStrangers, GoesToNode, OrderErrandsGoToNodes, NodeErrandsReachPlayers, IsCalmJournal, IsPrefixOf, AreSent, IsNamedGroup, RestsAt, IsUnder, GivenOrdersFindCalm, ViewsAgree, ChildrenAreCreated, YoungGroupsStay, TrueOrdersBegin, EndingGroupsBegin, NamesStayFew, NoneWaits, IsHinted, HintedOrdersBegin, SettledOrdersBegin, AreSeen, OrdersBeginWork, WorkStandsAlone, IsOrderedSince, OrdersBeginOrdered, IsGiven}
+use Rattle.sc_live_journals.specs.scenes.Definitions.{AreUntouched, IsGivenInQuiet, FreshGroupsStay, FindsOrder, FoundOrdersStep, StageAfter}
 use Rattle.sc_live_journals.specs.charts.Definitions.{chart_at}
 use Rattle.sc_live_answers.proofs.GroupsProofs.GuidedGroups as at_row
-use Rattle.sc_live_answers.proofs.GroupsProofs.GuidedGroups.{named_there, reached_even, lead_alone}
+use Rattle.sc_live_answers.proofs.GroupsProofs.GuidedGroups.{AreQuietWhileYoung, named_there, reached_even, lead_alone}
 use Rattle.sc_live_answers.proofs.OrdersProofs.ClientsUnderOrders.{started_still, told_stays}
 use Rattle.sc_live_answers.proofs.ErrandsProofs.SentMailGroups.{known_told}
 use Rattle.sc_group_table.specs.policy.Definitions.{is_reported as is_told_order}
@@ -50,7 +50,7 @@ module _ (all_bounded : ValidScenariosAreBounded) (few_law : SlotsAreLeft) (logs
   strangers : (name : Draw) (who : ℕ) → is_born s who ≡ false → marks_at s quiet name who ≡ []
   strangers = no_law.strangers words scenario journal quiet calm rests.prefix rests.sent
 
-  young : (base : Base) → Among base (groups_at as_nodes scenario.groups journal) → IsQuietWhileYoung words all quiet base
+  young : AreQuietWhileYoung words scenario journal quiet
   young base among who member absent = none_pending no_law words scenario first journal quiet calm rests base.core.id who
 
   abbrev reached : (base : Base) (among : Among base (groups_at as_nodes scenario.groups journal)) → IsReachedSo all quiet base (rests.sent base among).course
@@ -105,18 +105,15 @@ module _ (all_bounded : ValidScenariosAreBounded) (few_law : SlotsAreLeft) (logs
   begun : (stage : Stage) × AreUntouched words all quiet then stage
   begun = fresh_law.begins words all quiet seat line told_so
 
-  young_after : (base : Base) → Among base (groups_at as_nodes scenario.groups journal) → IsNowhere all quiet base.core.id → IsYoungAt words all then base
-  young_after base among nowhere = young_law.begins words scenario quiet seat line begun.0 seated timely rests.calm begun.1 base nowhere
-
   under_after : IsUnder words scenario first journal quiet then
   under_after = record {
     rests = rests;
     prefix = prefix;
     sent = sent_after;
-    reached = λ base among. at_row.reached_after few_law logs_law views_law rosters_law next_law newest_law found_law no_law words scenario journal quiet seat (Told line) calm prefix seated timely rests.sent reached young base among (young_after base among);
+    reached = λ base among. at_row.reached_after few_law logs_law views_law rosters_law next_law newest_law found_law no_law words scenario journal quiet seat (Told line) calm prefix seated timely rests.sent reached young base among (young_law.begins words scenario quiet seat line begun.0 seated timely rests.calm begun.1 base);
     stage = begun.0;
     untouched = begun.1;
-    young = young_after;
+    young = λ base among nowhere. young_law.begins words scenario quiet seat line begun.0 seated timely rests.calm begun.1 base nowhere;
   }
 
   steps : (base : Base) (among : Among base (groups_at as_nodes scenario.groups journal))

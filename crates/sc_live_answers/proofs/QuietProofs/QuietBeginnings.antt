@@ -1,5 +1,5 @@
 -- Before the first row of a valid scenario all is quiet.
-use Rattle.std.proofs.Common.{◌≡◌, ℕ, ◌+◌, Bool, true, false, true≢false, cond, List, [], ◌∷◌, ◌++◌, map, filter, replicate, Some, None, inl, inr, refl, sym, ◌∙◌, ap, subst, arith}
+use Rattle.std.proofs.Common.{◌≡◌, ℕ, Bool, true, false, true≢false, cond, List, [], ◌∷◌, ◌++◌, map, filter, replicate, Some, None, inl, inr, refl, sym, ◌∙◌, ap, subst, arith}
 use Rattle.std.proofs.lemmas.Bool.{cond_both, cond-true, eqb-true, eq-eqb}
 use Rattle.sc_base.specs.Definitions.{Among, Each, same_draw, is_member, least_of}
 use Rattle.sc_node_table.specs.Values.{Draw, Base, Core}
@@ -9,7 +9,7 @@ use Rattle.sc_words.proofs.PaxosProofs.Lemmas.{at_least_itself, Each-among, find
 use Rattle.sc_paxos_law.proofs.Lemmas.{from_map}
 use Rattle.sc_group_table.specs.machine.Definitions.{group_of}
 use Rattle.sc_node_table.specs.Definitions.{born_replicas, born_node, replica_of, is_node, ReplicaState, name_of, next, members, first_ballot, born_replica, slots_ahead}
-use Rattle.sc_scenario.specs.scenario.Definitions.{base_at, IsBounded, ValidScenariosAreBounded}
+use Rattle.sc_scenario.specs.scenario.Definitions.{IsBounded, ValidScenariosAreBounded}
 use Rattle.sc_scenario.specs.declared.scenario.scenarios.Asks.{Asks}
 use Rattle.sc_scenario.specs.declared.scenario.scenarios.Scenario.{Scenario}
 use Rattle.sc_meaning.specs.sound.Definitions.{route_of}
@@ -17,6 +17,7 @@ use Rattle.sc_live_steps.specs.calm.Definitions.{View, IsNewest, IsAtRest, IsBel
 use Rattle.sc_live_steps.proofs.CalmProofs.Lemmas.{begin_at_rest, first_leads}
 use Rattle.sc_live_plain.specs.Definitions.{replicas_after, IsQuietJournal, IsOfNodes, IsKept, frame_at_rest, Frame, IsFrame, frame_of, IsBegun, Requests, IsPlainGroup}
 use Rattle.sc_live_plain.proofs.Lemmas.{born_plain, born_found, frames_of, stage, of_groups, IsBefore, parts_of, map_among, round}
+use Rattle.sc_live_journals.proofs.RowsProofs.ScenarioGroups.{named_once}
 use Rattle.sc_live_answers.specs.Definitions.{QuietJournalsBegin}
 
 -- the replicas of a node are those of the groups of which it is a member
@@ -49,14 +50,6 @@ module _ (words : ℕ → ℕ → ℕ × ℕ) (scenario : Scenario) (bounded : I
     named : base.core.id ≡ group
     is : r ≡ born node base
 
-  same_base : (one other : Base) → Among one scenario.groups → Among other scenario.groups → one.core.id ≡ other.core.id → one ≡ other
-  same_base one other a b e =
-      let x = of_groups scenario bounded one a in
-      let y = of_groups scenario bounded other b in
-      let names : x.0 + 1 ≡ y.0 + 1 = ap (λ (base : Base). base.core.id.count) x.2 ∙ (ap (λ (d : Draw). d.count) e ∙ sym (ap (λ (base : Base). base.core.id.count) y.2)) in
-      let k : x.0 ≡ y.0 = omega (arith, names) in
-      sym x.2 ∙ (ap (λ n. base_at bounded.starts n) k ∙ y.2)
-
   born_is : (group : Draw) (node : ℕ) (r : ReplicaState) → replica_of group (born_replicas slots_ahead node scenario.groups) ≡ Some r → IsBornOf group node r
   born_is group node r e =
       let f = find_found (λ (x : ReplicaState). same_draw (name_of x) group) (born_replicas slots_ahead node scenario.groups) r e in
@@ -82,7 +75,7 @@ module _ (words : ℕ → ℕ → ℕ × ℕ) (scenario : Scenario) (bounded : I
   there base node a m =
       let f = born_found node scenario.groups base a m in
       let b = born_is base.core.id node (born node f.0) f.1 in
-      let same = same_base b.base base b.among a b.named in
+      let same = named_once scenario bounded b.base base b.among a b.named in
       cond-true (is_node node) (replica_of base.core.id (born_replicas slots_ahead node scenario.groups)) None ((frame_is base a).nodes 0 node m) ∙ (f.1 ∙ ap Some (b.is ∙ ap (born node) same))
 
   module _ (base : Base) (a : Among base scenario.groups) where
@@ -93,7 +86,7 @@ module _ (words : ℕ → ℕ → ℕ × ℕ) (scenario : Scenario) (bounded : I
     mine = (frame_is base a).leads
 
     of_base : (node : ℕ) (r : ReplicaState) → at base.core.id node ≡ Some r → r ≡ born node base
-    of_base node r e = (let b = at_is base.core.id node r e in b.is ∙ ap (born node) (same_base b.base base b.among a b.named))
+    of_base node r e = (let b = at_is base.core.id node r e in b.is ∙ ap (born node) (named_once scenario bounded b.base base b.among a b.named))
 
     newest : IsNewest at base.core.id (born base.core.first base)
     newest = record {

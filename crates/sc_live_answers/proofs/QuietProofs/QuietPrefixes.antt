@@ -1,10 +1,10 @@
 -- What is known of a prefix of a lawful journal.
-use Rattle.std.proofs.Common.{◌≡◌, ℕ, ◌≤◌, ◌+◌, ◌<◌, ◌&&◌, leb, eqb, Bool, true, zero, suc, List, [], ◌∷◌, ◌++◌, map, Option, Some, None, inl, inr, refl, sym, ◌∙◌, ap, subst, arith}
+use Rattle.std.proofs.Common.{◌≡◌, ℕ, ◌≤◌, ◌+◌, ◌<◌, ◌&&◌, leb, eqb, Bool, zero, suc, List, [], ◌∷◌, ◌++◌, map, Option, Some, None, inl, inr, refl, sym, ◌∙◌, ap, subst, arith}
 use Rattle.std.specs.Prelude.{find}
 use Rattle.std.proofs.lemmas.Bool.{cases_Bool, cond_both, cond-true, eqb-true, eq-eqb, and_from, and_parts, le-leb, leb-true, both_ways}
 use Rattle.std.proofs.lemmas.Option.{none-some}
 use Rattle.sc_base.specs.Definitions.{Among, most_nodes, same_draw}
-use Rattle.sc_node_table.specs.Values.{Draw, Base, Node, Client, Seat}
+use Rattle.sc_node_table.specs.Values.{Draw, Base, Node, Client, Seat, OrderLine, Mail, Input, Row}
 use Rattle.sc_base.proofs.Lemmas.{draw_is}
 use Rattle.sc_actor.specs.Definitions.{value}
 use Rattle.sc_actor.proofs.Lemmas.{lawful-prefix}
@@ -19,6 +19,7 @@ use Rattle.sc_law_entries.specs.logs.Definitions.{Rows, DecideInTurn}
 use Rattle.sc_law_entries.proofs.LogsProofs.Lemmas.{deciding_rows_stay}
 use Rattle.sc_law_entries.specs.names.Definitions.{OtherNamesAreFree, TakenOrdersAreAllowed, TakenWishesAreAllowed, WishesAreAtPositions}
 use Rattle.sc_law_groups.specs.whole.Definitions.{ValidScenariosBeginWell, ValidJournalsAreSound}
+use Rattle.sc_live_plain.proofs.PlainProofs.PlainSteps.{node_in}
 use Rattle.sc_live_plain.specs.Definitions.{replicas_after, replicas_of}
 use Rattle.sc_live_journals.specs.rows.Definitions.{replicas_of as view_replicas, replica_in, view_at}
 use Rattle.sc_live_answers.specs.Definitions.{AreAtNodes, IsPrefixOf, IsOfGroup, IsFoundPrefix, PrefixesAreFound}
@@ -73,14 +74,11 @@ module _ (bounded : ValidScenariosAreBounded) (begin : ValidScenariosBeginWell) 
       subst (Continues (decided_log as_nodes base prefix)) (ap (λ rows. log_at as_nodes scenario.groups rows base.core.id) (sym is.is) ∙ ((found bounded begin allowed wishes positions free words scenario journal valid lawful).known base (later base a)).log)
       (sound.one_log base a).grows
 
-  node_is : (node : ℕ) → 1 ≤ node → node ≤ scenario.nodes → is_node node ≡ true
-  node_is node low high = (let most = (bounded scenario valid).nodes.1 in and_from (leb 1 node) (leb node most_nodes) (le-leb 1 node low) (le-leb node most_nodes (omega (arith, high, most))))
-
   abbrev player : ℕ → Player
   player node = value player_table (node_seat as_nodes scenario.groups scenario.policy node) prefix
 
   is_there : (name : Draw) (node : ℕ) → 1 ≤ node → node ≤ scenario.nodes → replicas_after scenario prefix name node ≡ replica_of name (replicas_of (player node))
-  is_there name node low high = cond-true (is_node node) (replica_of name (replicas_of (player node))) None (node_is node low high)
+  is_there name node low high = cond-true (is_node node) (replica_of name (replicas_of (player node))) None (node_in scenario.nodes node (bounded scenario valid).nodes.1 low high)
 
   replicas : (name : Draw) (node : ℕ) (r : ReplicaState) → replicas_after scenario prefix name node ≡ Some r → IsOfGroup scenario prefix name r
   replicas name node r e =

@@ -13,7 +13,8 @@ use Rattle.sc_meaning.specs.sound.Definitions.{Player, player_table}
 use Rattle.sc_live_steps.specs.calm.Definitions.{players, Rows}
 use Rattle.sc_live_steps.specs.following.Definitions.{mark_of, Sets, Tellers}
 use Rattle.sc_live_journals.specs.rows.Definitions.{view_at, mark_in, taken_mark, begun_course, TakesMail, HoldsReplica, IsSeat, with_event, IsReplicasRow, LeavesAlone, LeavesOrCreates}
-use Rattle.sc_live_journals.proofs.RowsProofs.Lemmas.{others_idle, rows_replicas, view_was, Plays, Found, found_well, replay_well}
+use Rattle.sc_live_journals.proofs.GroupsProofs.JournalEvents.{holds_of}
+use Rattle.sc_live_journals.proofs.RowsProofs.Lemmas.{others_idle, rows_replicas, view_was, Plays, replay_well}
 use Rattle.sc_live_journals.specs.groups.Definitions.{Ends, IsLogsState, AreWellBorn, Delivers, HasOneLog, IsSentSo}
 use Rattle.sc_live_answers.proofs.BallotsProofs.WellPlayers.{plays_of}
 
@@ -65,9 +66,6 @@ module _ (at : Sets) (over : Ends) (by : Tellers) (words : ℕ → ℕ → ℕ �
     plays : Plays seat.who (Node node)
     plays = subst (Plays seat.who) is (replay_well seat.who seat.who rows seat.actor [] (plays_of seat.who seat.actor (wb.well seat born)))
 
-    holds : (r : ReplicaState) → replica_of name node.replicas ≡ Some r → HoldsReplica seat node base r
-    holds r here = record { here = here; well = subst (Found seat.who) here (found_well seat.who name node.replicas plays.1) }
-
     view_of : (o : Option ReplicaState) → replica_of name node.replicas ≡ o → view_at births rows name seat.who ≡ o
     view_of o here = view_was births rows seat Go name born (Node node) is ∙ here
 
@@ -98,7 +96,7 @@ module _ (at : Sets) (over : Ends) (by : Tellers) (words : ℕ → ℕ → ℕ �
           delivers = d;
           takes = record { timely = timely; sent = d.sent; comes = comes };
           group = group;
-          has = holds r here;
+          has = holds_of seat node base plays r here;
           row_ = rows_replicas.taken births rows seat number mail name node r born is d.sent comes group here;
         })
         | inr barred ↦ elim (so.comes rows seat number mail d) [

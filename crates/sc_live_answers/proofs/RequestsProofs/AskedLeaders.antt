@@ -15,9 +15,9 @@ use Rattle.sc_words.proofs.PaxosProofs.Lemmas.{Each-among}
 use Rattle.sc_client_table.specs.table.Definitions.{Client as ClientState, waiting_request, ClientStep, asked_of, sent_to, sent_where, chosen_for, request_sent, started, waits_for, was_asked, redirected, answer_taken, got}
 use Rattle.sc_scenario.specs.declared.scenario.scenarios.Asks.{Asks}
 use Rattle.sc_live_plain.specs.Definitions.{IsLinkedSetting, IsCalmClient, start_of, start_known, Setting, IsSetting, IsCalmMail, Frame, IsWaiting, IsBegun, Requests}
-use Rattle.sc_live_plain.proofs.Lemmas.{name_in, id_of, gap, learn_in_turn, chosen_is, some_is, map_among, near_behind, started_names as starting_names}
+use Rattle.sc_live_plain.proofs.Lemmas.{calm_says, CalmSays, name_in, id_of, gap, learn_in_turn, chosen_is, some_is, map_among, near_behind, started_names as starting_names}
 use Rattle.sc_live_answers.specs.Definitions.{IsLedAt, AsksLeaders, ClientsAskLeaders}
-use Rattle.sc_live_answers.proofs.RequestsProofs.ClientAnswers.{chosen_known, RingKnown, ring_known, alone, Says, says_of, all_led, lacks}
+use Rattle.sc_live_answers.proofs.RequestsProofs.ClientAnswers.{chosen_known, RingKnown, ring_known, alone, all_led, lacks}
 
 -- ---- what is asked of groups, after changes
 
@@ -229,7 +229,7 @@ started_leads set seq client entry one = lone_waits set (started seq client).0 e
 module _ (begun : Requests) (set : Setting) (is : IsSetting set) (linked : IsLinkedSetting set) (asks : Asks) (gone : Bool) (client : ClientState) (k : IsCalmClient set asks gone client) (w : IsWaiting client) (mail : Mail) (m : IsCalmMail begun set mail) (to : mail.to ≡ client_actor client.me)
     (asked_right : (seq : ℕ) (op : Op) → begun client.me seq op → slice_get client.requests (seq - 1) ≡ Some op) (from : mail.from ≡ w.target) (leads : AsksLeaders set client) where
   abbrev SaysIt : AnswerBody → Type 0
-  SaysIt answer = Says begun set is linked asks gone client k w mail m to asked_right from (Answer w.group w.seq answer)
+  SaysIt answer = CalmSays begun set mail.from mail.to (Answer w.group w.seq answer)
 
   abbrev Leads : ClientStep → Type 0
   Leads step = AsksLeaders set step.0
@@ -305,7 +305,7 @@ module _ (begun : Requests) (set : Setting) (is : IsSetting set) (linked : IsLin
   pub answer_leads : (answer : AnswerBody) → mail.body ≡ Answer w.group w.seq answer → AsksLeaders set (got mail.from mail.body client).0
   answer_leads answer e =
       subst (λ (b : MailBody). Leads (got mail.from b client)) (sym e)
-      (cond_both (waits_for client.waiting w.seq) (answer_taken mail.from w.group w.seq answer client) (client, []) Leads (λ _. taken answer (says_of begun set is linked asks gone client k w mail m to asked_right from (Answer w.group w.seq answer) e)) (λ _. leads))
+      (cond_both (waits_for client.waiting w.seq) (answer_taken mail.from w.group w.seq answer client) (client, []) Leads (λ _. taken answer (calm_says begun set mail m (Answer w.group w.seq answer) e)) (λ _. leads))
 
 -- Clients go on to ask leaders: of each group that one knows, but for that which it asked last, it would ask the node that leads, once it goes and by each answer that it waits for.
 pub ask_leaders : ClientsAskLeaders

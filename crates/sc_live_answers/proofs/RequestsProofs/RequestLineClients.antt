@@ -137,7 +137,7 @@ module _ (words : ℕ → ℕ → ℕ × ℕ) (scenario : Scenario) (begins : Is
           let c = j.clients asks a in
           let same : b.asks ≡ asks = begins.once b.asks asks b.is_asks a (b.client_is ∙ (let k = e in omega (arith, k))) in
           let first : b.first ≡ begins.first = (let k : b.first ∷ b.others ≡ begins.first ∷ begins.others = sym b.groups_are ∙ begins.groups_are in cc) in
-          let none = unasked set asks c.client (subst (λ g. IsCalmClient set asks g c.client) not_gone c.calm).state in
+          let none = unasked c.client (subst (λ g. IsCalmClient set asks g c.client) not_gone c.calm).state in
           let player : value player_table (client_seat (route_of b.first) b.asks) rows ≡ Client c.client = ap (λ (x : Asks). value player_table (client_seat (route_of b.first) x) rows) same ∙ (ap (λ (x : Base). value player_table (client_seat (route_of x) asks) rows) first ∙ c.is) in
           let count = ap begun_of player in
           let waits = ap waiting_ones none.0 in

@@ -13,6 +13,7 @@ use Rattle.sc_scenario.specs.declared.scenario.scenarios.Scenario.{Scenario}
 use Rattle.sc_scenario.specs.scenario.Definitions.{ValidScenariosAreBounded}
 use Rattle.sc_meaning.specs.sound.Definitions.{Player, player_table, node_seat, client_seat, route_of, births, system_of, as_nodes}
 use Rattle.sc_live_orderly.specs.Definitions.{IsTidy, IsOrderly, IsInOrder, owed}
+use Rattle.sc_live_plain.proofs.PlainProofs.BegunRequestCounts.{begun_right}
 use Rattle.sc_live_plain.specs.Definitions.{IsAsking, AreFarFromLast, AreRequests, AreSeated, NobodyWaits, IsLinkedSetting, Setting, IsSetting}
 use Rattle.sc_live_plain.proofs.CalmProofs.RequestPhaseClients as clients_of
 use Rattle.sc_live_plain.proofs.Lemmas.{AreSought, IsStage, stage, node_number, client_number, value_others, Journal, of_player, client_is}
@@ -57,7 +58,7 @@ module _ (words : ℕ → ℕ → ℕ × ℕ) (scenario : Scenario) (begins : Is
           let answer = first_is words scenario begins set is linked seated rows t j h.sought asks a (h.few asks a) number fine c.client c.is first.mail first.sent in
           subst (AsksLeaders set) (client_is (sym became ∙ v))
           (ask_leaders.takes scenario rows set asks (has_started rows (client_actor asks.client)) c.client first.mail is linked c.calm (clients_of.is_calm words scenario begins set is linked rows t j asks a born number fine) (first.receiver ∙ ap client_actor (sym c.calm.me_is))
-          (clients_of.asked_right words scenario begins set is linked rows t j asks a born number fine) (h.leads asks c.client a c.is) answer)
+          (begun_right scenario rows begins.once asks a c.client c.calm.me_is c.calm.requests_are) (h.leads asks c.client a c.is) answer)
       own_leads Go fine client v =
           let c = clients_of.c words scenario begins set is linked rows t j asks a born in
           let step = table c.client GoInput in

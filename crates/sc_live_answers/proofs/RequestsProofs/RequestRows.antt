@@ -1,8 +1,7 @@
 -- Each row of a line of requests finds what it needs.
-use Rattle.std.proofs.Common.{◌≡◌, ℕ, ◌-◌, ◌≤◌, eqb, List, ◌∷◌, ◌++◌, find, Some, inl, inr, refl, sym, ◌∙◌, ap, subst}
-use Rattle.std.specs.Prelude.{slice_get}
+use Rattle.std.proofs.Common.{◌≡◌, ℕ, ◌≤◌, eqb, ◌∷◌, ◌++◌, find, Some, inl, inr, refl, sym, ◌∙◌, ap, subst}
 use Rattle.sc_base.specs.Definitions.{Among, Each, client_actor}
-use Rattle.sc_node_table.specs.Values.{Op, Base, OrderLine, Mail, Node, Client, Seat, Event, Deliver, Go}
+use Rattle.sc_node_table.specs.Values.{Base, OrderLine, Mail, Node, Client, Seat, Event, Deliver, Go}
 use Rattle.sc_actor.specs.Definitions.{mails, numbered, value, row_of, has_started, waiting, kth}
 use Rattle.sc_client_table.specs.table.Definitions.{Client as ClientState}
 use Rattle.sc_scenario.specs.declared.scenario.scenarios.Asks.{Asks}
@@ -12,8 +11,8 @@ use Rattle.sc_meaning.specs.sound.Definitions.{Player, player_table, births, nod
 use Rattle.sc_live_orderly.specs.Definitions.{IsTidy, IsOrderly, IsInOrder}
 use Rattle.sc_live_orderly.proofs.Lemmas.{TakesFirst, takes_first, is_born-from}
 use Rattle.sc_live_steps.specs.calm.Definitions.{Chart, IsCalmFor, MayGoNow, FindsCalm, led_elsewhere}
+use Rattle.sc_live_plain.proofs.PlainProofs.BegunRequestCounts.{begun_right}
 use Rattle.sc_live_plain.specs.Definitions.{IsAskingNode, IsAskingClient, IsAsking, AreFarFromLast, IsLinkedSetting, IsCalmClient, Setting, IsSetting, IsCalmMail, IsBegun}
-use Rattle.sc_live_plain.proofs.PlainProofs.PlainSteps.{same_client}
 use Rattle.sc_live_plain.proofs.CalmProofs.RequestPhaseNodes as turns_of
 use Rattle.sc_live_plain.proofs.Lemmas.{IsStage, stage, Journal, of_player}
 use Rattle.sc_live_answers.specs.Definitions.{CountsAs, AreReached, AllAskLeaders, IsAnswerTo, AnswersAreHeardCalmly, ClientsGoCalmly, AnswersAreExpected, LinesAskLeaders, NodesMayPump, AreNear, RequestRowsFindCalm}
@@ -59,11 +58,6 @@ module _ (heard : AnswersAreHeardCalmly) (goes : ClientsGoCalmly) (words : ℕ �
     abbrev c : IsAskingClient scenario set begins.first rows asks
     c = j.clients asks a
 
-    known_op : (seq : ℕ) (op : Op) → IsBegun scenario rows c.client.me seq op → slice_get c.client.requests (seq - 1) ≡ Some op
-    known_op seq op b =
-        let same = same_client scenario begins asks b.asks a b.is_asks (ap client_actor (b.client_is ∙ c.calm.me_is)) in
-        ap (λ (ops : List Op). slice_get ops (seq - 1)) (c.calm.requests_are ∙ ap (λ (x : Asks). x.ops) (sym same)) ∙ b.op_is
-
     client_takes : (number : ℕ) → kth (waiting (system_of as_nodes words scenario) rows (Some (client_actor asks.client))) 1 ≡ Some number → (mail : Mail) → numbered (mails rows) number ≡ Some mail
         → IsCalmFor chart (led_elsewhere (births as_nodes scenario) rows (client_actor asks.client)) mail (value player_table (cseat asks) rows)
     client_takes number fine mail sent =
@@ -76,7 +70,7 @@ module _ (heard : AnswersAreHeardCalmly) (goes : ClientsGoCalmly) (words : ℕ �
         (heard scenario rows set chart (led_elsewhere (births as_nodes scenario) rows (client_actor asks.client)) asks (has_started rows (client_actor asks.client)) c.client mail is linked reached counts c.calm
         (subst (IsCalmMail (IsBegun scenario rows) set) same calm)
         (ap (λ (m : Mail). m.to) (sym same) ∙ (first.receiver ∙ ap client_actor (sym c.calm.me_is)))
-        known_op (leads asks c.client a c.is) (expects asks c.client number mail a c.is fine sent))
+        (begun_right scenario rows begins.once asks a c.client c.calm.me_is c.calm.requests_are) (leads asks c.client a c.is) (expects asks c.client number mail a c.is fine sent))
 
     client_finds : (event : Event OrderLine) → IsInOrder (system_of as_nodes words scenario) rows (client_actor asks.client) event → FindsCalm chart (births as_nodes scenario) rows (cseat asks) event
     client_finds (Deliver number) fine = client_takes number fine

@@ -4,8 +4,8 @@ use Rattle.std.proofs.lemmas.Bool.{cases_Bool, eqb-true}
 use Rattle.std.specs.Prelude.{is_none}
 use Rattle.sc_node_table.specs.Values.{Seat, Deliver, Ballot, Draw, Command, Begin, Call, Finish, GiveUp, Join, Leave, Noop, Prepared, RecordVote, RecordWatch, Split, Watched, Base, Free, Mail, Accepted, Flight}
 use Rattle.sc_base.specs.Definitions.{Among, Each, least_of}
-use Rattle.sc_live_answers.proofs.MailProofs.FollowerMail.{row_here}
-use Rattle.sc_live_answers.proofs.MailProofs.LeaderMail.{free_of, here_view, leads, leads_alone, named_so, takes, the_scene, works_one}
+use Rattle.sc_live_answers.proofs.MailProofs.FollowerMail.{view_here, row_here}
+use Rattle.sc_live_answers.proofs.MailProofs.LeaderMail.{free_of, leads, leads_alone, named_so, takes, the_scene, works_one}
 use Rattle.sc_live_answers.proofs.BallotsProofs.NewestReplicas.{newest_after, stopped_newest}
 use Rattle.sc_live_answers.specs.Definitions.{IsHere, IsGuided, IsOrdersAlone, IsTrueEntry, StagesExpectWork, VotesAreFound, WorkExpects}
 use Rattle.sc_live_journals.specs.groups.Definitions.{IsSlotKept}
@@ -140,7 +140,7 @@ module _ (words : ℕ → ℕ → ℕ × ℕ) (births : List (Seat Player)) (row
     newest_is : (bond : Bond) → bond_of (applied r.group flight.value).0.core ≡ bond → after.0.running ≡ false → NewestAreBound births (with_event rows seat (Deliver number)) base.core.id bond
     newest_is bond leaves stops =
         let row = row_here words births rows seat number mail base node r h in
-        let there : IsThere births rows base.core.id = (seat.who, r, here_view words births rows seat number mail base node r h runs) in
+        let there : IsThere births rows base.core.id = (seat.who, r, view_here words births rows seat number mail base node r h) in
         let last = stopped_newest words births rows seat (Deliver number) base g h.taking.timely r after row runs stops in
         let same : g.bonds g.step.later.newest ≡ bond = ap g.bonds last ∙ (sym (g.is_bound seat.who after.0 row.is) ∙ (ap (λ (x : Group). bond_of x.core) (execution stops) ∙ leaves)) in
         subst (NewestAreBound births (with_event rows seat (Deliver number)) base.core.id) same (newest_after words births rows seat (Deliver number) base g h.taking.timely there)
@@ -233,7 +233,7 @@ module _ (words : ℕ → ℕ → ℕ × ℕ) (births : List (Seat Player)) (row
         let work : IsWork flight.value = Each-among (λ (x : Flight Command). IsWork x.value) r.leader.flights flight lone.flights f.0 in
         let so : IsTrueEntry r.me r.group flight.value = Each-among (λ (x : Flight Command). IsTrueEntry r.me r.group x.value) r.leader.flights flight are_true f.0 in
         let low : next r ≤ flight.slot = Each-among (λ (x : Flight Command). next r ≤ x.slot) r.leader.flights flight kept.0.0.0 f.0 in
-        let acts : ActsAlone g.course r = order_is_kept.alone g.at g.course r lead.led (g.led.orderly seat.who r (here_view words births rows seat number mail base node r h runs) runs) in
+        let acts : ActsAlone g.course r = order_is_kept.alone g.at g.course r lead.led (g.led.orderly seat.who r (view_here words births rows seat number mail base node r h) runs) in
         let bound : g.course.bound ≡ next r + 1 = acts slot flight.value (omega (arith, low, at_slot)) (inl (ap (option_map (λ (x : Flight Command). x.value)) e)) (work_act flight.value work.0 work.1) in
         let place : flight.slot ≡ next r = (let top = known_slot in omega (arith, low, at_slot, bound, top)) in
         let one = works_one words births rows seat number mail base node r h runs under in

@@ -13,7 +13,7 @@ use Rattle.sc_scenario.specs.declared.scenario.scenarios.Scenario.{Scenario}
 use Rattle.sc_meaning.specs.sound.Definitions.{as_nodes, births, world_at, Lawful, Player, schedule, system_of, IsOneMap}
 use Rattle.sc_law_entries.specs.names.Definitions.{CoreNames, IsUsed, NamesAreDrawn}
 use Rattle.sc_live_steps.specs.calm.Definitions.{Rows, StandsQuiet}
-use Rattle.sc_live_steps.specs.orders.Definitions.{IsBegun, work_by, Answers, Asking, Ends, First, Here, Lone, Next, Opens, Records, Turn, Work, is_watch, Deal, IsAt, IsOrder, Stage, Weighs, heard, heard_lead}
+use Rattle.sc_live_steps.specs.orders.Definitions.{IsBegun, work_by, Answers, Ends, First, Here, Lone, Next, Opens, Records, Turn, Work, is_watch, Deal, IsAt, IsOrder, Stage, Weighs, heard, heard_lead}
 use Rattle.sc_live_journals.specs.scenes.Definitions.{StaysIn, IsThere, scene_at}
 use Rattle.sc_live_answers.specs.Definitions.{IsTrueEntry, HasDone, Promising, doer, heard_doer, opened, IsAskedOrCast, LeadsSince, VotesAreTrue, IsAllowedBy, LockIsRecorded, ReplicasAreRecorded, IsTrueSince}
 use Rattle.sc_actor.proofs.Lemmas.{lawful-prefix}
@@ -169,9 +169,6 @@ module _ (tells : ReplicasAreRecorded) (sound : ValidJournalsAreSound) (logs : V
     pred_of : (who : Draw) (q : StandsQuiet (replicas_after scenario quiet) who) → deal.asked ≡ q.lead.group.core.succ.group → r.group.core.pred.group ≡ who
     pred_of who q e = ap (λ (g : Group). g.core.pred.group) group_is ∙ (ap (λ (x : ReplicaState). x.group.core.pred.group) its_stand.1 ∙ pred_at tells sound logs words scenario first journal quiet rows name node r stage l who q deal.asked e its_stand.0)
 
-    abbrev coord_bond : ((scene_at (births as_nodes scenario) rows).at deal.coord).bond ≡ Asking deal.tx deal.asked deal.turn
-    coord_bond = ap (λ (h : Here). h.bond) stands.parties.0.0
-
     coord_locks : LockIsRecorded scenario journal deal.coord c.now.group
     coord_locks =
         locks_at tells words scenario first journal quiet rows l.prefix.more l.prefix.is l.calm l.rests l.seen deal.coord deal.chief c.now
@@ -181,7 +178,7 @@ module _ (tells : ReplicasAreRecorded) (sound : ValidJournalsAreSound) (logs : V
     coord_stand = led_first tells words scenario first journal quiet rows l.prefix.more l.prefix.is l.calm l.rests l.seen (doer deal.coord deal.chief (opened deal.tx deal.turn)) c
 
     made : Coordinates c.first.group deal.tx deal.asked deal.turn c.now.group
-    made = coords tells words scenario first journal quiet rows l.prefix.more l.prefix.is l.calm l.rests l.seen deal stands.leads.0 coord_bond c
+    made = coords tells words scenario first journal quiet rows l.prefix.more l.prefix.is l.calm l.rests l.seen deal stands.leads.0 (ap (λ (h : Here). h.bond) stands.parties.0.0) c
 
     abbrev Pred : Watch → Type 0
     Pred watch = r.group.core.pred.group ≡ watch.old
@@ -204,9 +201,9 @@ module _ (tells : ReplicasAreRecorded) (sound : ValidJournalsAreSound) (logs : V
         let p : HasDone all quiet rows (doer part at (Promising deal.tx ∷ [])) = (subst (λ t. Each (HasDone all quiet rows) (heard_doer deal.tx t)) e since.done.1.1).0 in
         let lead = (subst (λ t. Each (λ (x : Draw × ℕ). (scene_at all rows).lead x.0 ≡ Some x.1) (heard_lead t)) e stands.leads.1.1).0 in
         let bond = ap (λ (h : Here). h.bond) (subst (λ t. Each (λ (x : Draw × Here). (scene_at all rows).at x.0 ≡ x.1) (heard deal.tx t)) e stands.parties.0.1.1).0 in
-        let b = both tells words scenario first journal quiet rows l.prefix.more l.prefix.is l.calm l.rests l.seen deal stands.leads.0 coord_bond c part at e lead bond p in
-        let tx = tx_is tells words scenario first journal quiet rows l.prefix.more l.prefix.is l.calm l.rests l.seen deal stands.leads.0 coord_bond c part at e lead bond p in
-        let next = next_is tells words scenario first journal quiet rows l.prefix.more l.prefix.is l.calm l.rests l.seen deal stands.leads.0 coord_bond c part at e lead bond p in
+        let b = both tells words scenario first journal quiet rows l.prefix.more l.prefix.is l.calm l.rests l.seen deal stands.leads.0 (ap (λ (h : Here). h.bond) stands.parties.0.0) c part at e lead bond p in
+        let tx = tx_is tells words scenario first journal quiet rows l.prefix.more l.prefix.is l.calm l.rests l.seen deal stands.leads.0 (ap (λ (h : Here). h.bond) stands.parties.0.0) c part at e lead bond p in
+        let next = next_is tells words scenario first journal quiet rows l.prefix.more l.prefix.is l.calm l.rests l.seen deal stands.leads.0 (ap (λ (h : Here). h.bond) stands.parties.0.0) c part at e lead bond p in
         let stood = led_first tells words scenario first journal quiet rows l.prefix.more l.prefix.is l.calm l.rests l.seen (doer part at (Promising deal.tx ∷ [])) p in
         let core = c.now.group.core in
         let lock : core.lock ≡ Coordinating deal.tx At.Merge b.heard.order (Some b.heard.heard) = ap (λ (g : Group). g.core.lock) b.heard.is ∙ ap (λ t. Coordinating t At.Merge b.heard.order (Some b.heard.heard)) tx in

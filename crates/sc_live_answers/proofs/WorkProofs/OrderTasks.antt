@@ -1,8 +1,9 @@
 -- An order that splits, and any other, is such an affair.
-use Rattle.std.proofs.Common.{◌≡◌, ℕ, zero, suc, ◌||◌, Bool, true, false, List, [], ◌∷◌, take, Option, Some, None, inl, inr, refl, sym, subst}
+use Rattle.sc_live_plain.proofs.PlainProofs.PlainKnownGroups.{among_first}
+use Rattle.std.proofs.Common.{◌≡◌, ℕ, ◌||◌, Bool, true, false, List, take, Option, Some, None, inl, inr, refl, sym, subst}
 use Rattle.std.specs.List.{list_any}
 use Rattle.std.proofs.lemmas.Bool.{cond_both}
-use Rattle.sc_base.specs.Definitions.{Among, same_draw, is_member}
+use Rattle.sc_base.specs.Definitions.{same_draw, is_member}
 use Rattle.sc_node_table.specs.Values.{Draw, Body, Watch, Command, Noop, Call, Join, Leave, Split, Begin, Prepared, RecordVote, GiveUp, Finish, Watched, RecordWatch, Base, Core, Lock, Free, Coordinating, Promised, Watching, Effect, Route, OrderRefusal, Heard, No, Outcome, Past, Vote, Frozen}
 use Rattle.sc_words.specs.commands.Definitions.{is_alone}
 use Rattle.sc_words.specs.declared.commands.bodies.Body.TheVariants as At
@@ -138,15 +139,9 @@ module _ (group : Group) where
   abbrev Were : Group × Effect → Type 0
   Were x = (node : ℕ) → is_member x.0.core.members node ≡ true → is_member group.core.members node ≡ true
 
-  among_take : {X : Type 0} (n : ℕ) (xs : List X) (x : X) → Among x (take n xs) → Among x xs
-  among_take zero xs x is = absurd is
-  among_take (suc n) [] x is = absurd is
-  among_take (suc n) (y ∷ xs) x (inl e) = inl e
-  among_take (suc n) (y ∷ xs) x (inr is) = inr (among_take n xs x is)
-
   left_were : (at : ℕ) (child : Draw) (effect : Effect) → Were (left_group group at child, effect)
   left_were at child effect node is =
-      among-member group.core.members node (among_take (staying group.core.members) group.core.members node (member-among (take (staying group.core.members) group.core.members) node is))
+      among-member group.core.members node (among_first (staying group.core.members) group.core.members node (member-among (take (staying group.core.members) group.core.members) node is))
 
   stays_were : (effect : Effect) → Were (group, effect)
   stays_were effect node is = is

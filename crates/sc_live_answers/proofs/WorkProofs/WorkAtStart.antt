@@ -1,5 +1,6 @@
 -- An order given in a quiet journal stands at its group, or nothing does.
-use Rattle.std.proofs.Common.{◌≡◌, ℕ, ◌≤◌, true, false, true≢false, List, [], Option, Some, None, inl, inr, refl, sym, ◌∙◌, ap, subst}
+use Rattle.std.proofs.Common.{◌≡◌, ℕ, ◌≤◌, true, false, true≢false, List, [], Option, Some, None, inl, inr, refl, sym, ◌∙◌, ap, subst, eqb, cond, ◌∷◌, ◌++◌}
+use Rattle.sc_live_journals.proofs.ScenesProofs.Deliveries.{some_or_none, client_or_node}
 use Rattle.sc_base.specs.Definitions.{Each, next_name}
 use Rattle.sc_node_table.specs.Values.{Draw, Command, Order, OrderLine, OrderRefusal, Refused, Mail, Node, Client, Seat, Go}
 use Rattle.sc_words.specs.declared.commands.orders.Order.TheVariants as An
@@ -120,9 +121,6 @@ module _ (well : ScenariosAreWellBorn) (words : ℕ → ℕ → ℕ × ℕ) (sce
       row : IsReplicasRow all quiet seat (Told line) group (Some r) after
       row = rows_replicas.ordered all quiet seat line node r seated is here
 
-      rest : IsAtRest r × (r.running ≡ true → r.leader.reports ≡ []) × (next r ≤ last_slot)
-      rest = rests group seat.who r (view_of group (Some r) here)
-
       kept : IsWellKept seat.who r
       kept = subst (Found seat.who) here (found_well seat.who group node.replicas plays.1)
 
@@ -141,25 +139,20 @@ module _ (well : ScenariosAreWellBorn) (words : ℕ → ℕ → ℕ × ℕ) (sce
       by_taken : (o : Option OrderRefusal) → untaken node.draws line r ≡ o → Done
       by_taken (Some why) e =
           let is_ : after ≡ (r, result_sent r.me line.number (Refused why) []) = order_refused node.draws line r why e in
-          nothing (begins (affair_of line.number false group group) (begins_free line.number false group group) (subst (λ (p : Place). HeldSo (affair_of line.number false group group) group p.0) (sym is_) (rest_so (affair_of line.number false group group) (begins_free line.number false group group) group r rest.0))
+          nothing (begins (affair_of line.number false group group) (begins_free line.number false group group) (subst (λ (p : Place). HeldSo (affair_of line.number false group group) group p.0) (sym is_) (rest_so (affair_of line.number false group group) (begins_free line.number false group group) group r (rests group seat.who r (view_of group (Some r) here)).0))
           (subst (λ (p : Place). AreGood (affair_of line.number false group group) p.1) (sym is_) (tt, tt)))
       by_taken None e =
-          let fine = order_fine node.draws line r rest.0 own rest.1 rest.2 kept.1 in
+          let fine = order_fine node.draws line r (rests group seat.who r (view_of group (Some r) here)).0 own (rests group seat.who r (view_of group (Some r) here)).1 (rests group seat.who r (view_of group (Some r) here)).2 kept.1 in
           let born = born_node seat.actor refl in
           finish (record { number = line.number; group = group; name = next_name node.draws; splits = is_split line.order })
           (record { number = refl; group = refl; there = λ t. (seat.who, r, view_of group (Some r) here); unknown = λ t. drawn_unknown words scenario quiet bounded lawful seat line born.0 born.1 seated node is r here e (split_names line.order t); new = λ t. drawn_nowhere words scenario quiet bounded lawful seat line born.0 born.1 seated node is r here e (split_names line.order t) })
           (begins (affair_of line.number (is_split line.order) group (next_name node.draws)) (begins_free line.number (is_split line.order) group (next_name node.draws)) (fine.0.1, fine.0.2, fine.0.3, fine.0.4, fine.0.5) fine.1)
 
-    node_begins : (o : Option ReplicaState) → replica_of group node.replicas ≡ o → Done
-    node_begins None here = none_begins here
-    node_begins (Some r) here = by_taken r here (untaken node.draws line r) refl
-
-  player_begins : (player : Player) → value player_table seat quiet ≡ player → Done
-  player_begins (Client client) is = client_begins client is
-  player_begins (Node node) is = node_begins node is (replica_of group node.replicas) refl
-
   pub order_begins : Done
-  order_begins = player_begins (value player_table seat quiet) refl
+  order_begins = elim (client_or_node (value player_table seat quiet)) [
+    | inl client ↦ client_begins client.0 client.1
+    | inr node ↦ elim (some_or_none (replica_of group node.0.replicas)) [ inl none ↦ none_begins node.0 node.1 none | inr one ↦ by_taken node.0 node.1 one.0 one.1 (untaken node.0.draws line one.0) refl ]
+  ]
 
 pub orders_begin : ScenariosAreWellBorn → ValidScenariosAreBounded → OrdersBeginWork
 orders_begin well bound words scenario quiet seat line valid lawful seated timely calm rests = order_begins well words scenario quiet seat line (bound scenario valid) lawful seated timely calm rests

@@ -5,7 +5,7 @@ use Rattle.sc_base.specs.Definitions.{Each, same_draw}
 use Rattle.sc_node_table.specs.Values.{Draw, Base, OrderLine, Mail, MailBody, Prepare, Promise, Accept, Accepted, Nack, Learn, Ask, Install, Node, Client, Seat, Event, Deliver, Tick, Go, Crash, Drop, Again}
 use Rattle.sc_base.proofs.Lemmas.{draw_is, same_name}
 use Rattle.sc_actor.specs.declared.rows.Event.TheVariants.{Told}
-use Rattle.sc_actor.specs.Definitions.{mails, value, row_of}
+use Rattle.sc_actor.specs.Definitions.{numbered, mails, value, row_of}
 use Rattle.sc_live_orderly.specs.Definitions.{IsTidy, IsCalmEvent, AreInTime}
 use Rattle.sc_live_orderly.proofs.Lemmas.{in_time_before, in_time_tidy, takes_first, is_born-from}
 use Rattle.sc_words.proofs.PaxosProofs.Lemmas.{Each-among}
@@ -14,7 +14,7 @@ use Rattle.sc_meaning.specs.sound.Definitions.{Player, player_table}
 use Rattle.sc_live_steps.specs.calm.Definitions.{players, Rows}
 use Rattle.sc_live_steps.specs.following.Definitions.{Tells, mark_of, Course, Sets, Tellers, IsAside}
 use Rattle.sc_live_steps.proofs.FollowingProofs.Lemmas.{same_mark}
-use Rattle.sc_live_journals.specs.rows.Definitions.{view_at, mark_in, TakesMail, HoldsReplica, IsOwnMail, IsOwnAsking, IsSeat, with_event, LeavesAlone, IsReplicasRow, IsWellKept}
+use Rattle.sc_live_journals.specs.rows.Definitions.{PlaysAlone, view_at, mark_in, TakesMail, HoldsReplica, IsOwnMail, IsOwnAsking, IsSeat, with_event, LeavesAlone, IsReplicasRow, IsWellKept}
 use Rattle.sc_live_journals.proofs.RowsProofs.Lemmas.{ballots_own, fit, others_idle, rows_replicas, view_was, Plays, Found, found_well, replay_well}
 use Rattle.sc_live_journals.specs.groups.Definitions.{IsLedStep, Ends, IsWellLed, IsOfLog, CountsAsMember, IsLedScene, IsWellPlayer, AreWellBorn, IsRowOf, Delivers, HasOneLog, IsSentSo, EventsGoOn}
 use Rattle.sc_live_journals.proofs.GroupsProofs.LeaderEvents.{leaders_keep_led}
@@ -26,6 +26,15 @@ use Rattle.sc_law_groups.proofs.GroupProofs.RowSteps.{number_among}
 pub plays_of : (who : ℕ) (player : Player) → IsWellPlayer who player → Plays who player
 plays_of who (Node node) k = (k.0, subst (λ m. Each (IsWellKept m) node.replicas) k.0 k.1)
 plays_of who (Client client) k = tt
+
+-- a replica that such a node holds is well
+pub holds_of : (seat : Seat Player) (node : NodeState) (base : Base) → Plays seat.who (Node node) → (r : ReplicaState) → replica_of base.core.id node.replicas ≡ Some r → HoldsReplica seat node base r
+holds_of seat node base plays r here = record { here = here; well = subst (Found seat.who) here (found_well seat.who base.core.id node.replicas plays.1) }
+
+-- each asks in a ballot of its own
+pub asks_own : (words : ℕ → ℕ → ℕ × ℕ) (births : List (Seat Player)) (rows : Rows) → Each (λ (seat : Seat Player). PlaysAlone seat.actor) births → AreInTime (players words births) rows → (number : ℕ) (mail : Mail) → numbered (mails rows) number ≡ Some mail → (b : MailBody) → mail.body ≡ b → IsOwnAsking mail.from b
+asks_own words births rows apart timely number mail sent b e =
+    subst (IsOwnAsking mail.from) e (Each-among IsOwnMail (mails rows) mail (ballots_own words births rows apart timely) (number_among (mails rows) number mail sent))
 
 module _ (at : Sets) (over : Ends) (by : Tellers) (words : ℕ → ℕ → ℕ × ℕ) (births : List (Seat Player)) (journal : Rows) (base : Base) (wb : AreWellBorn births) (one : HasOneLog at over by births journal base) (so : IsSentSo births journal base)
     (rows : Rows) (seat : Seat Player) (course : Course) (born : IsSeat births seat) (was : IsWellLed at over by words births rows base course) where
@@ -50,9 +59,6 @@ module _ (at : Sets) (over : Ends) (by : Tellers) (words : ℕ → ℕ → ℕ �
 
     plays : Plays seat.who (Node node)
     plays = subst (Plays seat.who) is (replay_well seat.who seat.who rows seat.actor [] (plays_of seat.who seat.actor (wb.well seat born)))
-
-    holds : (r : ReplicaState) → replica_of name node.replicas ≡ Some r → HoldsReplica seat node base r
-    holds r here = record { here = here; well = subst (Found seat.who) here (found_well seat.who name node.replicas plays.1) }
 
     view_of : (r : ReplicaState) → replica_of name node.replicas ≡ Some r → view_at births rows name seat.who ≡ Some r
     view_of r here = view_was births rows seat Go name born (Node node) is ∙ here
@@ -94,7 +100,7 @@ module _ (at : Sets) (over : Ends) (by : Tellers) (words : ℕ → ℕ → ℕ �
           takes = record { timely = timely; sent = d.sent; comes = comes }
 
           has : HoldsReplica seat node base r
-          has = holds r here
+          has = holds_of seat node base plays r here
 
           abbrev after : ReplicaState
           after = (mailed mail.from mail.body (r, [])).0.0
@@ -105,19 +111,11 @@ module _ (at : Sets) (over : Ends) (by : Tellers) (words : ℕ → ℕ → ℕ �
           logs_ : IsOfLog at over after
           logs_ = logs (Deliver number) d.row r after here row_.is
 
-          counts_ : r.running ≡ true → CountsAsMember at by r after seat.who
-          counts_ = counts (Deliver number) d.row r after here row_.is
-
           aside : IsAside r mail.body → Led
           aside a = elim (cases_Bool r.running) [
-            | inl runs ↦ leaders_keep_led.aside at over by words births rows seat number mail node base course r s takes has group a runs logs_ (counts_ runs)
+            | inl runs ↦ leaders_keep_led.aside at over by words births rows seat number mail node base course r s takes has group a runs logs_ (counts (Deliver number) d.row r after here row_.is runs)
             | inr off ↦ mails_keep_led.aside at over by words births rows seat number mail node base course r s takes has group a off
           ]
-
-          own : (b : MailBody) → mail.body ≡ b → IsOwnAsking mail.from b
-          own b e = subst (IsOwnAsking mail.from) e
-              (Each-among IsOwnMail (mails rows) mail
-              (ballots_own words births rows wb.alone (in_time_before (players words births) rows (row_of player_table seat rows (Deliver number)) timely)) (number_among (mails rows) number mail d.sent))
 
           some_is : (one_ other : Draw) → Some one_ ≡ Some other → one_ ≡ other
           some_is one_ other e = cc
@@ -125,10 +123,10 @@ module _ (at : Sets) (over : Ends) (by : Tellers) (words : ℕ → ℕ → ℕ �
           by_body : (b : MailBody) → mail.body ≡ b → Led
           by_body (Accept g ballot slot command) e =
               let body : mail.body ≡ Accept name ballot slot command = e ∙ ap (λ n. Accept n ballot slot command) (some_is g name (sym (ap group_of_mail e) ∙ group)) in
-              mails_keep_led.accept at over by words births rows seat number mail node base course r ballot slot command s takes has (own (Accept g ballot slot command) e) body
+              mails_keep_led.accept at over by words births rows seat number mail node base course r ballot slot command s takes has (asks_own words births rows wb.alone (in_time_before (players words births) rows (row_of player_table seat rows (Deliver number)) timely) number mail d.sent (Accept g ballot slot command) e) body
           by_body (Prepare g ballot from_slot) e =
               let body : mail.body ≡ Prepare name ballot from_slot = e ∙ ap (λ n. Prepare n ballot from_slot) (some_is g name (sym (ap group_of_mail e) ∙ group)) in
-              mails_keep_led.prepare at over by words births rows seat number mail node base course r ballot from_slot s takes has (own (Prepare g ballot from_slot) e) body
+              mails_keep_led.prepare at over by words births rows seat number mail node base course r ballot from_slot s takes has (asks_own words births rows wb.alone (in_time_before (players words births) rows (row_of player_table seat rows (Deliver number)) timely) number mail d.sent (Prepare g ballot from_slot) e) body
           by_body (Learn g slot command) e =
               let body : mail.body ≡ Learn name slot command = e ∙ ap (λ n. Learn n slot command) (some_is g name (sym (ap group_of_mail e) ∙ group)) in
               let marked : mark_of name mail.from mail.body ≡ Some (Tells slot) = ap (mark_of name mail.from) body ∙ same_mark name (Tells slot) in
@@ -142,13 +140,13 @@ module _ (at : Sets) (over : Ends) (by : Tellers) (words : ℕ → ℕ → ℕ �
               let body : mail.body ≡ Accepted name ballot slot = e ∙ ap (λ n. Accepted n ballot slot) (some_is g name (sym (ap group_of_mail e) ∙ group)) in
               elim (cases_Bool r.running) [
                 | inl runs ↦ leaders_keep_led.vote at over by words births rows seat number mail node base course r ballot slot s takes has body runs (one.decided rows seat number mail ballot slot r d body (view_of r here) runs)
-                    (one.rests rows seat number mail ballot slot r d body (view_of r here) runs (was.followed.given.gives seat.who r (view_of r here) runs).0.led.stands) logs_ (counts_ runs)
+                    (one.rests rows seat number mail ballot slot r d body (view_of r here) runs (was.followed.given.gives seat.who r (view_of r here) runs).0.led.stands) logs_ (counts (Deliver number) d.row r after here row_.is runs)
                 | inr off ↦ mails_keep_led.vote at over by words births rows seat number mail node base course r ballot slot s takes has body off
               ]
           by_body (Promise g ballot reports) e =
               let body : mail.body ≡ Promise name ballot reports = e ∙ ap (λ n. Promise n ballot reports) (some_is g name (sym (ap group_of_mail e) ∙ group)) in
               elim (cases_Bool r.running) [
-                | inl runs ↦ leaders_keep_led.promise at over by words births rows seat number mail node base course r ballot s takes has (body ∙ ap (Promise name ballot) (so.plain rows seat number mail ballot reports d body)) runs logs_ (counts_ runs)
+                | inl runs ↦ leaders_keep_led.promise at over by words births rows seat number mail node base course r ballot s takes has (body ∙ ap (Promise name ballot) (so.plain rows seat number mail ballot reports d body)) runs logs_ (counts (Deliver number) d.row r after here row_.is runs)
                 | inr off ↦ mails_keep_led.promise at over by words births rows seat number mail node base course r ballot reports s takes has body off
               ]
           by_body (Nack g promised) e =
@@ -188,8 +186,8 @@ module _ (at : Sets) (over : Ends) (by : Tellers) (words : ℕ → ℕ → ℕ �
         | inl runs ↦ (let there : replica_of (group_of_order line.order) node.replicas ≡ Some r = ap (λ n. replica_of n node.replicas) group ∙ here in
             let after = (ordered_row node.draws line (r, [])).0 in
             let row_ : IsReplicasRow births rows seat (Told line) name (Some r) (ordered_row node.draws line (r, [])) = subst (λ n. IsReplicasRow births rows seat (Told line) n (Some r) (ordered_row node.draws line (r, []))) group (rows_replicas.ordered births rows seat line node r born is there) in
-            leaders_keep_led.order at over by words births rows seat line node base course r s timely (holds r here) group runs (logs (Told line) row r after here row_.is) (counts (Told line) row r after here row_.is runs))
-        | inr off ↦ mails_keep_led.order at over by words births rows seat line node base course r s timely (holds r here) group off
+            leaders_keep_led.order at over by words births rows seat line node base course r s timely (holds_of seat node base plays r here) group runs (logs (Told line) row r after here row_.is) (counts (Told line) row r after here row_.is runs))
+        | inr off ↦ mails_keep_led.order at over by words births rows seat line node base course r s timely (holds_of seat node base plays r here) group off
       ]
 
       ordered : IsLedStep at over by words births rows seat (Told line) base course

@@ -11,9 +11,10 @@ use Rattle.sc_node_table.specs.Definitions.{entered, is_among, NodeState, group_
 use Rattle.sc_law_walks.proofs.Lemmas.{entered_next}
 use Rattle.sc_meaning.specs.sound.Definitions.{Player}
 use Rattle.sc_live_steps.specs.calm.Definitions.{players, Rows}
-use Rattle.sc_live_steps.specs.following.Definitions.{Dated, IsNoPrepare, dated_for, Mark, Asks, Votes, Tells, Installs, Prepares, Promises, mark_of, pledged, Course, Progress, Sets, members_at, IsOpen, IsHeir, Tellers, hint_by, AreAt, AreLearntLast, IsInTime, Stays, MayElect, next_ballot}
+use Rattle.sc_live_steps.specs.following.Definitions.{IsOther, Dated, IsNoPrepare, dated_for, Mark, Asks, Votes, Tells, Installs, Prepares, Promises, mark_of, pledged, Course, Progress, Sets, members_at, IsOpen, IsHeir, Tellers, hint_by, AreAt, AreLearntLast, IsInTime, Stays, MayElect, next_ballot}
 use Rattle.sc_live_steps.proofs.FollowingProofs.Lemmas.{elections_ask_next, tables_elect, elections_lead, nodes_heed, least_in, tables, same_mark, hints_follow, heirs_elect}
 use Rattle.sc_live_journals.specs.rows.Definitions.{IsNextLead, promise_in, progress_at, marks_at, taken_mark, IsScene, TakesMail, HoldsReplica, WaitsStill, elected_course, IsReplicasRow}
+use Rattle.sc_live_journals.proofs.RowsProofs.RowMarks.{HasMark}
 use Rattle.sc_live_journals.proofs.RowsProofs.Lemmas.{elections_keep, entered_name, entered_me, apart_off, row_in, head, all_fit, within, no_lead, named, row_to, fit, taken, steps_elect}
 use Rattle.sc_live_journals.specs.groups.Definitions.{RowElects, IsLedStep, Ends, hint_in, hints_at, IsOfLog, HasRounds, IsLedScene, ElectsWell}
 use Rattle.sc_live_journals.proofs.GroupsProofs.NodeMail.{scene, stage, takes_further}
@@ -58,7 +59,7 @@ module _ (at : Sets) (over : Ends) (by : Tellers) (words : ℕ → ℕ → ℕ �
   abbrev after : Place
   after = (mailed mail.from (Learn (name_of r) slot command) (r, [])).0
 
-  abbrev is : mark_of base.core.id mail.from mail.body ≡ Some (Tells slot)
+  abbrev is : HasMark base mail (Tells slot)
   is = ap (mark_of name mail.from) body ∙ same_mark name mark
 
   own_name : name_of r ≡ base.core.id
@@ -73,7 +74,7 @@ module _ (at : Sets) (over : Ends) (by : Tellers) (words : ℕ → ℕ → ℕ �
   takes_it : taken_mark base.core.id (mails rows) (Deliver number) ≡ Some (Tells slot)
   takes_it = taken at words births rows seat node base course the_scene number mail takes mark is
 
-  apart : course.runs ≡ true → seat.who ≡ course.ballot.node → ⊥
+  apart : IsOther course seat.who
   apart = (let at_next = (all_fit at words births rows seat node base course the_scene number mail takes mark is).0.1 in no_lead at words births rows seat node base course the_scene number mail takes mark is (omega (arith, at_next)))
 
   off : r.running ≡ false

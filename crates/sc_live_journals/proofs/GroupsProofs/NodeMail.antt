@@ -89,9 +89,6 @@ module _ (at : Sets) (over : Ends) (by : Tellers) (words : ℕ → ℕ → ℕ �
   abbrev the_scene : IsScene at words births rows seat node base course
   the_scene = scene at over by words births rows seat node base course s
 
-  abbrev the_stage : (event : Event OrderLine) → AreInTime (players words births) (with_event rows seat event) → IsStage at over by words births rows seat event base course
-  the_stage event timely = stage at over by words births rows seat node base course s event timely
-
   -- a row in which the node's replica becomes another
   module _ (event : Event OrderLine) (before : Option ReplicaState) (after : Place) (row : IsReplicasRow births rows seat event base.core.id before after) where
     -- a row after which the replica does not lead leaves all well
@@ -132,7 +129,7 @@ module _ (at : Sets) (over : Ends) (by : Tellers) (words : ℕ → ℕ → ℕ �
       let kind = still_idle births rows seat event base course r after row none still.next_is still.promise_is still.silent in
       record {
         later = course;
-        led = rows_keep_led.idle at over by words births rows seat event base course (the_stage event timely)
+        led = rows_keep_led.idle at over by words births rows seat event base course (stage at over by words births rows seat node base course s event timely)
             (leaves_off event (Some r) after row (leads_stay.quiet at births rows seat event base course after.0 row.is still.off (idle_apart at words births rows seat node base course the_scene r row.was off)) still.off) kind
             (ap (hint_in base) row.is ∙ (still.hint_is ∙ sym (ap (hint_in base) row.was)));
         row = RowRests refl r after row off still kind;
@@ -156,7 +153,7 @@ module _ (at : Sets) (over : Ends) (by : Tellers) (words : ℕ → ℕ → ℕ �
           (λ off stands least. (let low = waits_here at words births rows seat node base course the_scene r row.was off stands least in omega (arith, low, same))) in
           record {
             later = course;
-            led = rows_keep_led.takes at over by words births rows seat (Deliver number) base course (the_stage (Deliver number) takes.timely) (leaves_same (Deliver number) (Some r) after row r refl lead same steps.runs steps.leads) kind
+            led = rows_keep_led.takes at over by words births rows seat (Deliver number) base course (stage at over by words births rows seat node base course s (Deliver number) takes.timely) (leaves_same (Deliver number) (Some r) after row r refl lead same steps.runs steps.leads) kind
                 (goes_by (Deliver number) (Some r) after row mark takes_it (λ other. inl (hint (off_other other))));
             row = RowTakes refl r after mark row takes_it steps kind;
           }
@@ -168,7 +165,7 @@ module _ (at : Sets) (over : Ends) (by : Tellers) (words : ℕ → ℕ → ℕ �
           let kind = steps_take at births rows seat (Deliver number) base course mark r after row (named at words births rows seat node base course the_scene number mail takes r has) has.well.0 takes_it steps (λ runs mine. none) waits in
           record {
             later = course;
-            led = rows_keep_led.takes at over by words births rows seat (Deliver number) base course (the_stage (Deliver number) takes.timely)
+            led = rows_keep_led.takes at over by words births rows seat (Deliver number) base course (stage at over by words births rows seat node base course s (Deliver number) takes.timely)
                 (leaves_off (Deliver number) (Some r) after row (leads_stay.quiet at births rows seat (Deliver number) base course after.0 row.is (steps.runs ∙ off) apart) (steps.runs ∙ off)) kind
                 (goes_by (Deliver number) (Some r) after row mark takes_it (λ other. hint));
             row = RowTakes refl r after mark row takes_it steps kind;
@@ -274,7 +271,7 @@ module _ (at : Sets) (over : Ends) (by : Tellers) (words : ℕ → ℕ → ℕ �
       (λ idle stands least. sent_waits at over by words births rows seat node base course s number mail takes slot is idle stands) in
       record {
         later = course;
-        led = rows_keep_led.takes at over by words births rows seat (Deliver number) base course (the_stage (Deliver number) takes.timely)
+        led = rows_keep_led.takes at over by words births rows seat (Deliver number) base course (stage at over by words births rows seat node base course s (Deliver number) takes.timely)
             (leaves_off (Deliver number) None after row (leads_stay.quiet at births rows seat (Deliver number) base course after.0 row.is off apart) off) kind
             (goes_by (Deliver number) None after row mark takes_it (λ other. inl (hints_follow.made at by (first_ballot base.core) (Some base.core.first) node.me name slot state sets member)));
         row = RowMakes refl (by slot) slot state sets (subst (λ n. IsReplicasRow births rows seat (Deliver number) name None (made_by n (by slot) name slot state sets)) me row) takes_it

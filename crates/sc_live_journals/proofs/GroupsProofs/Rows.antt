@@ -21,9 +21,9 @@ pub use Rattle.sc_live_steps.proofs.FollowingProofs.AskedSlots.{marks_all}
 
 following_same : (at : Sets) (now : Progress) (one two : ℕ → List Mark) → ((who : ℕ) → two who ≡ one who) → IsFollowing at now one → IsFollowing at now two
 following_same at now one two same f =
-    idle-keeps at now now 0 None (λ who. []) one two
+    idle-keeps now now 0 None (λ who. []) one two
     (record { left = one 0; takes = refl; own = same 0 ∙ sym (append-nil (one 0)); others = λ who ne. same who ∙ sym (append-nil (one who)); next = λ who ne. refl; promise = λ who ne. refl })
-    (record { takes = refl; next = refl; promise = refl; course = refl; sends = λ who. refl }) f
+    (record { takes = refl; next = refl; promise = refl; course = refl; sends = λ who. refl }) at f
 
 takes_same : (at : Sets) (now after : Progress) (node : ℕ) (taken : Option Mark) (one two : ℕ → List Mark) → ((who : ℕ) → two who ≡ one who) → Takes at now after node taken one → Takes at now after node taken two
 takes_same at now after node taken one two same t =

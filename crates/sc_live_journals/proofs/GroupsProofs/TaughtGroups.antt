@@ -1,11 +1,11 @@
 -- Through a journal in which a group is well led, its members learn all entries.
-use Rattle.std.proofs.Common.{◌≡◌, ℕ, ◌+◌, ◌<◌, true, List, [], ◌∷◌, ◌++◌, Option, None, refl, sym, ◌∙◌, ap, subst, arith, append_assoc}
+use Rattle.std.proofs.Common.{◌≡◌, ℕ, true, List, [], ◌∷◌, ◌++◌, Option, None, refl, sym, ◌∙◌, ap, subst, arith, append_assoc}
 use Rattle.sc_node_table.specs.Values.{Ballot, Base, OrderLine, Mail, Seat, Event, Row}
 use Rattle.sc_base.specs.Definitions.{is_member}
 use Rattle.sc_actor.specs.Definitions.{mails, row_of}
 use Rattle.sc_live_orderly.specs.Definitions.{AreInTime}
 use Rattle.sc_live_orderly.proofs.Lemmas.{by_time, last_in_time}
-use Rattle.sc_node_table.specs.Definitions.{first_ballot, slots_ahead}
+use Rattle.sc_node_table.specs.Definitions.{first_ballot}
 use Rattle.sc_meaning.specs.sound.Definitions.{Player, player_table, births, as_nodes}
 use Rattle.sc_live_steps.specs.calm.Definitions.{players, Rows}
 use Rattle.sc_live_steps.specs.following.Definitions.{Mark, Course, Progress, Sets, members_at, IsFollowing, Tellers, IsRow, IsIdle, begun, marks_for}
@@ -13,7 +13,7 @@ use Rattle.sc_live_steps.proofs.FollowingProofs.Lemmas.{begins, taught_is_kept}
 use Rattle.sc_live_journals.specs.rows.Definitions.{next_in, promise_in, progress_at, marks_at, taken_mark, begun_course, with_event}
 use Rattle.sc_live_journals.proofs.RowsProofs.Lemmas.{born_facts, next_born, promise_born, rows_are}
 use Rattle.sc_live_journals.specs.groups.Definitions.{BeginsSo, IsGroupRow, RowPasses, RowRests, RowTakes, RowMakes, RowLeads, RowElects, Ends, IsStage, AreTaughtAt, IsTaughtOn, RowsKeepTaught, ScenariosBeginTaught, ChildrenBeginTaught, GroupsAreTaughtThrough, AreWellBorn, HasOneLog, IsSentSo}
-use Rattle.sc_live_journals.proofs.GroupsProofs.WellLedBeginnings.{scenarios_begin_led, children_begin_led}
+use Rattle.sc_live_journals.proofs.GroupsProofs.WellLedBeginnings.{first_slots, scenarios_begin_led, children_begin_led}
 use Rattle.sc_live_journals.proofs.GroupsProofs.JournalEvents.{events_go_on}
 
 -- ---- one row
@@ -38,22 +38,19 @@ module _ (at : Sets) (over : Ends) (by : Tellers) (words : ℕ → ℕ → ℕ �
   abbrev marks_then : ℕ → List Mark
   marks_then = marks_at (players words births) (with_event rows seat event) base.core.id
 
-  row_in : (c : Course) → IsRow now (after_ c) seat.who taken sent marks marks_then
-  row_in c = rows_are words births rows (row_of player_table seat rows event) base course c stage.timely
-
   abbrev Then : Course → Type 0
   Then c = AreTaughtAt at words births (with_event rows seat event) base c
 
   row_keeps : (later : Course) → IsGroupRow at over by births rows seat event base course later → Then later
-  row_keeps later (RowPasses same leaves) = subst Then (sym same) (taught_is_kept.idle at by now (after_ course) seat.who taken sent marks marks_then stage.rosters (row_in course) (leaves.idle course) stage.was.followed.follows tt was)
-  row_keeps later (RowRests same r after row off still idle) = subst Then (sym same) (taught_is_kept.idle at by now (after_ course) seat.who taken sent marks marks_then stage.rosters (row_in course) idle stage.was.followed.follows tt was)
-  row_keeps later (RowTakes same r after mark row is steps takes) = subst Then (sym same) (taught_is_kept.takes at by now (after_ course) seat.who taken sent marks marks_then stage.rosters (row_in course) takes stage.was.followed.follows tt was)
+  row_keeps later (RowPasses same leaves) = subst Then (sym same) (taught_is_kept.idle at by now (after_ course) seat.who taken sent marks marks_then stage.rosters (rows_are words births rows (row_of player_table seat rows event) base course course stage.timely) (leaves.idle course) stage.was.followed.follows tt was)
+  row_keeps later (RowRests same r after row off still idle) = subst Then (sym same) (taught_is_kept.idle at by now (after_ course) seat.who taken sent marks marks_then stage.rosters (rows_are words births rows (row_of player_table seat rows event) base course course stage.timely) idle stage.was.followed.follows tt was)
+  row_keeps later (RowTakes same r after mark row is steps takes) = subst Then (sym same) (taught_is_kept.takes at by now (after_ course) seat.who taken sent marks marks_then stage.rosters (rows_are words births rows (row_of player_table seat rows event) base course course stage.timely) takes stage.was.followed.follows tt was)
   row_keeps later (RowMakes same from slot state sets row is logs takes) =
-      subst Then (sym same) (taught_is_kept.takes at by now (after_ course) seat.who taken sent marks marks_then stage.rosters (row_in course) takes stage.was.followed.follows tt was)
+      subst Then (sym same) (taught_is_kept.takes at by now (after_ course) seat.who taken sent marks marks_then stage.rosters (rows_are words births rows (row_of player_table seat rows event) base course course stage.timely) takes stage.was.followed.follows tt was)
   row_keeps later (RowLeads r after row runs counts l same) =
-      subst Then (sym same) (taught_is_kept.leads at by now (after_ _) seat.who taken sent marks marks_then stage.rosters (row_in _) l.led.leads stage.was.followed.follows l.last was)
+      subst Then (sym same) (taught_is_kept.leads at by now (after_ _) seat.who taken sent marks marks_then stage.rosters (rows_are words births rows (row_of player_table seat rows event) base course _ stage.timely) l.led.leads stage.was.followed.follows l.last was)
   row_keeps later (RowElects r after ballot row off e same) =
-      subst Then (sym same) (taught_is_kept.self_election at by now (after_ _) seat.who taken sent marks marks_then stage.rosters (row_in _) e.self_election stage.was.followed.follows tt was)
+      subst Then (sym same) (taught_is_kept.self_election at by now (after_ _) seat.who taken sent marks marks_then stage.rosters (rows_are words births rows (row_of player_table seat rows event) base course _ stage.timely) e.self_election stage.was.followed.follows tt was)
 
 -- Each row of a known kind keeps it that the members of a group's states learn the entries after them, and that nobody else is sent one.
 pub rows_keep_taught : RowsKeepTaught
@@ -77,11 +74,8 @@ module _ (at : Sets) (over : Ends) (by : Tellers) (words : ℕ → ℕ → ℕ �
   firsts : members_at at 1 ≡ base.core.members
   firsts = so.sets 4 (omega arith)
 
-  same : (slot : ℕ) → slot < 1 + slots_ahead → at slot ≡ members_at at 1
-  same slot low = so.sets slot low ∙ sym firsts
-
   taught_begun : ((who : ℕ) → now_begun.next who ≡ (begun base.core.members ballot).next who) → ((who : ℕ) → now_begun.promise who ≡ ballot) → ((who : ℕ) → marks_begun who ≡ []) → AreTaughtAt at words seats rows base (begun_course base)
-  taught_begun nexts promises none = taught_is_kept.idle at by start now_begun 0 None (λ who. []) (λ who. []) marks_begun so.rosters row idle following tt (taught_is_kept.begin at ballot (same 3 (omega arith)))
+  taught_begun nexts promises none = taught_is_kept.idle at by start now_begun 0 None (λ who. []) (λ who. []) marks_begun so.rosters row idle following tt (taught_is_kept.begin at ballot (first_slots at over base so 3 (omega arith)))
     where
       nexts_too : (who : ℕ) → now_begun.next who ≡ start.next who
       nexts_too who = nexts who ∙ ap (λ (ms : List ℕ). (begun ms ballot).next who) (sym firsts)
@@ -93,7 +87,7 @@ module _ (at : Sets) (over : Ends) (by : Tellers) (words : ℕ → ℕ → ℕ �
       idle = record { takes = refl; next = nexts_too 0; promise = promises 0; course = refl; sends = λ who. refl }
 
       following : IsFollowing at start (λ node. [])
-      following = begins at ballot same (ap (λ (ms : List ℕ). is_member ms base.core.first) firsts ∙ first)
+      following = begins at ballot (first_slots at over base so) (ap (λ (ms : List ℕ). is_member ms base.core.first) firsts ∙ first)
 
 -- So it is of each group of a bounded scenario at its birth.
 pub scenarios_begin_taught : ScenariosBeginTaught

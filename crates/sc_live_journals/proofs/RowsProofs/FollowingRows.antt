@@ -91,8 +91,8 @@ module _ (at : Sets) (words : ℕ → ℕ → ℕ × ℕ) (births : List (Seat P
 
     pub keeps_idle : LeavesLead at births rows seat event base course → IsKind IsIdle births rows seat event base course course → IsFollowedAt at words births then_ base course
     keeps_idle leaves idle = record {
-      follows = idle-keeps at now (progress_at births then_ base course) seat.who (taken_mark name (mails rows) event) (λ who. marks_for name who (row_of player_table seat rows event).sent) (marks_at (players words births) rows name)
-          (marks_at (players words births) then_ name) (row_in course) idle was.follows;
+      follows = idle-keeps now (progress_at births then_ base course) seat.who (taken_mark name (mails rows) event) (λ who. marks_for name who (row_of player_table seat rows event).sent) (marks_at (players words births) rows name)
+          (marks_at (players words births) then_ name) (row_in course) idle at was.follows;
       given = course_stays course was.given leaves;
     }
 

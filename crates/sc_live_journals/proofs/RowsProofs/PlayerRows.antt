@@ -155,14 +155,14 @@ missed_stays name from (Install group slot base sets) node none e =
 missed_stays name from (Request group client seq op) node none e = refl
 missed_stays name from _ node none e = refl
 
--- a step that leaves the node and sends no mark of a group
-abbrev Leaves : Draw → NodeState → NodeState × List Mail → Type 0
-Leaves name node step = (step.0 ≡ node) × ((who : ℕ) → marks_for name who step.1 ≡ [])
+-- mail without a mark of a group
+abbrev IsSilent : Draw → List Mail → Type 0
+IsSilent name sent = (who : ℕ) → marks_for name who sent ≡ []
 
-missed_leaves : (name : Draw) (from : ℕ) (body : MailBody) (node : NodeState) → mark_of name from body ≡ None → group_of_mail body ≡ Some name → replica_of name node.replicas ≡ None → Leaves name node (on_mail from body node)
+missed_leaves : (name : Draw) (from : ℕ) (body : MailBody) (node : NodeState) → mark_of name from body ≡ None → group_of_mail body ≡ Some name → replica_of name node.replicas ≡ None → ((on_mail from body node).0 ≡ node) × IsSilent name (on_mail from body node).1
 missed_leaves name from body node none named here =
     let step : routed (group_of_mail body) from body node ≡ (node, absent node.me from body) = ap (λ g. routed g from body node) named ∙ (ap (λ o. taken_by o name from body node) here ∙ missed_stays name from body node none named) in
-    either_way (Leaves name node) (may_come from body) (routed (group_of_mail body) from body node) (node, []) (subst (Leaves name node) (sym step) (refl, λ who. others_hear_nothing.missed name who node.me from body)) (refl, λ who. refl)
+    either_way (λ (step : NodeState × List Mail). (step.0 ≡ node) × IsSilent name step.1) (may_come from body) (routed (group_of_mail body) from body node) (node, []) (subst (λ (step : NodeState × List Mail). (step.0 ≡ node) × IsSilent name step.1) (sym step) (refl, λ who. others_hear_nothing.missed name who node.me from body)) (refl, λ who. refl)
 
 -- ---- orders
 
@@ -171,7 +171,7 @@ refused_marks name who me number = none_marked name who (result_sent me number (
 
 -- an order for another group leaves the replica of this one, and its mail no mark
 abbrev OrdersLeave : Draw → NodeState → NodeState × List Mail → Type 0
-OrdersLeave name node step = (replica_of name step.0.replicas ≡ replica_of name node.replicas) × ((to : ℕ) → marks_for name to step.1 ≡ [])
+OrdersLeave name node step = (replica_of name step.0.replicas ≡ replica_of name node.replicas) × IsSilent name step.1
 
 order_other : (name : Draw) (line : OrderLine) (node : NodeState) (ne : group_of_order line.order ≡ name → ⊥) (o : Option ReplicaState) → replica_of (group_of_order line.order) node.replicas ≡ o → OrdersLeave name node (ordered_of o line node)
 order_other name line node ne None e = (refl, λ to. refused_marks name to node.me line.number)

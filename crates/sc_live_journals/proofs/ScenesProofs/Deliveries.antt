@@ -1,12 +1,13 @@
 -- A delivery leaves the groups that an order has not touched as they were; so does the order, and so all deliveries behind it.
+use Rattle.sc_client_table.specs.table.Definitions.{Client as ClientState}
 use Rattle.sc_base.specs.Definitions.{Each}
 use Rattle.sc_live_steps.specs.orders.Definitions.{Elsewhere, Errand, Deal, Asks, Stage, Still, IsAt, errand_by, ByTaking}
 use Rattle.sc_live_journals.proofs.RowsProofs.Lemmas.{mailed_keeps, order_keeps, view_was, names_stay, found_name, none_some}
 use Rattle.sc_live_journals.specs.scenes.Definitions.{IsErrandFor, is_running, lead_of, scene_at, IsTaking, GoesBy, ComesTo, StageAfter, BesideFinds, FindsReplica, AtLeader, AtAnother, IsFresh, IsThere, AreThere, IsNowhere, AreUntouched, IsDelivered, after_all, AreDelivered, IsGivenInQuiet, FreshGroupsStay}
 use Rattle.sc_live_journals.proofs.ScenesProofs.UntouchedGroups.{quiet_errands, absent_errand, got_nothing}
-use Rattle.std.proofs.Common.{◌≡◌, ◌⊎◌, ℕ, Bool, true, false, List, [], ◌∷◌, Option, Some, None, inl, inr, refl, sym, ◌∙◌, ap, subst}
+use Rattle.std.proofs.Common.{◌≡◌, ◌⊎◌, ℕ, true, List, [], ◌∷◌, Option, Some, None, inl, inr, refl, sym, ◌∙◌, ap, subst}
 use Rattle.std.specs.Option.{option_map}
-use Rattle.std.proofs.lemmas.Bool.{cond-false}
+use Rattle.std.proofs.lemmas.Bool.{cases_Bool, cond-false}
 use Rattle.sc_node_table.specs.Values.{Draw, Base, OrderLine, Refused, Mail, Node, Client, Seat, Event, Deliver, Got}
 use Rattle.sc_words.specs.declared.commands.orders.OrderRefusal.TheVariants.{NotLeader}
 use Rattle.sc_actor.specs.declared.rows.Event.TheVariants.{Told}
@@ -30,6 +31,16 @@ use Rattle.sc_live_journals.proofs.ScenesProofs.SceneReceivers.{errand_unknown, 
 use Rattle.sc_live_journals.proofs.ScenesProofs.SceneRows.{calm_is}
 use Rattle.sc_live_journals.proofs.ScenesProofs.UntouchedBySteps.{taken_back, step_back, step_there, begun_other, begun_there, fresh_errand, asked_fresh, sent_on_fresh}
 use Rattle.sc_live_journals.proofs.ScenesProofs.UntouchedGroups.{Leaves, left_view, left_mail, client_leaves, node_leaves, is_asked, asks_it, aside_is, unknown_apart}
+
+-- ---- who takes it
+
+pub some_or_none : {X : Type 0} (o : Option X) → (o ≡ None) ⊎ ((x : X) × (o ≡ Some x))
+some_or_none None = inl refl
+some_or_none (Some x) = inr (x, refl)
+
+pub client_or_node : (player : Player) → ((client : ClientState) × (player ≡ Client client)) ⊎ ((node : NodeState) × (player ≡ Node node))
+client_or_node (Client client) = inl (client, refl)
+client_or_node (Node node) = inr (node, refl)
 
 module _ (words : ℕ → ℕ → ℕ × ℕ) (births : List (Seat Player)) (quiet rows : Rows) (seat : Seat Player) (number : ℕ) (stage : Stage) (u : AreUntouched words births quiet rows stage) (d : IsDelivered words births quiet rows seat number) where
   abbrev s : System Player Mail OrderLine
@@ -129,11 +140,8 @@ module _ (words : ℕ → ℕ → ℕ × ℕ) (births : List (Seat Player)) (qui
             own : name_of r ≡ group
             own = found_name group node.replicas r here
 
-            stays : replica_of name put.replicas ≡ replica_of name node.replicas
-            stays = put_others group name made.0.0 node.replicas (names_stay.mailed mail.from mail.body r ∙ own) ne
-
             by : OneOf name seat.who made.1 (replica_of name (with_children made.1 put).replicas) (replica_of name put.replicas) → replica_of name (with_children made.1 put).replicas ≡ replica_of name node.replicas
-            by (inl e) = e ∙ stays
+            by (inl e) = e ∙ put_others group name made.0.0 node.replicas (names_stay.mailed mail.from mail.body r ∙ own) ne
             by (inr (child, among, id, none, made_so)) =
                 (let new : IsNowhere births quiet child.core.id = each_is (λ (c : Base). IsNowhere births quiet c.core.id) made.1 child (d.children mail group node r t here) among in
                 absurd (none_some (sym (new there.0) ∙ (ap (λ n. view_at births quiet n there.0) id ∙ there.2))))
@@ -165,31 +173,32 @@ module _ (words : ℕ → ℕ → ℕ × ℕ) (births : List (Seat Player)) (qui
         comes_by c same (AtAnother beside f) =
             by_found (λ name fr th. elim (cases-draw name group) [ inl i ↦ subst Left (sym i) (beside_leaves c (asked c same name i fr th) f) | inr ne ↦ other_leaves name ne th ])
 
-      taken_so : (o : Option ReplicaState) → replica_of group node.replicas ≡ o → Done
-      taken_so None here = by_found (none_leaves here)
-      taken_so (Some r) here = (let f = d.finds.here number mail group node r refl t here in comes_by r here (record { node = node; taking = t; here = here; children = f.0 }) refl f.1)
+      node_takes : Done
+      node_takes = elim (some_or_none (replica_of group node.replicas)) [
+        | inl here ↦ by_found (none_leaves here)
+        | inr one ↦ (let f = d.finds.here number mail group node one.0 refl t one.1 in comes_by one.0 one.1 (record { node = node; taking = t; here = one.1; children = f.0 }) refl f.1)
+      ]
 
-    mail_so : (b : Bool) → may_come mail.from mail.body ≡ b → (o : Option Draw) → group_of_mail mail.body ≡ o → Done
-    mail_so false bar o e =
-        by_found (λ name f th. makes (node, []) (cond-false (may_come mail.from mail.body) (routed (group_of_mail mail.body) mail.from mail.body node) (node, []) bar) name refl tt)
-    mail_so true comes None e =
-        by_found (λ name f th. makes (node, [])
-        (either_way (λ (step : NodeState × List Mail). step ≡ (node, [])) (may_come mail.from mail.body) (routed (group_of_mail mail.body) mail.from mail.body node) (node, []) (ap (λ g. routed g mail.from mail.body node) e) refl)
-        name refl tt)
-    mail_so true comes (Some group) e =
-        taken_so group (record { seated = d.seated; timely = d.timely; is_node = is; me_is = d.finds.me_is node is; sent = at; comes = comes; named = e }) (replica_of group node.replicas) refl
-
-  player_so : (player : Player) → value player_table seat rows ≡ player → Done
-  player_so (Client client) is =
-      (let one = takes_one words births rows seat.who number (calm_is words births rows seat event tidy_calm) in
-      by_found (λ name f th. client_leaves words births rows seat event d.seated d.timely client is name (Got one.mail) (ap (option_map Got) one.sent)
-      (got_nothing one.mail.from one.mail.body client (λ group seq answer. d.unanswered one.mail group seq answer one.sent))))
-  player_so (Node node) is =
-      (let one = takes_one words births rows seat.who number (calm_is words births rows seat event tidy_calm) in
-      mail_so node is one.mail one.sent (may_come one.mail.from one.mail.body) refl (group_of_mail one.mail.body) refl)
+    -- a mail that is for no group, or may not come, is nothing to it
+    node_so : Done
+    node_so = elim (cases_Bool (may_come mail.from mail.body)) [
+      | inr bar ↦ by_found (λ name f th. makes (node, []) (cond-false (may_come mail.from mail.body) (routed (group_of_mail mail.body) mail.from mail.body node) (node, []) bar) name refl tt)
+      | inl comes ↦ elim (some_or_none (group_of_mail mail.body)) [
+        | inl e ↦ by_found (λ name f th. makes (node, [])
+            (either_way (λ (step : NodeState × List Mail). step ≡ (node, [])) (may_come mail.from mail.body) (routed (group_of_mail mail.body) mail.from mail.body node) (node, []) (ap (λ g. routed g mail.from mail.body node) e) refl)
+            name refl tt)
+        | inr group ↦ node_takes group.0 (record { seated = d.seated; timely = d.timely; is_node = is; me_is = d.finds.me_is node is; sent = at; comes = comes; named = group.1 })
+      ]
+    ]
 
   pub delivered_so : Done
-  delivered_so = player_so (value player_table seat rows) refl
+  delivered_so =
+      let one = takes_one words births rows seat.who number (calm_is words births rows seat event tidy_calm) in
+      elim (client_or_node (value player_table seat rows)) [
+        | inl client ↦ by_found (λ name f th. client_leaves words births rows seat event d.seated d.timely client.0 client.1 name (Got one.mail) (ap (option_map Got) one.sent)
+            (got_nothing one.mail.from one.mail.body client.0 (λ group seq answer. d.unanswered one.mail group seq answer one.sent)))
+        | inr node ↦ node_so node.0 node.1 one.mail one.sent
+      ]
 
 -- ---- the order
 

@@ -7,8 +7,9 @@ use Rattle.sc_actor.specs.Definitions.{mails, numbers_of, row_of}
 use Rattle.sc_live_orderly.proofs.Lemmas.{last_in_time}
 use Rattle.sc_node_table.specs.Definitions.{NodeState, ReplicaState, Place, listed}
 use Rattle.sc_meaning.specs.sound.Definitions.{Player, player_table}
+use Rattle.sc_live_steps.proofs.OrdersProofs.PartyChanges.{no-errand}
 use Rattle.sc_live_steps.specs.calm.Definitions.{players, Rows}
-use Rattle.sc_live_steps.specs.orders.Definitions.{Turn, First, Lone, Next, is_watch, Errand, Question, Elsewhere, Reply, Result, Here, Scene, Leg, Mailed, Filed, closing, heard, Stage, Still, Ordered, Asks, SentOn, Weighs, Replied, Recorded, Closes, ClosesBoth, parties_of, IsAt, IsUnderWay, errand_by}
+use Rattle.sc_live_steps.specs.orders.Definitions.{Turn, is_watch, Errand, Question, Elsewhere, Reply, Result, Here, Scene, Leg, Mailed, Filed, closing, Stage, Still, Ordered, Asks, SentOn, Weighs, Replied, Recorded, Closes, ClosesBoth, parties_of, IsAt, IsUnderWay, errand_by}
 use Rattle.sc_live_steps.proofs.OrdersProofs.Lemmas.{tokens, tagged, found, among-right}
 use Rattle.sc_live_journals.specs.rows.Definitions.{view_at}
 use Rattle.sc_live_journals.proofs.RowsProofs.Lemmas.{view_was, none_some as no_some}
@@ -35,11 +36,6 @@ module _ (now : Scene) (group : Draw) (errand : Errand) (to : ℕ) (sought : lea
   no_question : (name : Draw) (one : Errand) → leader_sought one ≡ None → ◌≡◌ {A = Draw × Errand} (name, one) (group, errand) → ⊥
   no_question name one goes is = (let bad : None ≡ Some to = sym goes ∙ (ap (λ (x : Draw × Errand). leader_sought x.1) is ∙ sought) in cc)
 
-  none_heard : (tx : Draw) (turn : Turn) → Among (group, errand) (tokens mail_of (heard tx turn)) → ⊥
-  none_heard tx First a = absurd a
-  none_heard tx Lone a = absurd a
-  none_heard tx (Next part host) a = absurd a
-
   closes_for : (tx name : Draw) (host : ℕ) (leg : Leg) (more : List (Draw × Errand)) → now.lead name ≡ Some host → (Among (group, errand) more → now.lead group ≡ Some to)
       → Among (group, errand) (tagged name (closing tx leg host).errands ++ more) → now.lead group ≡ Some to
   closes_for tx name host Mailed more leads rest a = elim a [ inl is ↦ leader_for name host (Result tx host) leads refl is | inr b ↦ rest b ]
@@ -50,18 +46,18 @@ module _ (now : Scene) (group : Draw) (errand : Errand) (to : ℕ) (sought : lea
   led_in (Ordered name chief work) a among = absurd among
   led_in (Asks deal node) a among = elim among [
     | inl is ↦ absurd (no_question deal.asked _ refl is)
-    | inr more ↦ absurd (none_heard deal.tx deal.turn more)
+    | inr more ↦ absurd (no-errand deal.tx deal.turn (group, errand) more)
   ]
   led_in (SentOn deal) a among = elim among [
     | inl is ↦ leader_for deal.coord deal.chief (Elsewhere deal.tx deal.chief) a.leads.0 refl is
-    | inr more ↦ absurd (none_heard deal.tx deal.turn more)
+    | inr more ↦ absurd (no-errand deal.tx deal.turn (group, errand) more)
   ]
-  led_in (Weighs deal host) a among = absurd (none_heard deal.tx deal.turn among)
+  led_in (Weighs deal host) a among = absurd (no-errand deal.tx deal.turn (group, errand) among)
   led_in (Replied deal agreed host) a among = elim among [
     | inl is ↦ leader_for deal.coord deal.chief _ a.leads.0 refl is
-    | inr more ↦ absurd (none_heard deal.tx deal.turn more)
+    | inr more ↦ absurd (no-errand deal.tx deal.turn (group, errand) more)
   ]
-  led_in (Recorded deal agreed host) a among = absurd (none_heard deal.tx deal.turn among)
+  led_in (Recorded deal agreed host) a among = absurd (no-errand deal.tx deal.turn (group, errand) among)
   led_in (Closes tx party) a among = closes_for tx party.group party.host party.leg [] a.leads.0 (λ more. absurd more) among
   led_in (ClosesBoth tx one two) a among =
       closes_for tx one.group one.host one.leg (tagged two.group (closing tx two.leg two.host).errands ++ []) a.leads.0
@@ -77,11 +73,6 @@ module _ (now : Scene) (group : Draw) (errand : Errand) where
   waits_for : (name : Draw) (one : Errand) (here : Here) → now.at name ≡ here → Expects one here → ◌≡◌ {A = Draw × Errand} (name, one) (group, errand) → Expects errand (now.at group)
   waits_for name one here at fits is = subst (λ (x : Draw × Errand). Expects x.1 (now.at x.0)) is (subst (Expects one) (sym at) fits)
 
-  not_heard : (tx : Draw) (turn : Turn) → Among (group, errand) (tokens mail_of (heard tx turn)) → ⊥
-  not_heard tx First a = absurd a
-  not_heard tx Lone a = absurd a
-  not_heard tx (Next part host) a = absurd a
-
   vote_is : (turn : Turn) (vote : Bool) → Some (is_watch turn) ≡ Some vote → is_watch turn ≡ vote
   vote_is turn vote e = cc
 
@@ -95,18 +86,18 @@ module _ (now : Scene) (group : Draw) (errand : Errand) where
   waits_in (Ordered name chief work) a among = absurd among
   waits_in (Asks deal node) a among = elim among [
     | inl is ↦ waits_for deal.asked (Question deal.tx deal.coord (is_watch deal.turn) deal.chief node) _ a.parties.0.1.0 (record { bond_is = refl; work = refl }) is
-    | inr more ↦ absurd (not_heard deal.tx deal.turn more)
+    | inr more ↦ absurd (no-errand deal.tx deal.turn (group, errand) more)
   ]
   waits_in (SentOn deal) a among = elim among [
     | inl is ↦ waits_for deal.coord (Elsewhere deal.tx deal.chief) _ a.parties.0.0 (record { asked = deal.asked; turn = deal.turn; bond = refl; turn_is = λ vote e. absurd (no_some e); work = refl }) is
-    | inr more ↦ absurd (not_heard deal.tx deal.turn more)
+    | inr more ↦ absurd (no-errand deal.tx deal.turn (group, errand) more)
   ]
-  waits_in (Weighs deal host) a among = absurd (not_heard deal.tx deal.turn among)
+  waits_in (Weighs deal host) a among = absurd (no-errand deal.tx deal.turn (group, errand) among)
   waits_in (Replied deal agreed host) a among = elim among [
     | inl is ↦ waits_for deal.coord (Reply deal.tx (is_watch deal.turn) agreed host deal.chief) _ a.parties.0.0 (record { asked = deal.asked; turn = deal.turn; bond = refl; turn_is = vote_is deal.turn; work = refl }) is
-    | inr more ↦ absurd (not_heard deal.tx deal.turn more)
+    | inr more ↦ absurd (no-errand deal.tx deal.turn (group, errand) more)
   ]
-  waits_in (Recorded deal agreed host) a among = absurd (not_heard deal.tx deal.turn among)
+  waits_in (Recorded deal agreed host) a among = absurd (no-errand deal.tx deal.turn (group, errand) among)
   waits_in (Closes tx party) a among = end_waits tx party.group party.host party.leg [] a.parties.0.0 (λ more. absurd more) among
   waits_in (ClosesBoth tx one two) a among =
       end_waits tx one.group one.host one.leg (tagged two.group (closing tx two.leg two.host).errands ++ []) a.parties.0.0

@@ -15,7 +15,8 @@ use Rattle.sc_live_orderly.proofs.Lemmas.{is_born-from, seat_found}
 use Rattle.sc_paxos_law.proofs.Lemmas.{Among-right}
 use Rattle.sc_live_plain.specs.Definitions.{IsAsking, AreRequests, NobodyWaits, AreSeated, HaveAllReplies, LinesAreAnswered, Asks as AsksFor, Votes, mark, IsVoting, replica_at, votes_in, marks_at, IsLinkedSetting, IsCalmClient, Setting, IsSetting, Frame, IsBegun, IsWaiting}
 use Rattle.sc_live_plain.proofs.CalmProofs.RequestPhaseClients.{asking_row}
-use Rattle.sc_live_plain.proofs.CalmProofs.CalmWaitingRequests.{AreSought, sought_row}
+use Rattle.sc_live_plain.proofs.CalmProofs.CalmWaitingRequests.{sought_row}
+use Rattle.sc_live_plain.proofs.CalmProofs.SoughtRequests.{AreSought}
 use Rattle.sc_live_plain.proofs.PlainProofs.PlainBeginnings.{IsStage, stage}
 use Rattle.sc_live_plain.proofs.PlainProofs.PlainSteps.{node_born, node_number}
 use Rattle.sc_live_plain.proofs.RowsProofs.RowViews.{Journal, replica_is}
@@ -88,13 +89,10 @@ module _ (words : ℕ → ℕ → ℕ × ℕ) (scenario : Scenario) (begins : Is
         leader_idle (IsBegun scenario rows) frame (is.are frame a) r leads.1
         (λ slot voters e node m. counted slot voters node m at (g.between.votes slot voters (ap (λ o. votes_in o slot) there ∙ e) node m)) client seq held
       where
-        no_marks : (who : ℕ) → (1 ≤ who) × (who ≤ scenario.nodes) → marks_at words scenario rows frame.core.id who ≡ []
-        no_marks who fits = ap (map (mark frame.core.id)) (none_node who fits)
-
         counted : (slot : ℕ) (voters : List ℕ) (node : ℕ) → is_member (frame.at slot) node ≡ true → (1 ≤ frame.lead) × (frame.lead ≤ scenario.nodes) → IsVoting node slot voters (marks_at words scenario rows frame.core.id node) (marks_at words scenario rows frame.core.id frame.lead) → is_member voters node ≡ true
         counted slot voters node m at (inl v) = v
-        counted slot voters node m at (inr (inl asked)) = absurd (subst (Among (AsksFor slot)) (no_marks node (seated.voters frame slot node a m)) asked)
-        counted slot voters node m at (inr (inr vote)) = absurd (subst (Among (Votes node slot)) (no_marks frame.lead at) vote)
+        counted slot voters node m at (inr (inl asked)) = absurd (subst (Among (AsksFor slot)) (ap (map (mark frame.core.id)) (none_node node (seated.voters frame slot node a m))) asked)
+        counted slot voters node m at (inr (inr vote)) = absurd (subst (Among (Votes node slot)) (ap (map (mark frame.core.id)) (none_node frame.lead at)) vote)
 
     none_waits : (asks : Asks) (client : ClientState) → Among asks scenario.clients → value player_table (client_seat (route_of begins.first) asks) rows ≡ Client client → IsWaiting client → ⊥
     none_waits asks client a e w =

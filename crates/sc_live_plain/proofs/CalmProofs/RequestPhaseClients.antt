@@ -1,5 +1,5 @@
 -- Between two orders each row of a client leaves a journal in which clients ask alone; and so each row.
-use Rattle.std.proofs.Common.{◌≡◌, ℕ, ◌-◌, ◌≤◌, eqb, ◌&&◌, ◌||◌, Bool, true, false, cond, List, [], ◌∷◌, ◌++◌, length, map, drop, find, Some, ◌⊎◌, inl, inr, refl, sym, ◌∙◌, ap, subst, arith}
+use Rattle.std.proofs.Common.{◌≡◌, ℕ, ◌-◌, ◌≤◌, eqb, ◌&&◌, ◌||◌, Bool, true, false, cond, List, [], ◌∷◌, ◌++◌, length, drop, find, Some, ◌⊎◌, inl, inr, refl, sym, ◌∙◌, ap, subst, arith}
 use Rattle.std.specs.Prelude.{slice_get}
 use Rattle.std.specs.Option.{option_map}
 use Rattle.std.proofs.lemmas.Bool.{cases_eq, eq-eqb, or_right}
@@ -17,18 +17,19 @@ use Rattle.sc_meaning.specs.sound.Definitions.{Player, player_table, node_seat, 
 use Rattle.sc_live_orderly.specs.Definitions.{IsTidy, IsOrderly, IsInOrder, rest, mail_for, taken}
 use Rattle.sc_live_orderly.proofs.Lemmas.{TakesFirst, takes_first, is_born-from, rest-row}
 use Rattle.sc_live_plain.specs.Definitions.{IsAskingClient, IsAsking, AreFarFromLast, RequestsGoOn, Mark, Other, mark, marks_for, marks_at, IsOther, IsTaken, IsLinkedSetting, IsCalmClient, BeginsBy, StaysCalm, Setting, IsSetting, IsCalmMail, begun_ones, waiting_ones, begun_of, IsBegun}
+use Rattle.sc_live_plain.proofs.PlainProofs.PlainClients.{unasked}
 use Rattle.sc_live_plain.proofs.CalmProofs.MoreCalmRequests.{aside_mark, takes_only, go_only}
 use Rattle.sc_live_plain.proofs.CalmProofs.RequestPhaseNodes as turns_of
 use Rattle.sc_live_plain.proofs.PlainProofs.MorePlainRequests.{IsMore}
-use Rattle.sc_live_plain.proofs.PlainProofs.PlainClientRows.{client_mark}
+use Rattle.sc_live_plain.proofs.PlainProofs.PlainClientRows.{client_mark, taken_other}
 use Rattle.sc_live_plain.proofs.RowsProofs.LeaderMailOfGroups.{group_idle}
-use Rattle.sc_live_plain.proofs.PlainProofs.BegunRequestCounts.{got_grows}
+use Rattle.sc_live_plain.proofs.PlainProofs.BegunRequestCounts.{begun_right, got_grows}
 use Rattle.sc_live_plain.proofs.RowsProofs.LeaderMarks.{each_mark}
 use Rattle.sc_live_plain.proofs.PlainProofs.PlainBeginnings.{IsStage, stage}
 use Rattle.sc_live_plain.proofs.PlainProofs.PlainSteps.{client_number, value_others, started_still, begun_more, same_client, node_away}
 use Rattle.sc_live_plain.proofs.RowsProofs.RowViews.{Journal, replica_others, replica_none}
 use Rattle.sc_live_plain.proofs.PlainProofs.PlainJournals.{of_player}
-use Rattle.sc_live_plain.proofs.CalmProofs.CalmClients.{clients_calm, unasked, Seeks, Ignores, takes_calm, go_calm}
+use Rattle.sc_live_plain.proofs.CalmProofs.CalmClients.{clients_calm, Seeks, Ignores, takes_calm, go_calm}
 
 module _ (words : ℕ → ℕ → ℕ × ℕ) (scenario : Scenario) (begins : IsStage scenario) (set : Setting) (is : IsSetting set) (linked : IsLinkedSetting set) (rows : Journal) (t : IsTidy rows) (j : IsAsking words scenario set begins.first rows) where
   abbrev sys : System Player Mail OrderLine
@@ -117,33 +118,22 @@ module _ (words : ℕ → ℕ → ℕ × ℕ) (scenario : Scenario) (begins : Is
       pub got_more : begun_ones c.client ≤ begun_ones (table c.client (Got first.mail)).0
       got_more = got_grows first.mail.from first.mail.body c.client
 
-      -- what is begun of a client is its request
-      pub asked_right : (seq : ℕ) (op : Op) → IsBegun scenario rows c.client.me seq op → slice_get c.client.requests (seq - 1) ≡ Some op
-      asked_right seq op b =
-          let same : b.asks ≡ asks = begins.once b.asks asks b.is_asks a (b.client_is ∙ c.calm.me_is) in
-          ap (λ (ops : List Op). slice_get ops (seq - 1)) (c.calm.requests_are ∙ sym (ap (λ (x : Asks). x.ops) same)) ∙ b.op_is
-
       -- what becomes of the request that waits
       pub response : Seeks (table c.client (Got first.mail)) ⊎ Ignores c.client first.mail (table c.client (Got first.mail))
       response =
           (takes_calm set asks (IsBegun scenario rows) (IsBegun scenario (rows ++ row_of player_table (client_seat (route_of begins.first) asks) rows (Deliver number) ∷ [])) (has_started rows (client_actor asks.client)) c.client first.mail is linked c.calm is_calm
-          (first.receiver ∙ ap client_actor (sym c.calm.me_is)) asked_right (more (Deliver number) fine (table c.client (Got first.mail)) got_is got_more) (now (Deliver number) fine (table c.client (Got first.mail)) got_is got_more)).1
+          (first.receiver ∙ ap client_actor (sym c.calm.me_is)) (begun_right scenario rows begins.once asks a c.client c.calm.me_is c.calm.requests_are) (more (Deliver number) fine (table c.client (Got first.mail)) got_is got_more) (now (Deliver number) fine (table c.client (Got first.mail)) got_is got_more)).1
 
       mark_none : (name : Draw) → IsCalmMail (IsBegun scenario rows) set first.mail → mark name first.mail ≡ Other
       mark_none name (inl p) = client_mark (IsBegun scenario rows) p.frame name (is.are p.frame p.is_frame) first.mail.from first.mail.to first.mail.body (ap is_node first.receiver ∙ no_node) p.says
       mark_none name (inr s) = aside_mark (IsBegun scenario rows) set name first.mail first.mail.body refl s
 
-      marks_taken : (name : Draw) → IsTaken Other (marks_at words scenario rows name (client_actor asks.client)) (drop 1 (marks_at words scenario rows name (client_actor asks.client)))
-      marks_taken name =
-          let all : marks_at words scenario rows name (client_actor asks.client) ≡ mark name first.mail ∷ map (mark name) first.behind = ap (map (mark name)) first.first in
-          inl (all ∙ (ap (λ m. m ∷ map (mark name) first.behind) (mark_none name is_calm) ∙ ap (λ l. Other ∷ l) (sym (ap (drop 1) all))))
-
       client_turn : IsAsking words scenario set begins.first (rows ++ row_of player_table (client_seat (route_of begins.first) asks) rows (Deliver number) ∷ [])
       client_turn =
           let r = row_of player_table (cseat asks) rows (Deliver number) in
           client_after (Deliver number) fine (table c.client (Got first.mail)) got_is got_more (has_started rows (client_actor asks.client)) (started_still words scenario begins rows r (client_actor asks.client) refl)
-          (clients_calm.takes scenario rows (rows ++ r ∷ []) set asks (has_started rows (client_actor asks.client)) c.client first.mail is linked c.calm is_calm (first.receiver ∙ ap client_actor (sym c.calm.me_is)) asked_right
-          (more (Deliver number) fine (table c.client (Got first.mail)) got_is got_more) (now (Deliver number) fine (table c.client (Got first.mail)) got_is got_more)) marks_taken (takes_only first.mail c.client)
+          (clients_calm.takes scenario rows (rows ++ r ∷ []) set asks (has_started rows (client_actor asks.client)) c.client first.mail is linked c.calm is_calm (first.receiver ∙ ap client_actor (sym c.calm.me_is)) (begun_right scenario rows begins.once asks a c.client c.calm.me_is c.calm.requests_are)
+          (more (Deliver number) fine (table c.client (Got first.mail)) got_is got_more) (now (Deliver number) fine (table c.client (Got first.mail)) got_is got_more)) (λ name. taken_other words scenario rows (client_actor asks.client) number first name (mark_none name is_calm)) (takes_only first.mail c.client)
 
     -- ---- a client starts
 
@@ -156,7 +146,7 @@ module _ (words : ℕ → ℕ → ℕ × ℕ) (scenario : Scenario) (begins : Is
 
       pub go_more : begun_ones c.client ≤ begun_ones (table c.client GoInput).0
       go_more =
-          let none = unasked set asks c.client fresh.state in
+          let none = unasked c.client fresh.state in
           let waits = ap waiting_ones none.0 in
           let replies = ap length none.1 in
           omega (arith, waits, replies)

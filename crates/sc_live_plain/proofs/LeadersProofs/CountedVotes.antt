@@ -11,7 +11,8 @@ use Rattle.sc_node_table.specs.Definitions.{has_room, executed, ReplicaState, Pl
 use Rattle.sc_live_plain.specs.Definitions.{Frame, IsFrame, replica_owes, Requests, IsPlainCommand, takers, IsPlainFlight, IsPlainLeader, IsPlainReplica, HasOffered}
 use Rattle.sc_live_plain.proofs.LeadersProofs.LeaderRequests.{begins}
 use Rattle.sc_live_plain.proofs.RowsProofs.SlotCounts.{found_one, one_if, one_if_most, one_yes, one_no, entries_at, with_length, with_count, with_each, with_among, with_it, with_at, out_length, out_here, out_other, out_each, out_among}
-use Rattle.sc_live_plain.proofs.LeadersProofs.Flights.{others_out, voted_length, voted_count, voted_each, voted_value, voted_others, voted_here, only_flight, no_flight_at, HasVoted, vote_kept, numbered_get, numbered_past}
+use Rattle.sc_live_plain.proofs.LeadersProofs.Flights.{others_out, voted_length, voted_count, voted_each, voted_value, voted_others, voted_here, only_flight, no_flight_at, numbered_get, numbered_past}
+use Rattle.sc_live_steps.proofs.FollowingProofs.KeptVotes.{HasVoted, vote_kept}
 use Rattle.sc_live_plain.proofs.LeadersProofs.LeadingReplicas.{in_range, range_before, range_behind, early_taken, flights_at, IsHeld, Leads}
 use Rattle.sc_live_plain.proofs.LeadersProofs.Pumps.{call_is}
 use Rattle.sc_live_plain.proofs.LeadersProofs.LeaderExecutions.{IsRun, executed_none, executed_run, some_taken}
@@ -156,7 +157,7 @@ module _ (begun : Requests) (frame : Frame) (is : IsFrame frame) (taken : ℕ) (
                 is_call = q.is_call;
                 voters_are = (let same : flight ≡ g = some_is (sym e ∙ k) in
                     let here : g.slot ≡ slot = ap (λ (x : Flight Command). x.slot) (sym same) ∙ at in
-                    subst (λ s. length (kept_voters voters) ≤ votes_of (frame.at s) (kept_voters voters)) (sym here) has_voted.members_still);
+                    subst (λ s. length (kept_voters voters) ≤ votes_of (frame.at s) (kept_voters voters)) (sym here) has_voted.few);
                 undecided = (let same : flight ≡ g = some_is (sym e ∙ k) in
                     let here : g.slot ≡ slot = ap (λ (x : Flight Command). x.slot) (sym same) ∙ at in ap (λ s. is_majority (frame.at s) (kept_voters voters)) here ∙ undecided);
               }))

@@ -6,7 +6,7 @@ use Rattle.sc_node_table.specs.Values.{Draw, Base}
 use Rattle.sc_actor.specs.Definitions.{are_apart}
 use Rattle.sc_words.proofs.PaxosProofs.Lemmas.{Each-among, Each-from_All, one_of_name}
 use Rattle.sc_node_table.specs.Definitions.{numbers_from}
-use Rattle.sc_scenario.specs.scenario.Definitions.{base_at, bases_up_to, group_at, IsBounded, IsBoundedGroup, IsUpTo}
+use Rattle.sc_scenario.specs.scenario.Definitions.{base_at, bases_up_to, group_at, IsBounded, IsUpTo}
 use Rattle.sc_scenario.specs.declared.scenario.drafts.GroupLine.{GroupLine}
 use Rattle.sc_scenario.specs.declared.scenario.scenarios.Asks.{Asks}
 use Rattle.sc_scenario.specs.declared.scenario.scenarios.Scenario.{Scenario}
@@ -50,17 +50,14 @@ module _ (scenario : Scenario) (bounded : IsBounded scenario) where
   pub of_groups : (base : Base) → Among base scenario.groups → (k : ℕ) × (k < length bounded.starts) × (base_at bounded.starts k ≡ base)
   of_groups base a = of_up_to bounded.starts (length bounded.starts) base (subst (Among base) bounded.groups a)
 
-  line_bounded : (k : ℕ) → k < length bounded.starts → IsBoundedGroup scenario.nodes (group_at bounded.starts k)
-  line_bounded k low = bounded.each k (record { lo = 0; members = [] }) low
-
   within : (k : ℕ) → k < length bounded.starts → (node : ℕ) → is_member (group_at bounded.starts k).members node ≡ true → (1 ≤ node) × (node ≤ scenario.nodes)
   within k low node m =
       let members = (group_at bounded.starts k).members in
-      Each-among (IsUpTo scenario.nodes) members node (Each-from_All (IsUpTo scenario.nodes) members (line_bounded k low).members_in) (member-among members node m)
+      Each-among (IsUpTo scenario.nodes) members node (Each-from_All (IsUpTo scenario.nodes) members (bounded.each k (record { lo = 0; members = [] }) low).members_in) (member-among members node m)
 
   frame_at : (k : ℕ) → k < length bounded.starts → IsFrame (frame_of (base_at bounded.starts k))
   frame_at k low =
-      let roster = (line_bounded k low).roster in
+      let roster = (bounded.each k (record { lo = 0; members = [] }) low).roster in
       record {
         free = refl;
         stands = refl;

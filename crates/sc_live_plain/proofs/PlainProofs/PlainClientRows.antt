@@ -20,7 +20,7 @@ use Rattle.sc_live_plain.specs.Definitions.{Frame, IsFrame, Mark, Other, mark, m
 use Rattle.sc_live_plain.proofs.PlainProofs.PlainInduction.{owing_of, IsClientAt, IsPlainJournal}
 use Rattle.sc_live_plain.proofs.PlainProofs.MorePlainRequests.{IsMore}
 use Rattle.sc_live_plain.proofs.RowsProofs.LeaderMailOfGroups.{group_idle}
-use Rattle.sc_live_plain.proofs.PlainProofs.BegunRequestCounts.{got_grows}
+use Rattle.sc_live_plain.proofs.PlainProofs.BegunRequestCounts.{begun_right, got_grows}
 use Rattle.sc_live_plain.proofs.RowsProofs.LeaderMarks.{each_mark}
 use Rattle.sc_live_plain.proofs.PlainProofs.PlainBeginnings.{frames_of, IsStage}
 use Rattle.sc_live_plain.proofs.PlainProofs.PlainSteps.{client_number, each_numbered, value_others, started_still, node_stays, client_stays, sent_more, begun_more, same_client, node_away}
@@ -45,6 +45,13 @@ asked_others name who after d =
 
 ended_others : (name : Draw) (who : ℕ) (after : ClientStep) → DidEnd after → Each IsOther (marks_for name who after.1)
 ended_others name who after d = subst (λ l. Each IsOther (marks_for name who l)) (sym d.sends) tt
+
+-- a mail that a client takes is of no mark of a group
+pub taken_other : (words : ℕ → ℕ → ℕ × ℕ) (scenario : Scenario) (rows : Journal) (who number : ℕ) (first : TakesFirst (system_of as_nodes words scenario) rows who number) (name : Draw) → mark name first.mail ≡ Other
+    → IsTaken Other (marks_at words scenario rows name who) (drop 1 (marks_at words scenario rows name who))
+taken_other words scenario rows who number first name other =
+    let all : marks_at words scenario rows name who ≡ mark name first.mail ∷ map (mark name) first.behind = ap (map (mark name)) first.first in
+    inl (all ∙ (ap (λ m. m ∷ map (mark name) first.behind) other ∙ ap (λ l. Other ∷ l) (sym (ap (drop 1) all))))
 
 module _ (words : ℕ → ℕ → ℕ × ℕ) (scenario : Scenario) (stage : IsStage scenario) (round : IsRound (frames_of scenario))
     (rows : Journal) (t : IsTidy rows) (j : IsPlainJournal words scenario stage rows) (asks : Asks) (a : Among asks scenario.clients)
@@ -148,25 +155,15 @@ module _ (words : ℕ → ℕ → ℕ × ℕ) (scenario : Scenario) (stage : IsS
     pub got_more : begun_ones c.client ≤ begun_ones (table c.client (Got first.mail)).0
     got_more = got_grows first.mail.from first.mail.body c.client
 
-    -- what is begun of a client is its request
-    pub asked_right : (seq : ℕ) (op : Op) → IsBegun scenario rows c.client.me seq op → slice_get c.client.requests (seq - 1) ≡ Some op
-    asked_right seq op b =
-        let same : b.asks ≡ asks = stage.once b.asks asks b.is_asks a (b.client_is ∙ c.plain.me_is) in
-        ap (λ (ops : List Op). slice_get ops (seq - 1)) (c.plain.requests_are ∙ sym (ap (λ (x : Asks). x.ops) same)) ∙ b.op_is
-
     pub takes : TakesMail (frames_of scenario) round asks (IsBegun scenario rows) (IsBegun scenario (rows ++ row_of player_table (client_seat (route_of stage.first) asks) rows (Deliver number) ∷ [])) (has_started rows (client_actor asks.client)) c.client first.mail c.plain is_plain
-        (first.receiver ∙ ap client_actor (sym c.plain.me_is)) asked_right (more (Deliver number) fine (table c.client (Got first.mail)) got_is got_more) (now (Deliver number) fine (table c.client (Got first.mail)) got_is got_more) (table c.client (Got first.mail))
+        (first.receiver ∙ ap client_actor (sym c.plain.me_is)) (begun_right scenario rows stage.once asks a c.client c.plain.me_is c.plain.requests_are) (more (Deliver number) fine (table c.client (Got first.mail)) got_is got_more) (now (Deliver number) fine (table c.client (Got first.mail)) got_is got_more) (table c.client (Got first.mail))
     takes = client_row (frames_of scenario) round asks (IsBegun scenario rows) (IsBegun scenario (rows ++ row_of player_table (client_seat (route_of stage.first) asks) rows (Deliver number) ∷ [])) (has_started rows (client_actor asks.client)) c.client first.mail c.plain is_plain
-        (first.receiver ∙ ap client_actor (sym c.plain.me_is)) asked_right (more (Deliver number) fine (table c.client (Got first.mail)) got_is got_more) (now (Deliver number) fine (table c.client (Got first.mail)) got_is got_more)
+        (first.receiver ∙ ap client_actor (sym c.plain.me_is)) (begun_right scenario rows stage.once asks a c.client c.plain.me_is c.plain.requests_are) (more (Deliver number) fine (table c.client (Got first.mail)) got_is got_more) (now (Deliver number) fine (table c.client (Got first.mail)) got_is got_more)
 
     marks_taken : (name : Draw) → IsTaken Other (marks_at words scenario rows name (client_actor asks.client)) (drop 1 (marks_at words scenario rows name (client_actor asks.client)))
     marks_taken name =
-        let all : marks_at words scenario rows name (client_actor asks.client) ≡ mark name first.mail ∷ map (mark name) first.behind = ap (map (mark name)) first.first in
-        let none : mark name first.mail ≡ Other = mark_none name in
-        inl (all ∙ (ap (λ m. m ∷ map (mark name) first.behind) none ∙ ap (λ l. Other ∷ l) (sym (ap (drop 1) all))))
-      where
-        mark_none : (name : Draw) → mark name first.mail ≡ Other
-        mark_none name = client_mark (IsBegun scenario rows) is_plain.frame name (stage.are is_plain.frame is_plain.is_frame) first.mail.from first.mail.to first.mail.body (ap is_node first.receiver ∙ no_node) is_plain.says
+        taken_other words scenario rows (client_actor asks.client) number first name
+        (client_mark (IsBegun scenario rows) is_plain.frame name (stage.are is_plain.frame is_plain.is_frame) first.mail.from first.mail.to first.mail.body (ap is_node first.receiver ∙ no_node) is_plain.says)
 
     others_sent : (name : Draw) (who : ℕ) → Each IsOther (marks_for name who (table c.client (Got first.mail)).1)
     others_sent name who = elim (takes.response) [
@@ -195,7 +192,7 @@ module _ (words : ℕ → ℕ → ℕ × ℕ) (scenario : Scenario) (stage : IsS
 
     pub go_more : begun_ones c.client ≤ begun_ones (table c.client GoInput).0
     go_more =
-        let none = unasked (frames_of scenario) round asks c.client fresh.state in
+        let none = unasked c.client fresh.state in
         let waits = ap waiting_ones none.0 in
         let replies = ap length none.1 in
         omega (arith, waits, replies)

@@ -53,6 +53,10 @@ each_numbered P sent (suc place) mail all e = at sent place all e
 pub same_client : (scenario : Scenario) (stage : IsStage scenario) (asks other : Asks) → Among asks scenario.clients → Among other scenario.clients → client_actor other.client ≡ client_actor asks.client → other ≡ asks
 same_client scenario stage asks other a b e = stage.once other asks b a (omega (arith, e))
 
+-- the number of a node that there is
+pub node_in : (nodes me : ℕ) → nodes ≤ most_nodes → 1 ≤ me → me ≤ nodes → is_node me ≡ true
+node_in nodes me all one most = and_from (leb 1 me) (leb me most_nodes) (le-leb 1 me one) (le-leb me most_nodes (omega (arith, most, all)))
+
 module _ (words : ℕ → ℕ → ℕ × ℕ) (scenario : Scenario) (stage : IsStage scenario) where
   abbrev nseat : ℕ → Seat Player
   nseat me = node_seat as_nodes scenario.groups scenario.policy me
@@ -70,7 +74,7 @@ module _ (words : ℕ → ℕ → ℕ × ℕ) (scenario : Scenario) (stage : IsS
       (Among-left (nseat me) (map nseat (numbers_from 1 scenario.nodes)) (map cseat scenario.clients) (map_among nseat (numbers_from 1 scenario.nodes) me (to_numbers 1 scenario.nodes me one (omega (arith, most)))))
 
   pub node_number : (me : ℕ) → 1 ≤ me → me ≤ scenario.nodes → is_node me ≡ true
-  node_number me one most = (let all = stage.nodes in and_from (leb 1 me) (leb me most_nodes) (le-leb 1 me one) (le-leb me most_nodes (omega (arith, most, all))))
+  node_number me = node_in scenario.nodes me stage.nodes
 
   -- a client's number is that of no node
   pub client_number : (asks : Asks) → Among asks scenario.clients → is_node (client_actor asks.client) ≡ false

@@ -1,15 +1,16 @@
 -- A leader at which calls alone are under way, and the group serves them: a vote lowers what is owed.
-use Rattle.std.proofs.Common.{◌≡◌, ℕ, ◌≤◌, ◌&&◌, eqb, ltb, Bool, true, false, cond, List, [], ◌∷◌, length, Option, Some, None, refl, sym, ◌∙◌, ap, subst}
+use Rattle.std.proofs.Common.{◌≡◌, ℕ, ◌≤◌, eqb, ltb, Bool, true, false, cond, List, [], ◌∷◌, length, Option, Some, None, refl, sym, ◌∙◌, ap, subst}
 use Rattle.sc_base.specs.Definitions.{Each, is_member}
 use Rattle.sc_node_table.specs.Values.{Op, Command, Noop, Call, Core, Flight}
 use Rattle.sc_group_table.specs.machine.Definitions.{Group}
 use Rattle.sc_words.specs.paxos.Definitions.{flight_at, without_flight}
-use Rattle.sc_node_table.specs.Definitions.{entered, looked, executed_one, has_room, next_ready, ReplicaState, Place, next, members, at_slot, with_slot, without_slot}
+use Rattle.sc_node_table.specs.Definitions.{entered, looked, executed_one, next_ready, ReplicaState, Place, next, members, at_slot, with_slot, without_slot}
 use Rattle.sc_law_walks.specs.Definitions.{IfThere}
 use Rattle.sc_live_steps.specs.calm.Definitions.{AreBounded, IsServed, IsServedCall, ServesAll, IsPaid, MayGoOn, ArePaid, AllPaid, IsCounting, readied_at, DecidesFreely, Ways}
-use Rattle.sc_live_steps.proofs.CalmProofs.CountedPotential.{counted_ends, left_same, looked_same}
+use Rattle.sc_live_steps.proofs.CalmProofs.CountedPotential.{counted_ends, left_stays, looked_stays}
 use Rattle.sc_live_steps.proofs.CalmProofs.CallEntries.{call_core, call_leads, call_said}
 use Rattle.sc_live_steps.proofs.CalmProofs.PaidEntries.{near, after_counting, execution_owes}
+use Rattle.sc_live_steps.proofs.FollowingProofs.ExecutedEntries.{ready_of}
 use Rattle.sc_live_steps.proofs.FollowingProofs.FlightSlots.{slot_in as found_with}
 
 -- ---- what holds of each holds of what is found, and without one or with one more
@@ -72,7 +73,7 @@ serves_next client seq op place serves at served =
     let same_core : r.group.core ≡ place.0.group.core = ap (λ (g : Group). g.core) counts.group_is ∙ core in
     let gone = ap (λ (g : Group). g.core.gone) counts.group_is ∙ leads.stands in
     let mine : is_member (members r) r.me ≡ true = ap (λ n. is_member (members r) n) counts.me_is ∙ (ap (λ (g : Group). is_member g.core.members place.0.me) counts.group_is ∙ leads.stays) in
-    let same = ap looked (left_same near r mails counts.running gone mine) ∙ looked_same near r mails counts.running in
+    let same = ap looked (left_stays r mails counts.running gone mine) ∙ looked_stays r mails counts.running in
     subst (λ (p : Place). ServesAll p.0) (sym same)
     (record {
       running = counts.running;
@@ -94,13 +95,6 @@ one_paid es (Call client seq op) place serves at served more =
 one_paid es Noop place serves at served more = absurd served
 one_paid es _ place serves at served more = absurd served
 
-pub ready_is : (r : ReplicaState) (command : Command) → next_ready r ≡ Some command → at_slot r.ready (next r) ≡ Some command
-ready_is r command e = by (r.running && has_room r) e
-  where
-    by : (b : Bool) → cond b (at_slot r.ready (next r)) None ≡ Some command → at_slot r.ready (next r) ≡ Some command
-    by true is = is
-    by false is = cc
-
 calls_paid : (es : List (ℕ × Command)) (place : Place) → ServesAll place.0 → ArePaid es place
 calls_paid [] place serves = λ runs. serves.may
 calls_paid (e ∷ es) place serves = by (next_ready place.0) refl (λ p s. calls_paid es p s)
@@ -108,7 +102,7 @@ calls_paid (e ∷ es) place serves = by (next_ready place.0) refl (λ p s. calls
     by : (o : Option Command) → next_ready place.0 ≡ o → ((p : Place) → ServesAll p.0 → ArePaid es p) → IfThere (λ command. IsPaid command place.0 × ArePaid es (executed_one true command place)) (MayGoOn place.0) o
     by None is more = λ runs. serves.may
     by (Some command) is more =
-        let at = ready_is place.0 command is in
+        let at = ready_of command place.0 is in
         one_paid es command place serves at (each_at (IsServedCall place.0.group.core) (next place.0) place.0.ready command serves.ready at) more
 
 all_calls : (command : Command) (place : Place) → ServesAll place.0 → at_slot place.0.ready (next place.0) ≡ Some command → AllPaid command place

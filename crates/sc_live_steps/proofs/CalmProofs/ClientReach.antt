@@ -222,9 +222,19 @@ module _ (ways : Ways) (reach : Reach) (client : ClientState) (bounded : AreBoun
 
   -- ---- an answer names another group
 
+  -- an answer that is heard by what was asked, and for a request that waits
+  asked_pays : (from seq : ℕ) (group : Draw) (after : ClientState) → (waits_for client.waiting seq ≡ true → was_asked client.asked from group ≡ true → client_turn_owes ways reach (request_sent after) + 1 ≤ client_owes ways reach client + 27)
+      → client_turn_owes ways reach (cond {A = ClientStep} (waits_for client.waiting seq) (cond (was_asked client.asked from group) (request_sent after) (client, [])) (client, [])) + 1 ≤ client_owes ways reach client + 27
+  asked_pays from seq group after pays = by (waits_for client.waiting seq) refl (was_asked client.asked from group) refl
+    where
+      by : (b : Bool) → waits_for client.waiting seq ≡ b → (c : Bool) → was_asked client.asked from group ≡ c → client_turn_owes ways reach (cond {A = ClientStep} b (cond c (request_sent after) (client, [])) (client, [])) + 1 ≤ client_owes ways reach client + 27
+      by true waits true asked = pays waits asked
+      by true waits false asked = still 27 (omega arith)
+      by false waits c asked = still 27 (omega arith)
+
   not_mine_pays : (from seq : ℕ) (group : Draw) (arc : Arc) (succ : Link) → MayHear ways reach from group seq client (Says.NotMine arc succ)
       → client_turn_owes ways reach (got from (Answer group seq (Says.NotMine arc succ)) client) + 1 ≤ client_owes ways reach client + 27
-  not_mine_pays from seq group arc succ may = by (waits_for client.waiting seq) refl (was_asked client.asked from group) refl
+  not_mine_pays from seq group arc succ may = asked_pays from seq group after (λ waits asked. learns waits (may (waits, asked)))
     where
       after : ClientState
       after = record client { known = learnt_from_not_mine group arc succ client.known }
@@ -243,13 +253,8 @@ module _ (ways : Ways) (reach : Reach) (client : ClientState) (bounded : AreBoun
           told_unknown : unknown reach.stands (request_sent after).0.known ≡ unknown reach.stands (learnt_from_not_mine group arc succ client.known)
           told_unknown = ap (unknown reach.stands) (sent_knows after (chosen_for after (waiting_request after)))
 
-      by : (b : Bool) → waits_for client.waiting seq ≡ b → (c : Bool) → was_asked client.asked from group ≡ c → client_turn_owes ways reach (cond {A = ClientStep} b (cond c (request_sent after) (client, [])) (client, [])) + 1 ≤ client_owes ways reach client + 27
-      by true waits true asked = learns waits (may (waits, asked))
-      by true waits false asked = still 27 (omega arith)
-      by false waits c asked = still 27 (omega arith)
-
   gone_pays : (from seq : ℕ) (group : Draw) (into : Route) → MayHear ways reach from group seq client (Says.Gone into) → client_turn_owes ways reach (got from (Answer group seq (Says.Gone into)) client) + 1 ≤ client_owes ways reach client + 27
-  gone_pays from seq group into may = by (waits_for client.waiting seq) refl (was_asked client.asked from group) refl
+  gone_pays from seq group into may = asked_pays from seq group after (λ waits asked. leaves waits (may (waits, asked)))
     where
       after : ClientState
       after = record client { known = learnt_from_gone group into client.known }
@@ -260,11 +265,6 @@ module _ (ways : Ways) (reach : Reach) (client : ClientState) (bounded : AreBoun
           let less = less_search reach ways.most client (learnt_from_gone group into client.known) client.waiting seq waits (leaves_less reach group into client is) in
           let same = request_search reach ways.most after in
           omega (arith, owes, less, same)
-
-      by : (b : Bool) → waits_for client.waiting seq ≡ b → (c : Bool) → was_asked client.asked from group ≡ c → client_turn_owes ways reach (cond {A = ClientStep} b (cond c (request_sent after) (client, [])) (client, [])) + 1 ≤ client_owes ways reach client + 27
-      by true waits true asked = leaves waits (may (waits, asked))
-      by true waits false asked = still 27 (omega arith)
-      by false waits c asked = still 27 (omega arith)
 
   -- ---- a later one was begun
 

@@ -17,6 +17,18 @@ entered_calls : (command : Command) (r : ReplicaState) → (entered command r).b
 unfolding entered forgotten
 entered_calls command r = refl
 
+-- ---- a leader that stays a member of a group that stands goes on
+
+pub left_stays : (r : ReplicaState) (mails : List Mail) → r.running ≡ true → r.group.core.gone ≡ None → is_member (members r) r.me ≡ true → left (r, mails) ≡ (r, mails)
+unfolding left
+left_stays r mails running stands mine =
+    ap (λ c. cond c (left_gone r.group.core.gone (r, mails)) (r, mails)) running
+    ∙ (ap (λ (g : Option Route). left_gone g (r, mails)) stands ∙ ap (λ c. cond c (r, mails) (stopped (Some (least_of (members r))) (r, mails))) mine)
+
+pub looked_stays : (r : ReplicaState) (mails : List Mail) → r.running ≡ true → looked (r, mails) ≡ (r, mails)
+unfolding looked
+looked_stays r mails running = ap (λ c. cond c (r, mails) (looked_for r.group.core.gone (r, mails))) running
+
 module _ (ways : Ways) where
   abbrev sum : List Mail → ℕ
   sum mails = sum_by (mail_owes ways) mails
@@ -125,22 +137,10 @@ module _ (ways : Ways) where
             ap (λ (q : ReplicaState). q.leader.reports) same,
           )
 
-  -- ---- a leader that stays a member of a group that stands goes on
-
-  pub left_same : (r : ReplicaState) (mails : List Mail) → r.running ≡ true → r.group.core.gone ≡ None → is_member (members r) r.me ≡ true → left (r, mails) ≡ (r, mails)
-  unfolding left
-  left_same r mails running stands mine =
-      ap (λ c. cond c (left_gone r.group.core.gone (r, mails)) (r, mails)) running
-      ∙ (ap (λ (g : Option Route). left_gone g (r, mails)) stands ∙ ap (λ c. cond c (r, mails) (stopped (Some (least_of (members r))) (r, mails))) mine)
-
-  pub looked_same : (r : ReplicaState) (mails : List Mail) → r.running ≡ true → looked (r, mails) ≡ (r, mails)
-  unfolding looked
-  looked_same r mails running = ap (λ c. cond c (r, mails) (looked_for r.group.core.gone (r, mails))) running
-
   -- what is owed at its end
   at_end : (place : Place) (total : ℕ) → place.0.running ≡ true → place.0.group.core.gone ≡ None → is_member (members place.0) place.0.me ≡ true → replica_owes ways.most place.0 + sum place.1 ≤ total → place_owes ways (looked (left place)) ≤ total
   at_end (r, mails) total running stands mine le =
-      let same = ap looked (left_same r mails running stands mine) ∙ looked_same r mails running in
+      let same = ap looked (left_stays r mails running stands mine) ∙ looked_stays r mails running in
       let owes = ap (place_owes ways) same in
       let idle : idle_owes r.running r.group.core.gone ≡ 0 = ap (λ b. idle_owes b r.group.core.gone) running in
       omega (arith, owes, idle, le)

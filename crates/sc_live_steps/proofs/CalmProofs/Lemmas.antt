@@ -12,7 +12,6 @@ pub use Rattle.sc_live_steps.proofs.CalmProofs.NodePotential.{nodes_lower, raise
 pub use Rattle.sc_live_steps.proofs.CalmProofs.PartyPotential.{parties_lower, parties_raise_little, led_parties_lower, children_found, put_others, put_found, apart}
 pub use Rattle.sc_live_steps.proofs.CalmProofs.ClientReach.{clients_pay}
 pub use Rattle.sc_live_steps.proofs.CalmProofs.RestingJournals.{resting_owes_little, kept_ends_quiet as kept_calm_ends_quiet, quiet_mail}
-pub use Rattle.sc_live_steps.proofs.CalmProofs.CallVotes.{ready_is}
 pub use Rattle.sc_live_steps.proofs.CalmProofs.UntakenPotential.{strangers_lower}
 pub use Rattle.sc_live_steps.proofs.CalmProofs.BornReplicas.{begin_at_rest as replicas_begin_at_rest, first_leads as first_members_lead, begin_at_rest, first_leads}
 pub use Rattle.sc_live_steps.proofs.CalmProofs.CalmLaws.{orders_raise_little}

@@ -12,7 +12,7 @@ use Rattle.sc_live_steps.specs.calm.Definitions.{AreBounded, EndsAfter, LeavesFe
 use Rattle.sc_live_steps.proofs.CalmProofs.PumpPotential.{pump_owes}
 use Rattle.sc_law_walks.proofs.Lemmas.{entered_next, idle_pump}
 use Rattle.sc_live_steps.proofs.CalmProofs.LearnRows.{IsFresh, looked_fresh, unbound_new}
-use Rattle.sc_live_steps.proofs.CalmProofs.CountedPotential.{Counts, counted_ends, counted_owes, leaving_owes, left_same, looked_same, left_stops, stops_idle}
+use Rattle.sc_live_steps.proofs.CalmProofs.CountedPotential.{Counts, counted_ends, counted_owes, leaving_owes, left_stays, looked_stays, left_stops, stops_idle}
 use Rattle.sc_live_steps.proofs.CalmProofs.MemberChanges.{silent_said, changes_owe, leader_leaves}
 use Rattle.sc_live_steps.proofs.CalmProofs.CallEntries.{call_leads, call_said, call_owes}
 use Rattle.sc_live_steps.proofs.CalmProofs.TransactionEntries.{SaysMost, few_added, begin_new, split_new, prepared_new, watched_new, finish_new, begin_said, split_said, split_alone_said, prepared_said, watched_said, finish_said, vote_said, vote_quiet_said, vote_new, watch_said, watch_first_said}
@@ -160,7 +160,7 @@ module _ (ways : Ways) (command : Command) (before : Place) (may : MayPump befor
       (λ r mails counts.
       let gone = ap (λ (g : Group). g.core.gone) counts.group_is ∙ leads.stands in
       let mine = ap (λ n. is_member (members r) n) counts.me_is ∙ (ap (λ (g : Group). is_member g.core.members before.0.me) counts.group_is ∙ leads.stays) in
-      let same = ap looked (left_same ways r mails counts.running gone mine) ∙ looked_same ways r mails counts.running in
+      let same = ap looked (left_stays r mails counts.running gone mine) ∙ looked_stays r mails counts.running in
       subst (λ (p : Place). ArePaid p.0.ready p) (sym same) (none_paid (r, mails) (counts.ready ∙ alone) (λ runs. after_counting said r mails counts)))
 
   stops_paid : (said : ℕ) → StopsAfter command before.0 → (said_place command before).0 ≡ entered command before.0

@@ -1,14 +1,13 @@
 -- In quiet journals that rest only clients owe, and no more than at their births.
-use Rattle.std.proofs.Common.{◌≡◌, ℕ, zero, suc, ◌+◌, ◌*◌, ◌≤◌, eqb, ltb, Bool, true, false, true≢false, cond, List, [], ◌∷◌, ◌++◌, length, replicate, sum_by, Option, Some, None, refl, sym, ◌∙◌, ap, arith}
-use Rattle.std.specs.Prelude.{slice_get, is_none}
+use Rattle.std.proofs.Common.{◌≡◌, ℕ, ◌+◌, ◌*◌, ◌≤◌, eqb, ltb, Bool, true, false, cond, List, [], ◌∷◌, ◌++◌, length, sum_by, Option, Some, None, refl, ◌∙◌, ap, arith}
 use Rattle.std.proofs.lemmas.Bool.{ltb-true, ltb-false}
 use Rattle.std.proofs.lemmas.List.Sums.{sum_by-cons}
 use Rattle.sc_base.specs.Definitions.{Each}
 use Rattle.sc_node_table.specs.Values.{OrderLine, Mail, Node, Client, Seat, Input}
-use Rattle.sc_actor.specs.Definitions.{mails, copies, numbers, is_for, value, replay, acted, input_of, numbers_of, is_quiet}
+use Rattle.sc_actor.specs.Definitions.{mails, copies, is_for, value, replay, acted, input_of, numbers_of, is_quiet}
 use Rattle.sc_actor.proofs.Lemmas.{wide_none}
-use Rattle.sc_live_orderly.specs.Definitions.{IsTidy, mail_with, is_born, under_way}
-use Rattle.sc_live_orderly.proofs.Lemmas.{in_time_tidy, may-born, ends_quiet}
+use Rattle.sc_live_orderly.specs.Definitions.{IsTidy, is_born, under_way}
+use Rattle.sc_live_orderly.proofs.Lemmas.{empty_by, in_time_tidy, may-born, ends_quiet}
 use Rattle.sc_node_table.specs.Definitions.{ReplicaState}
 use Rattle.sc_client_table.proofs.TableProofs.TurnLemmas.{sends_in_turn}
 use Rattle.sc_meaning.specs.sound.Definitions.{Player, player_table, receiver_of}
@@ -18,22 +17,10 @@ use Rattle.sc_live_steps.proofs.CalmProofs.PaidRows.{kept_calm}
 
 -- ---- mail
 
--- where nothing is pending, nothing is under way
-none_left : (test : Mail → Bool) (first : ℕ) (sent : List Mail) (counts : List ℕ) → is_none (slice_get (numbers test first sent counts) 0) ≡ true → mail_with test sent counts ≡ []
-none_left test first [] counts none = refl
-none_left test first (m ∷ sent) [] none = refl
-none_left test first (m ∷ sent) (c ∷ counts) none = by (test m) c none (none_left test (suc first) sent counts)
-  where
-    by : (b : Bool) (c : ℕ) → is_none (slice_get (cond b (replicate c first) [] ++ numbers test (suc first) sent counts) 0) ≡ true → (is_none (slice_get (numbers test (suc first) sent counts) 0) ≡ true → mail_with test sent counts ≡ [])
-        → cond b (replicate c m) [] ++ mail_with test sent counts ≡ []
-    by true zero none' more = more none'
-    by true (suc c) none' more = absurd (true≢false (sym none'))
-    by false c none' more = more none'
-
 module _ (words : ℕ → ℕ → ℕ × ℕ) (births : List (Seat Player)) where
   pub quiet_mail : (rows : Rows) → IsTidy rows → is_quiet (players words births) rows ≡ true → under_way (players words births) rows ≡ []
   quiet_mail rows tidy quiet =
-      none_left (λ mail. is_born (players words births) (receiver_of mail)) 1 (mails rows) (copies rows)
+      empty_by (players words births) (λ mail. is_born (players words births) (receiver_of mail)) 1 (mails rows) (copies rows)
       (wide_none (is_for receiver_of (numbers_of births) rows None) (λ mail. is_born (players words births) (receiver_of mail)) (λ m born. may-born (players words births) rows (receiver_of m) tidy ∙ born) 1 (mails rows) (copies rows) quiet)
 
 -- ---- nodes

@@ -2,7 +2,7 @@
 use Rattle.std.proofs.Common.{◌≡◌, ℕ, suc, ◌+◌, ◌<◌, ◌≤◌, ◌&&◌, eqb, Bool, true, false, true≢false, cond, List, [], ◌∷◌, ◌++◌, length, Option, Some, None, ◌⊎◌, inl, inr, refl, sym, ◌∙◌, ap, subst, arith, append-nil}
 use Rattle.std.specs.Prelude.{is_some}
 use Rattle.std.specs.Option.{option_map}
-use Rattle.std.proofs.lemmas.Bool.{cases_eq, cases_lt}
+use Rattle.std.proofs.lemmas.Bool.{cond_both, cases_eq, cases_lt}
 use Rattle.sc_base.specs.Definitions.{Each, is_member}
 use Rattle.sc_node_table.specs.Values.{Command, Route, Flight}
 use Rattle.sc_words.specs.paxos.Definitions.{flight_at, without_flight}
@@ -77,6 +77,16 @@ module _ (at : Sets) (course : Course) (command : Command) (r : ReplicaState) (l
       same s ne =
           ap (λ (o : Option (Flight Command)). either (option_map (λ flight. flight.value) o) (at_slot (without_slot r.ready (next r)) s)) (flight_out (next r) s r.leader.flights ne)
           ∙ ap (λ o. either (flying r s) o) (slot_out (next r) s r.ready ne)
+
+  pub on_leads : (after : ReplicaState) → IsOn command r after → IsLed at course after
+  on_leads after on = subst (IsLed at course) (sym on.is) (stays_led on.acts on.backlog on.stands on.stays)
+
+-- where it leads on, it is one entry further, and what is ready behind that one is so still
+pub on_next : (command : Command) (r after : ReplicaState) → IsOn command r after → next after ≡ next r + 1
+on_next command r after on = ap next on.is ∙ entered_next command r
+
+pub on_ready : (command : Command) (r after : ReplicaState) → IsOn command r after → (slot : ℕ) → (slot ≡ next r → ⊥) → at_slot after.ready slot ≡ at_slot r.ready slot
+on_ready command r after on slot ne = ap (λ (q : ReplicaState). at_slot q.ready slot) on.is ∙ slot_out (next r) slot r.ready ne
 
 -- ---- nothing is executed
 
@@ -247,9 +257,9 @@ module _ (at : Sets) (course : Course) (command : Command) (place mid : Place) (
     ];
     drawn = λ slot least most. elim (cases_eq slot (next place.0)) [
       | inl e ↦ drawn_one slot e
-      | inr ne ↦ ap is_some (sym (ready_same slot ne)) ∙ b.drawn slot (past_next slot least ne) most
+      | inr ne ↦ ap is_some (sym (on_ready command place.0 mid.0 on slot ne)) ∙ b.drawn slot (past_next slot least ne) most
     ];
-    ready = λ goes slot least. b.ready goes slot least ∙ ready_same slot (λ e. (let up = b.reaches in let n = next_mid in omega (arith, least, up, n, e)));
+    ready = λ goes slot least. b.ready goes slot least ∙ on_ready command place.0 mid.0 on slot (λ e. (let up = b.reaches in let n = next_mid in omega (arith, least, up, n, e)));
     bound = b.bound;
     up = b.up;
     offers = b.offers;
@@ -262,9 +272,6 @@ module _ (at : Sets) (course : Course) (command : Command) (place mid : Place) (
     ];
   }
     where
-      ready_same : (slot : ℕ) → (slot ≡ next place.0 → ⊥) → at_slot mid.0.ready slot ≡ at_slot place.0.ready slot
-      ready_same slot ne = ap (λ (q : ReplicaState). at_slot q.ready slot) on.is ∙ slot_out (next place.0) slot place.0.ready ne
-
       past_next : (slot : ℕ) → next place.0 ≤ slot → (slot ≡ next place.0 → ⊥) → next mid.0 ≤ slot
       past_next slot least ne = elim (cases_lt (next place.0) slot) [ inl lt ↦ (let n = next_mid in omega (arith, n, lt)) | inr ge ↦ absurd (ne (omega (arith, least, ge))) ]
 
@@ -330,18 +337,14 @@ step_leads at course command place es led ready is_next rest =
     let past = entries_lead at course command place led is_next in
     elim (past.state) [
       | inl on ↦ before_rest at course command place mid led ready is_next past on (pumped (executed_ready es mid).0)
-          (pump_leads at course mid (executed_ready es mid).0 (rest (subst (IsLed at course) (sym on.is) (stays_led at course command place.0 led ready is_next on.acts on.backlog on.stands on.stays))))
+          (pump_leads at course mid (executed_ready es mid).0 (rest (on_leads at course command place.0 led ready is_next mid.0 on)))
       | inr off ↦ (let still : mid.0.running ≡ false = ap (λ (q : ReplicaState). q.running) off.is in
           subst (λ (s : Executed). LeadsBy at course place (pumped s.0)) (sym (idle_ready es mid still))
           (subst (LeadsBy at course place) (sym (idle_pump mid still)) (last_one at course command place mid led ready is_next past off)))
     ]
 
 pub ready_of : (command : Command) (r : ReplicaState) → next_ready r ≡ Some command → at_slot r.ready (next r) ≡ Some command
-ready_of command r e = by (r.running && has_room r) e
-  where
-    by : (b : Bool) → cond b (at_slot r.ready (next r)) None ≡ Some command → at_slot r.ready (next r) ≡ Some command
-    by true i = i
-    by false i = cc
+ready_of command r = cond_both (r.running && has_room r) (at_slot r.ready (next r)) None (λ o. o ≡ Some command → at_slot r.ready (next r) ≡ Some command) (λ _ is. is) (λ _ is. cc)
 
 pub ready_leads : (at : Sets) (course : Course) (es : List (ℕ × Command)) (place : Place) → IsLed at course place.0 → AreNext at es place → LeadsBy at course place (executed_ready es place).0
 unfolding executed_ready

@@ -1,5 +1,5 @@
 -- Each row keeps whom the nodes of a group take for its leader.
-use Rattle.std.proofs.Common.{◌≡◌, ℕ, suc, ◌+◌, ◌-◌, ◌<◌, ◌≤◌, true, false, true≢false, List, [], ◌∷◌, ◌++◌, Option, Some, ◌⊎◌, inl, inr, sym, ◌∙◌, ap, subst, arith, append-nil}
+use Rattle.std.proofs.Common.{◌≡◌, ℕ, suc, ◌+◌, ◌-◌, ◌<◌, ◌≤◌, true, false, true≢false, List, [], ◌∷◌, ◌++◌, Option, Some, ◌⊎◌, inl, inr, sym, ◌∙◌, ap, subst, arith}
 use Rattle.std.proofs.lemmas.Bool.{cases_Bool, cases_eq, cases_lt, cond-true}
 use Rattle.sc_base.specs.Definitions.{Each, IsRoster, is_member, least_of}
 use Rattle.sc_node_table.specs.Values.{Ballot}
@@ -8,7 +8,7 @@ use Rattle.sc_words.specs.paxos.Definitions.{below}
 use Rattle.sc_words.proofs.PaxosProofs.Lemmas.{at_least_below}
 use Rattle.sc_live_steps.specs.following.Definitions.{Mark, promise_by, reached, pledged, Course, Progress, Sets, members_at, IsOpen, IsFollowing, Tellers, hint_by, hinted, MayLeave, AreHeeded, IsOther, IsHeeding, GoesBy, LeavesLast, HintsAreKept, NodesHeed, IsRow, IsIdle, IsCount, Takes, told_from, Leads, Elects, begun}
 use Rattle.sc_live_steps.proofs.FollowingProofs.Hints.{hinted-append, heeded-append, heeded-change, no_more, count-heeded, count-hinted, offers-heeded, offers-hinted, told-heeded, told-hinted}
-use Rattle.sc_live_steps.proofs.FollowingProofs.NodeMarks.{counts_of, takes-keeps}
+use Rattle.sc_live_steps.proofs.FollowingProofs.NodeMarks.{counts_of, idle_promise, idle_marks, takes-keeps}
 use Rattle.sc_live_steps.proofs.FollowingProofs.LeaderRows.{leads-keeps}
 use Rattle.sc_live_steps.proofs.FollowingProofs.Marks.{pledged-most}
 
@@ -32,24 +32,15 @@ module _ (at : Sets) (by : Tellers) (now after : Progress) (node : ℕ) (taken :
   pub idle-hints : IsIdle now after node taken sent → hints_after node ≡ hints node → IsHeeding at by after hints_after marks_after
   idle-hints i so =
       subst (λ c. IsHeeding at by (record { next = after.next; promise = after.promise; course = c }) hints_after marks_after) (sym i.course) (record {
-        heeds = λ who other. subst (AreHeeded at by now.course who (after.promise who) (hints_after who)) (same who)
-            (subst (λ o. AreHeeded at by now.course who (after.promise who) o (marks who)) (sym (hint who)) (subst (λ p. AreHeeded at by now.course who p (hints who) (marks who)) (sym (promise who)) (h.heeds who other)));
-        ends = λ r who ne o. sym (ap (hinted at by (after.promise who) (hints_after who)) (same who))
-            ∙ (ap (λ x. hinted at by (after.promise who) x (marks who)) (hint who) ∙ (ap (λ p. hinted at by p (hints who) (marks who)) (promise who) ∙ h.ends r who ne o));
+        heeds = λ who other. subst (AreHeeded at by now.course who (after.promise who) (hints_after who)) (idle_marks now after node taken sent marks marks_after row i who)
+            (subst (λ o. AreHeeded at by now.course who (after.promise who) o (marks who)) (sym (hint who)) (subst (λ p. AreHeeded at by now.course who p (hints who) (marks who)) (sym (idle_promise now after node taken sent marks marks_after row i who)) (h.heeds who other)));
+        ends = λ r who ne o. sym (ap (hinted at by (after.promise who) (hints_after who)) (idle_marks now after node taken sent marks marks_after row i who))
+            ∙ (ap (λ x. hinted at by (after.promise who) x (marks who)) (hint who) ∙ (ap (λ p. hinted at by p (hints who) (marks who)) (idle_promise now after node taken sent marks marks_after row i who) ∙ h.ends r who ne o));
         left = h.left;
       })
     where
-      promise : (who : ℕ) → after.promise who ≡ now.promise who
-      promise who = elim (cases_eq who node) [ inl is ↦ ap after.promise is ∙ (i.promise ∙ ap now.promise (sym is)) | inr ne ↦ row.promise who ne ]
-
       hint : (who : ℕ) → hints_after who ≡ hints who
       hint who = elim (cases_eq who node) [ inl is ↦ ap hints_after is ∙ (so ∙ ap hints (sym is)) | inr ne ↦ others who ne ]
-
-      same : (who : ℕ) → marks who ≡ marks_after who
-      same who = elim (cases_eq who node) [
-        | inl is ↦ ap marks is ∙ (row.takes ∙ (ap (λ t. listed t ++ row.left) i.takes ∙ (sym (append-nil row.left) ∙ (ap (λ l. row.left ++ l) (sym (i.sends node)) ∙ (sym row.own ∙ ap marks_after (sym is))))))
-        | inr ne ↦ sym (append-nil (marks who)) ∙ (ap (λ l. marks who ++ l) (sym (i.sends who)) ∙ sym (row.others who ne))
-      ]
 
   -- ---- a mail is taken
 

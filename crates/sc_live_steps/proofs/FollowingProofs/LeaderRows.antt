@@ -7,8 +7,8 @@ use Rattle.sc_node_table.specs.Definitions.{listed, slots_ahead}
 use Rattle.sc_words.specs.paxos.Definitions.{IsAtLeast}
 use Rattle.sc_words.proofs.PaxosProofs.Lemmas.{at_least_itself, Each-append, Each-weaker}
 use Rattle.sc_live_steps.specs.following.Definitions.{Mark, Asks, Votes, Tells, Installs, Prepares, Promises, reached, pledged, AreFit, AreAskedFirst, Progress, Sets, members_at, IsOpen, IsKnown, IsVoting, HasPromised, IsPromising, IsFollowing, IsRow, IsCount, IsElsewhere, told_from, IsCounted, IsKept, Leads}
-use Rattle.sc_live_steps.proofs.FollowingProofs.Marks.{among-left, among-right, among-either, reached-append, pledged-append, fit-append, reached-least, pledged-most, stands, count-reached, count-pledged, IsLater, IsNoVote, asked-none, asked-votes, offers-fit, offers-reached, offers-pledged, offers-each, told-each, told-own, told-prepares, IsTold, told-all}
-use Rattle.sc_live_steps.proofs.FollowingProofs.NodeMarks.{goes, stays, each-row, asked-row}
+use Rattle.sc_live_steps.proofs.FollowingProofs.Marks.{known_later, among-left, among-right, among-either, reached-append, pledged-append, fit-append, reached-least, pledged-most, stands, count-reached, count-pledged, IsLater, IsNoVote, asked-none, asked-votes, offers-fit, offers-reached, offers-pledged, offers-each, told-each, told-own, told-prepares, IsTold, told-all}
+use Rattle.sc_live_steps.proofs.FollowingProofs.NodeMarks.{promise-row, goes, stays, each-row, asked-row}
 
 -- the least of some members is one
 pub least_in : (members : List ℕ) → 1 ≤ length members → is_member members (least_of members) ≡ true
@@ -213,17 +213,6 @@ module _ (at : Sets) (now after : Progress) (node : ℕ) (taken : Option Mark) (
       subst (Each P) (sym (l.sends who))
       (Each-append P (told who) (l.offers who) (told-each at now.course who P tells installs prepares l.executed newest) (offers-each P at after.course now.course.bound who asks (l.offers who) (l.asks who)))
 
-  known_more : (mark : Mark) → IsKnown now.course mark → IsKnown after.course mark
-  known_more (Asks ballot slot) k = (let up = l.bound in omega (arith, k, up))
-  known_more (Votes node' ballot slot) k = (let up = l.bound in omega (arith, k, up))
-  known_more (Tells slot) k = tt
-  known_more (Installs slot) k = tt
-  known_more (Prepares ballot) k = subst (λ b. IsAtLeast b ballot) (sym l.ballot) k
-  known_more (Promises node' ballot) k = tt
-
-  promise_same : (who : ℕ) → after.promise who ≡ now.promise who
-  promise_same who = elim (cases_eq who node) [ inl is ↦ ap after.promise is ∙ (l.promise ∙ ap now.promise (sym is)) | inr ne ↦ row.promise who ne ]
-
   taken_no : (mark : Mark) → (IsCount mark → ⊥) → taken ≡ Some mark → ⊥
   taken_no mark no_ e = no_ (counted_is taken mark l.takes e)
 
@@ -305,9 +294,9 @@ module _ (at : Sets) (now after : Progress) (node : ℕ) (taken : Option Mark) (
     some = (let some = was.some in let up = l.newest in omega (arith, some, up));
     low = (let within = l.within in let up = l.bound in omega (arith, within, up));
     high = l.high;
-    known = λ who. each-row now after node taken sent marks marks_after row (IsKnown after.course) who (Each-weaker (IsKnown now.course) (IsKnown after.course) known_more (marks who) (was.known who))
+    known = λ who. each-row now after node taken sent marks marks_after row (IsKnown after.course) who (Each-weaker (IsKnown now.course) (IsKnown after.course) (known_later now.course after.course (λ slot low. (let up = l.bound in omega (arith, low, up))) (λ b. subst (λ x. IsAtLeast x b) (sym l.ballot))) (marks who) (was.known who))
         (sent_each (IsKnown after.course) (λ _. tt) (λ _. tt) (subst (λ b. IsAtLeast b now.course.ballot) (sym l.ballot) (at_least_itself now.course.ballot)) (λ ballot slot f lt. lt) who);
-    promised = λ who. subst (λ b. IsAtLeast b (after.promise who)) (sym l.ballot) (subst (IsAtLeast now.course.ballot) (sym (promise_same who)) (was.promised who));
+    promised = λ who. subst (λ b. IsAtLeast b (after.promise who)) (sym l.ballot) (subst (IsAtLeast now.course.ballot) (sym (promise-row now after node taken sent marks marks_after row l.promise who)) (was.promised who));
     first = λ f who. (after_is who).first (sym l.first ∙ f) ∙ sym l.ballot;
     asked = λ who. asked-row now after node taken sent marks marks_after row who (was.asked who) (was.known who) (sent_each (IsLater now.course.bound) (λ _. tt) (λ _. tt) tt (λ ballot slot f lt. f) who)
         (asked-none (sent who) (sent_each IsNoVote (λ _. tt) (λ _. tt) tt (λ _ _ _ _. tt) who));
@@ -315,7 +304,7 @@ module _ (at : Sets) (now after : Progress) (node : ℕ) (taken : Option Mark) (
     flying = l.flying;
     votes = λ slot voters e who is. subst (λ (b : Ballot). IsVoting b who slot voters (marks_after who) (marks_after b.node)) (sym l.ballot) (voting_after slot voters e who is);
     promises = λ r later who o. subst (λ (b : Ballot). Among (Prepares b) (marks_after who) ⊎ HasPromisedAfter who b) (sym l.ballot) (promising_after r (sym l.first ∙ later) who o);
-    pledges = λ r later who e. subst (HasPromisedAfter who) (sym l.ballot) (promised_after r who (was.pledges l.runs (sym l.first ∙ later) who (sym (promise_same who) ∙ (e ∙ l.ballot))));
+    pledges = λ r later who e. subst (HasPromisedAfter who) (sym l.ballot) (promised_after r who (was.pledges l.runs (sym l.first ∙ later) who (sym (promise-row now after node taken sent marks marks_after row l.promise who) ∙ (e ∙ l.ballot))));
     leads = λ r. (let stay = l.stays r in
         record { executed = ap after.next same_lead ∙ l.next; member = subst (λ n. is_member (members_at at newest_after) n ≡ true) (sym same_lead) stay.0; stands = stay.1 });
     offered = λ r. (l.stops r).1;

@@ -1,13 +1,13 @@
 -- Each kind of row keeps it that members learn all entries, and nobody else learns one.
-use Rattle.std.proofs.Common.{◌≡◌, ℕ, zero, suc, ◌+◌, ◌-◌, ◌<◌, ◌≤◌, Bool, true, false, cond, List, [], ◌∷◌, ◌++◌, Option, inl, inr, refl, sym, ◌∙◌, ap, subst, arith, append-nil}
+use Rattle.std.proofs.Common.{◌≡◌, ℕ, zero, suc, ◌+◌, ◌-◌, ◌<◌, ◌≤◌, Bool, true, false, cond, List, [], ◌∷◌, ◌++◌, Option, inl, inr, refl, sym, ◌∙◌, ap, subst, arith}
 use Rattle.std.proofs.lemmas.Bool.{cases_eq, cases_lt, cond_both, cond-true}
 use Rattle.sc_base.specs.Definitions.{Among, Each, IsRoster, is_member}
 use Rattle.sc_node_table.specs.Values.{Ballot}
 use Rattle.sc_node_table.specs.Definitions.{listed}
 use Rattle.sc_words.proofs.PaxosProofs.Lemmas.{Each-append, Each-weaker}
 use Rattle.sc_live_steps.specs.following.Definitions.{Mark, Votes, Tells, Installs, Prepares, Promises, next_by, promise_by, reached, pledged, AreFit, Course, Progress, Sets, members_at, IsFollowing, Tellers, LeavesLast, IsRow, IsIdle, IsCount, Takes, reported_of, told_from, Leads, Elects, begun, IsForMember, IsMemberBy, AreTaught, TaughtIsKept, QuietMembersKnow}
-use Rattle.sc_live_steps.proofs.FollowingProofs.ElectionRows.{self_election-keeps}
-use Rattle.sc_live_steps.proofs.FollowingProofs.NodeMarks.{counts_of, each-row, reached_left}
+use Rattle.sc_live_steps.proofs.FollowingProofs.ElectionRows.{elects-each, self_election-keeps}
+use Rattle.sc_live_steps.proofs.FollowingProofs.NodeMarks.{idle_next, idle_reached, counts_of, each-row, reached_left}
 use Rattle.sc_live_steps.proofs.FollowingProofs.LeaderRows.{leads-keeps}
 use Rattle.sc_live_steps.proofs.FollowingProofs.Marks.{among-left, among-right, offers-each, reached-append, reached-least, told-cases, told-own}
 
@@ -99,27 +99,19 @@ module _ (at : Sets) (by : Tellers) (now after : Progress) (node : ℕ) (taken :
       subst (λ n. reached (now.next who) (marks who) ≤ reached n (marks_after who)) (sym (row.next who ne))
       (subst (λ l. reached (now.next who) (marks who) ≤ reached (now.next who) l) (sym (row.others who ne)) (more_reached (now.next who) (after.promise who) (marks who) (sent who) fits))
 
-  others_learnt : (who : ℕ) → (who ≡ node → ⊥) → (slot : ℕ) → after.next who ≡ suc slot → IsMemberBy at who slot
-  others_learnt who ne slot is = o.learnt who slot (sym (row.next who ne) ∙ is)
+  -- what the row's node has executed last it has as a member
+  abbrev OwnLearns : Type 0
+  OwnLearns = (slot : ℕ) → after.next node ≡ suc slot → IsMemberBy at node slot
+
+  all_learnt : OwnLearns → (who slot : ℕ) → after.next who ≡ suc slot → IsMemberBy at who slot
+  all_learnt own who slot is = elim (cases_eq who node) [ inl e ↦ subst (λ n. IsMemberBy at n slot) (sym e) (own slot (subst (λ n. after.next n ≡ suc slot) e is)) | inr ne ↦ o.learnt who slot (sym (row.next who ne) ∙ is) ]
 
   idle_taught : IsIdle now after node taken sent → AreTaught at after marks_after
   idle_taught i = record {
-    taught = λ who slot low is. subst (λ n. slot < n) (sym (ends who)) (o.taught who slot (subst (λ (c : Course). slot < c.newest) i.course low) is);
+    taught = λ who slot low is. subst (λ n. slot < n) (sym (idle_reached now after node taken sent marks marks_after row i who)) (o.taught who slot (subst (λ (c : Course). slot < c.newest) i.course low) is);
     told = row_of_entry (λ who. subst (Each (IsForMember at who)) (sym (i.sends who)) tt);
-    learnt = λ who slot is. o.learnt who slot (sym (next who) ∙ is);
+    learnt = λ who slot is. o.learnt who slot (sym (idle_next now after node taken sent marks marks_after row i who) ∙ is);
   }
-    where
-      next : (who : ℕ) → after.next who ≡ now.next who
-      next who = elim (cases_eq who node) [ inl is ↦ ap after.next is ∙ (i.next ∙ ap now.next (sym is)) | inr ne ↦ row.next who ne ]
-
-      same : (who : ℕ) → marks who ≡ marks_after who
-      same who = elim (cases_eq who node) [
-        | inl is ↦ ap marks is ∙ (row.takes ∙ (ap (λ t. listed t ++ row.left) i.takes ∙ (sym (append-nil row.left) ∙ (ap (λ l. row.left ++ l) (sym (i.sends node)) ∙ (sym row.own ∙ ap marks_after (sym is))))))
-        | inr ne ↦ sym (append-nil (marks who)) ∙ (ap (λ l. marks who ++ l) (sym (i.sends who)) ∙ sym (row.others who ne))
-      ]
-
-      ends : (who : ℕ) → reached (after.next who) (marks_after who) ≡ reached (now.next who) (marks who)
-      ends who = ap (λ n. reached n (marks_after who)) (next who) ∙ ap (reached (now.next who)) (sym (same who))
 
   module _ (t : Takes at now after node taken sent) where
     here : marks node ≡ t.mark ∷ row.left
@@ -134,11 +126,7 @@ module _ (at : Sets) (by : Tellers) (now after : Progress) (node : ℕ) (taken :
     takes_taught = record {
       taught = λ who slot low is. subst (λ n. slot < n) (sym (reached_left at now after node taken sent marks marks_after row t was who)) (o.taught who slot (subst (λ (c : Course). slot < c.newest) t.course low) is);
       told = row_of_entry (λ who. Each-weaker IsCount (IsForMember at who) (count_member at who) (sent who) (subst (Each IsCount) (sym (t.sends who)) (counts_of node (now.promise node) t.mark who)));
-      learnt = λ who slot is. elim (cases_eq who node) [
-        | inl e ↦ subst (λ n. IsMemberBy at n slot) (sym e)
-            (by_mark t.mark (now.next node) slot (subst (Each (IsForMember at node)) here (o.told node)).0 (o.learnt node slot) (sym t.next ∙ subst (λ n. after.next n ≡ suc slot) e is))
-        | inr ne ↦ others_learnt who ne slot is
-      ];
+      learnt = all_learnt (λ slot is. by_mark t.mark (now.next node) slot (subst (Each (IsForMember at node)) here (o.told node)).0 (o.learnt node slot) (sym t.next ∙ is));
     }
 
   module _ (l : Leads at now after node taken sent) (m : LeavesLast at by now after) where
@@ -170,7 +158,7 @@ module _ (at : Sets) (by : Tellers) (now after : Progress) (node : ℕ) (taken :
         (subst (Among (Tells slot)) (sym (row.others who ne)) (among-right (Tells slot) (marks who) (sent who) (subst (Among (Tells slot)) (sym (l.sends who))
         (among-left (Tells slot) (told_from at now.course now.course.newest l.executed who) (l.offers who) (subst (λ s. Among (Tells s) (told_from at now.course now.course.newest l.executed who)) e among)))))
 
-    own_learnt : (slot : ℕ) → after.next node ≡ suc slot → IsMemberBy at node slot
+    own_learnt : OwnLearns
     own_learnt slot is = elim (cases_lt now.course.newest (suc slot)) [
       | inl more ↦ elim (cases_lt now.course.newest slot) [
         | inl later ↦ (let last = l.next in
@@ -196,21 +184,18 @@ module _ (at : Sets) (by : Tellers) (now after : Progress) (node : ℕ) (taken :
         ]
       ];
       told = row_of_entry sent_members;
-      learnt = λ who slot is. elim (cases_eq who node) [ inl e ↦ subst (λ n. IsMemberBy at n slot) (sym e) (own_learnt slot (subst (λ n. after.next n ≡ suc slot) e is)) | inr ne ↦ others_learnt who ne slot is ];
+      learnt = all_learnt own_learnt;
     }
 
   module _ (e : Elects at now after node taken sent) where
     then_elected : IsFollowing at after marks_after
     then_elected = self_election-keeps at now after node taken sent marks marks_after rosters row e was
 
-    asks_members : (who : ℕ) → Each (IsForMember at who) (sent who)
-    asks_members who = elim (e.sends who) [ inl none ↦ subst (Each (IsForMember at who)) (sym none) tt | inr one ↦ subst (Each (IsForMember at who)) (sym one.1) (tt, tt) ]
-
     here_elected : marks node ≡ e.mark ∷ row.left
     here_elected = row.takes ∙ ap (λ x. listed x ++ row.left) e.takes
 
     -- it has learnt the last entry
-    last_learnt : (slot : ℕ) → after.next node ≡ suc slot → IsMemberBy at node slot
+    last_learnt : OwnLearns
     last_learnt slot is =
         let last = e.last in
         let told = (subst (Each (IsForMember at node)) here_elected (o.told node)).0 in
@@ -230,8 +215,8 @@ module _ (at : Sets) (by : Tellers) (now after : Progress) (node : ℕ) (taken :
             subst (λ n. slot < reached (after.next n) (marks_after n)) (sym own) far)
         | inr ne ↦ (let same = e.newest in let a = o.taught who slot (omega (arith, low, same)) is in let b = others_reached then_elected who ne in omega (arith, a, b))
       ];
-      told = row_of_entry asks_members;
-      learnt = λ who slot is. elim (cases_eq who node) [ inl own ↦ subst (λ n. IsMemberBy at n slot) (sym own) (last_learnt slot (subst (λ n. after.next n ≡ suc slot) own is)) | inr ne ↦ others_learnt who ne slot is ];
+      told = row_of_entry (λ who. elects-each at now after node taken sent e (IsForMember at who) tt who);
+      learnt = all_learnt last_learnt;
     }
 
 -- Each kind of row keeps it that each member of a state learns the entry after it, and that nobody else is sent one.

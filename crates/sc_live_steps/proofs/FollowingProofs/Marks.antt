@@ -371,3 +371,12 @@ module _ (at : Sets) (course : Course) (who : ℕ) where
               (subst (λ n. IsTold from (slot + 1 + more) n (pledged promise (first ++ then))) (sym (reached-append next first then))
               (subst (λ p. IsTold from (slot + 1 + more) (reached (reached next first) then) p) (sym (pledged-append promise first then)) rest.1)),
         )
+
+-- what is known stays so where more is offered in a later ballot
+pub known_later : (old new : Course) → ((slot : ℕ) → slot < old.bound → slot < new.bound) → ((b : Ballot) → IsAtLeast old.ballot b → IsAtLeast new.ballot b) → (mark : Mark) → IsKnown old mark → IsKnown new mark
+known_later old new up later (Asks ballot slot) k = up slot k
+known_later old new up later (Votes node ballot slot) k = up slot k
+known_later old new up later (Tells slot) k = tt
+known_later old new up later (Installs slot) k = tt
+known_later old new up later (Prepares ballot) k = later ballot k
+known_later old new up later (Promises node ballot) k = tt

@@ -48,6 +48,10 @@ module _ (now after : Progress) (node : ℕ) (taken : Option Mark) (sent marks m
     | inr ne ↦ subst (Each P) (sym (row.others who ne)) (Each-append P (marks who) (sent who) old new)
   ]
 
+  -- where the node has promised no more, nobody has
+  pub promise-row : after.promise node ≡ now.promise node → (who : ℕ) → after.promise who ≡ now.promise who
+  promise-row own who = elim (cases_eq who node) [ inl is ↦ ap after.promise is ∙ (own ∙ ap now.promise (sym is)) | inr ne ↦ row.promise who ne ]
+
   -- what is asked for comes before votes still, where it is new
   pub asked-row : (who : ℕ) → AreAskedFirst (marks who) → Each (IsKnown now.course) (marks who) → Each (IsLater now.course.bound) (sent who) → AreAskedFirst (sent who) → AreAskedFirst (marks_after who)
   asked-row who old known new sent_first = elim (cases_eq who node) [
@@ -58,51 +62,63 @@ module _ (now after : Progress) (node : ℕ) (taken : Option Mark) (sent marks m
     | inr ne ↦ subst AreAskedFirst (sym (row.others who ne)) (asked-append now.course (marks who) (sent who) old known new sent_first)
   ]
 
+-- what is under way to each takes it as far as before
+abbrev pub GoAsFar : (ℕ → ℕ) → (ℕ → ℕ) → (ℕ → List Mark) → (ℕ → List Mark) → Type 0
+GoAsFar next next_after marks marks_after = (who : ℕ) → reached (next_after who) (marks_after who) ≡ reached (next who) (marks who)
+
+-- what is under way to each makes it promise as much as before
+abbrev PledgeAsMuch : (ℕ → Ballot) → (ℕ → Ballot) → (ℕ → List Mark) → (ℕ → List Mark) → Type 0
+PledgeAsMuch promise promise_after marks marks_after = (who : ℕ) → pledged (promise_after who) (marks_after who) ≡ pledged (promise who) (marks who)
+
+-- what is under way to each is fit for where it is
+abbrev pub AreAllFit : Progress → (ℕ → List Mark) → Type 0
+AreAllFit now marks = (who : ℕ) → AreFit (now.next who) (now.promise who) (marks who)
+
 -- ---- a row that does nothing in the group
 
-pub idle-keeps : (at : Sets) (now after : Progress) (node : ℕ) (taken : Option Mark) (sent marks marks_after : ℕ → List Mark)
-    → IsRow now after node taken sent marks marks_after → IsIdle now after node taken sent → IsFollowing at now marks → IsFollowing at after marks_after
-idle-keeps at now after node taken sent marks marks_after row i was =
-    subst (λ c. IsFollowing at (record { next = after.next; promise = after.promise; course = c }) marks_after) (sym i.course) (record {
-      fits = λ who. subst (λ l. AreFit (after.next who) (after.promise who) l) (same who) (subst (λ n. AreFit n (after.promise who) (marks who)) (sym (next who)) (subst (λ p. AreFit (now.next who) p (marks who)) (sym (promise who)) (was.fits who)));
-      within = λ who. subst (λ n. n ≤ now.course.newest) (sym (ends who)) (was.within who);
-      members = λ who is. ends who ∙ was.members who is;
-      ready = λ who o. record { replica = subst (λ n. 1 ≤ n) (sym (ends who)) (was.ready who o).replica; promised = pledges who ∙ (was.ready who o).promised };
-      some = was.some;
-      low = was.low;
-      high = was.high;
-      known = λ who. subst (Each (IsKnown now.course)) (same who) (was.known who);
-      promised = λ who. subst (IsAtLeast now.course.ballot) (sym (promise who)) (was.promised who);
-      first = λ f who. pledges who ∙ was.first f who;
-      asked = λ who. subst AreAskedFirst (same who) (was.asked who);
-      undone = λ r ballot slot a. was.undone r ballot slot (subst (Among (Asks ballot slot)) (sym (same now.course.ballot.node)) a);
-      flying = was.flying;
-      votes = λ slot voters e who is.
-          subst (λ l. IsVoting now.course.ballot who slot voters l (marks_after now.course.ballot.node)) (same who) (subst (λ l. IsVoting now.course.ballot who slot voters (marks who) l) (same now.course.ballot.node) (was.votes slot voters e who is));
-      promises = λ r f who o. subst (λ l. IsPromising now.course who l (marks_after now.course.ballot.node)) (same who) (subst (λ l. IsPromising now.course who (marks who) l) (same now.course.ballot.node) (was.promises r f who o));
-      pledges = λ r f who e. subst (HasPromised now.course who) (same now.course.ballot.node) (was.pledges r f who (sym (promise who) ∙ e));
-      leads = λ r. (let l = was.leads r in record { executed = next now.course.ballot.node ∙ l.executed; member = l.member; stands = l.stands });
-      offered = was.offered;
-      self_election = λ r g. subst (λ n. n < now.course.newest) (sym (next (least_of (members_at at now.course.newest)))) (was.self_election r g);
-    })
-  where
-    next : (who : ℕ) → after.next who ≡ now.next who
-    next who = elim (cases_eq who node) [ inl is ↦ ap after.next is ∙ (i.next ∙ ap now.next (sym is)) | inr ne ↦ row.next who ne ]
+module _ (now after : Progress) (node : ℕ) (taken : Option Mark) (sent marks marks_after : ℕ → List Mark) (row : IsRow now after node taken sent marks marks_after) (i : IsIdle now after node taken sent) where
+  pub idle_next : (who : ℕ) → after.next who ≡ now.next who
+  idle_next who = elim (cases_eq who node) [ inl is ↦ ap after.next is ∙ (i.next ∙ ap now.next (sym is)) | inr ne ↦ row.next who ne ]
 
-    promise : (who : ℕ) → after.promise who ≡ now.promise who
-    promise who = elim (cases_eq who node) [ inl is ↦ ap after.promise is ∙ (i.promise ∙ ap now.promise (sym is)) | inr ne ↦ row.promise who ne ]
+  pub idle_promise : (who : ℕ) → after.promise who ≡ now.promise who
+  idle_promise = promise-row now after node taken sent marks marks_after row i.promise
 
-    same : (who : ℕ) → marks who ≡ marks_after who
-    same who = elim (cases_eq who node) [
-      | inl is ↦ ap marks is ∙ (row.takes ∙ (ap (λ t. listed t ++ row.left) i.takes ∙ (sym (append-nil row.left) ∙ (ap (λ l. row.left ++ l) (sym (i.sends node)) ∙ (sym row.own ∙ ap marks_after (sym is))))))
-      | inr ne ↦ sym (append-nil (marks who)) ∙ (ap (λ l. marks who ++ l) (sym (i.sends who)) ∙ sym (row.others who ne))
-    ]
+  pub idle_marks : (who : ℕ) → marks who ≡ marks_after who
+  idle_marks who = elim (cases_eq who node) [
+    | inl is ↦ ap marks is ∙ (row.takes ∙ (ap (λ t. listed t ++ row.left) i.takes ∙ (sym (append-nil row.left) ∙ (ap (λ l. row.left ++ l) (sym (i.sends node)) ∙ (sym row.own ∙ ap marks_after (sym is))))))
+    | inr ne ↦ sym (append-nil (marks who)) ∙ (ap (λ l. marks who ++ l) (sym (i.sends who)) ∙ sym (row.others who ne))
+  ]
 
-    ends : (who : ℕ) → reached (after.next who) (marks_after who) ≡ reached (now.next who) (marks who)
-    ends who = ap (λ n. reached n (marks_after who)) (next who) ∙ ap (reached (now.next who)) (sym (same who))
+  pub idle_reached : GoAsFar now.next after.next marks marks_after
+  idle_reached who = ap (λ n. reached n (marks_after who)) (idle_next who) ∙ ap (reached (now.next who)) (sym (idle_marks who))
 
-    pledges : (who : ℕ) → pledged (after.promise who) (marks_after who) ≡ pledged (now.promise who) (marks who)
-    pledges who = ap (λ p. pledged p (marks_after who)) (promise who) ∙ ap (pledged (now.promise who)) (sym (same who))
+  idle_pledged : PledgeAsMuch now.promise after.promise marks marks_after
+  idle_pledged who = ap (λ p. pledged p (marks_after who)) (idle_promise who) ∙ ap (pledged (now.promise who)) (sym (idle_marks who))
+
+  pub idle-keeps : (at : Sets) → IsFollowing at now marks → IsFollowing at after marks_after
+  idle-keeps at was =
+      subst (λ c. IsFollowing at (record { next = after.next; promise = after.promise; course = c }) marks_after) (sym i.course) (record {
+        fits = λ who. subst (λ l. AreFit (after.next who) (after.promise who) l) (idle_marks who) (subst (λ n. AreFit n (after.promise who) (marks who)) (sym (idle_next who)) (subst (λ p. AreFit (now.next who) p (marks who)) (sym (idle_promise who)) (was.fits who)));
+        within = λ who. subst (λ n. n ≤ now.course.newest) (sym (idle_reached who)) (was.within who);
+        members = λ who is. idle_reached who ∙ was.members who is;
+        ready = λ who o. record { replica = subst (λ n. 1 ≤ n) (sym (idle_reached who)) (was.ready who o).replica; promised = idle_pledged who ∙ (was.ready who o).promised };
+        some = was.some;
+        low = was.low;
+        high = was.high;
+        known = λ who. subst (Each (IsKnown now.course)) (idle_marks who) (was.known who);
+        promised = λ who. subst (IsAtLeast now.course.ballot) (sym (idle_promise who)) (was.promised who);
+        first = λ f who. idle_pledged who ∙ was.first f who;
+        asked = λ who. subst AreAskedFirst (idle_marks who) (was.asked who);
+        undone = λ r ballot slot a. was.undone r ballot slot (subst (Among (Asks ballot slot)) (sym (idle_marks now.course.ballot.node)) a);
+        flying = was.flying;
+        votes = λ slot voters e who is.
+            subst (λ l. IsVoting now.course.ballot who slot voters l (marks_after now.course.ballot.node)) (idle_marks who) (subst (λ l. IsVoting now.course.ballot who slot voters (marks who) l) (idle_marks now.course.ballot.node) (was.votes slot voters e who is));
+        promises = λ r f who o. subst (λ l. IsPromising now.course who l (marks_after now.course.ballot.node)) (idle_marks who) (subst (λ l. IsPromising now.course who (marks who) l) (idle_marks now.course.ballot.node) (was.promises r f who o));
+        pledges = λ r f who e. subst (HasPromised now.course who) (idle_marks now.course.ballot.node) (was.pledges r f who (sym (idle_promise who) ∙ e));
+        leads = λ r. (let l = was.leads r in record { executed = idle_next now.course.ballot.node ∙ l.executed; member = l.member; stands = l.stands });
+        offered = was.offered;
+        self_election = λ r g. subst (λ n. n < now.course.newest) (sym (idle_next (least_of (members_at at now.course.newest)))) (was.self_election r g);
+      })
 
 -- ---- a row in which a node takes a mail of the group
 
@@ -150,7 +166,7 @@ module _ (at : Sets) (now after : Progress) (node : ℕ) (taken : Option Mark) (
   counts : (who : ℕ) → Each IsCount (sent who)
   counts who = subst (Each IsCount) (sym (t.sends who)) (counts_of node (now.promise node) t.mark who)
 
-  pub reached_left : (who : ℕ) → reached (after.next who) (marks_after who) ≡ reached (now.next who) (marks who)
+  pub reached_left : GoAsFar now.next after.next marks marks_after
   reached_left who = elim (cases_eq who node) [
     | inl is ↦ ap (λ n. reached (after.next n) (marks_after n)) is
         ∙ (ap (reached (after.next node)) row.own
@@ -161,7 +177,7 @@ module _ (at : Sets) (now after : Progress) (node : ℕ) (taken : Option Mark) (
         ∙ (reached-append (after.next who) (marks who) (sent who) ∙ (count-reached (reached (after.next who) (marks who)) (sent who) (counts who) ∙ ap (λ n. reached n (marks who)) (row.next who ne)))
   ]
 
-  pledged_left : (who : ℕ) → pledged (after.promise who) (marks_after who) ≡ pledged (now.promise who) (marks who)
+  pledged_left : PledgeAsMuch now.promise after.promise marks marks_after
   pledged_left who = elim (cases_eq who node) [
     | inl is ↦ ap (λ n. pledged (after.promise n) (marks_after n)) is
         ∙ (ap (pledged (after.promise node)) row.own
@@ -178,7 +194,7 @@ module _ (at : Sets) (now after : Progress) (node : ℕ) (taken : Option Mark) (
       (fit-append (after.next node) (after.promise node) row.left (sent node) (subst (λ n. AreFit n (after.promise node) row.left) (sym t.next) (subst (λ p. AreFit (next_by (now.next node) t.mark) p row.left) (sym t.promise) fit.1))
       (count-fit (reached (after.next node) row.left) (pledged (after.promise node) row.left) (sent node) (counts node)))
 
-  fits_after : (who : ℕ) → AreFit (after.next who) (after.promise who) (marks_after who)
+  fits_after : AreAllFit after marks_after
   fits_after who = elim (cases_eq who node) [
     | inl is ↦ subst (λ n. AreFit (after.next n) (after.promise n) (marks_after n)) (sym is) fits_own
     | inr ne ↦ subst (AreFit (after.next who) (after.promise who)) (sym (row.others who ne))

@@ -1,7 +1,7 @@
 -- One that elects itself by the last entry, which it learns, leads in its group's progress after that.
-use Rattle.std.proofs.Common.{◌≡◌, ℕ, zero, suc, ◌+◌, ◌<◌, ◌≤◌, ◌||◌, not, eqb, ltb, Bool, true, false, true≢false, cond, List, [], ◌∷◌, length, Option, Some, None, inl, inr, refl, sym, ◌∙◌, ap, subst, arith}
+use Rattle.std.proofs.Common.{◌≡◌, ℕ, zero, suc, ◌+◌, ◌<◌, ◌≤◌, ◌||◌, not, eqb, ltb, true, false, true≢false, List, [], ◌∷◌, length, Option, Some, None, inl, inr, refl, sym, ◌∙◌, ap, subst, arith}
 use Rattle.std.specs.Prelude.{is_some}
-use Rattle.std.proofs.lemmas.Bool.{cases_Bool, cases_eq, cases_lt, cond-true, cond-false, eq-eqb, or_cases, or_left, or_right}
+use Rattle.std.proofs.lemmas.Bool.{cond_both, cases_Bool, cases_eq, cases_lt, cond-true, cond-false, eq-eqb, or_cases, or_left, or_right}
 use Rattle.sc_base.specs.Definitions.{most_nodes, is_member, least_of}
 use Rattle.sc_node_table.specs.Values.{Ballot, Command}
 use Rattle.sc_words.specs.paxos.Definitions.{below}
@@ -74,11 +74,7 @@ module _ (at : Sets) (now : Progress) (command : Command) (r : ReplicaState) (of
   ballot_is = ap (λ l. l.ballot) by.leads
 
   no_voters : (s : ℕ) → voters_of place.0 s ≡ None
-  no_voters s = split (not place.0.running || (ltb s (next place.0) || false))
-    where
-      split : (b : Bool) → cond {A = Option (List ℕ)} b None None ≡ None
-      split true = refl
-      split false = refl
+  no_voters s = cond_both {A = Option (List ℕ)} (not place.0.running || (ltb s (next place.0) || false)) None None (λ o. o ≡ None) (λ _. refl) (λ _. refl)
 
   opens : (who : ℕ) → is_member (open_nodes (entered command r).sets) who ≡ true → IsOpen at now.course.newest who
   opens who e =
@@ -155,12 +151,9 @@ module _ (at : Sets) (now : Progress) (command : Command) (r : ReplicaState) (of
     executed = cond-true (eqb place.0.me r.me) (next place.0) (now.next place.0.me) (eq-eqb place.0.me r.me same_me);
     promise = cond-true (eqb place.0.me r.me) place.0.acceptor.promised (now.promise place.0.me) (eq-eqb place.0.me r.me same_me);
     voters = λ s. refl;
-    polled = λ s voters e. absurd (none_some (voters_of place.0 s) (no_voters s) e);
+    polled = λ s voters e. (let none : None ≡ Some voters = sym (no_voters s) ∙ e in cc);
     counted = λ node. refl;
   }
-    where
-      none_some : {x : List ℕ} (o : Option (List ℕ)) → o ≡ None → o ≡ Some x → ⊥
-      none_some o e f = cc
 
   orderly_then : IsOrderly place.0
   orderly_then = record { apart = tt; single = λ s from some. refl; alone = λ s other c from e act from_other some. absurd (true≢false (sym some)); plain = refl; asked = λ s from some. absurd (true≢false (sym some)) }

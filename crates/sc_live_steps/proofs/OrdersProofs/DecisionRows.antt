@@ -5,9 +5,13 @@ use Rattle.sc_node_table.specs.Values.{Draw}
 use Rattle.sc_live_steps.specs.orders.Definitions.{Turn, First, Lone, Next, is_watch, Unbound, Asking, Bound, Errand, Question, Result, Answers, Records, Ends, Here, free, Scene, IsNone, IsOnly, Deal, Mailed, Filed, Party, Stage, Still, Asks, Recorded, Closes, ClosesBoth, coordinator, heard, heard_lead, bound_by, closing, party_of, IsOrder, IsAt, IsRow, results, Aborted, Decided, Heard, Ended, closed, Aborts, Hears, IsFreed, LastFreed, OneFreed, TwoFreed, Comes, StepsBy}
 use Rattle.sc_live_steps.specs.orders.StageSteps.{Decides}
 use Rattle.sc_live_steps.proofs.OrdersProofs.NamedValues.{AreOne, cases-draw, having}
-use Rattle.sc_live_steps.proofs.OrdersProofs.PartyChanges.{other-mailed, other-same, lead-stays}
+use Rattle.sc_live_steps.proofs.OrdersProofs.PartyChanges.{other-mailed, other-same, lead-stays, same_asking}
 use Rattle.sc_live_steps.proofs.OrdersProofs.WorkStages.{AtEach, by-work, own-done}
 use Rattle.sc_live_steps.proofs.OrdersProofs.OrderAndVoteRows.{first, second}
+
+-- where the coordinator has recorded a vote
+recorded_at : (now : Scene) (group : Draw) (deal : Deal) (agreed : Bool) (host : ℕ) → IsAt (Recorded deal agreed host) now → deal.coord ≡ group → now.at group ≡ (coordinator deal (Records deal.tx (is_watch deal.turn) agreed host ∷ []) []).1
+recorded_at now group deal agreed host a is = ap now.at (sym is) ∙ a.parties.0.0
 
 -- ---- a No
 
@@ -66,14 +70,8 @@ module _ (now after : Scene) (group : Draw) (taken : Option Errand) (sent : Draw
     d_is : deal.coord ≡ group
     d_is = first e
 
-    d_was : now.at group ≡ (coordinator deal (Records deal.tx (is_watch deal.turn) agreed host ∷ []) []).1
-    d_was = ap now.at (sym d_is) ∙ a.parties.0.0
-
     d_same : Records deal.tx (is_watch deal.turn) agreed host ≡ Records d.tx (is_watch d.turn) true d.by
     d_same = second e
-
-    d_asking : Asking d.tx d.asked d.turn ≡ Asking deal.tx deal.asked deal.turn
-    d_asking = sym d.was ∙ ap (λ (h : Here). h.bond) d_was
 
     d_agreed : agreed ≡ true
     d_agreed = (let f = d_same in cc)
@@ -82,13 +80,13 @@ module _ (now after : Scene) (group : Draw) (taken : Option Errand) (sent : Draw
     d_by = (let f = d_same in cc)
 
     d_tx : d.tx ≡ deal.tx
-    d_tx = (let f = d_asking in cc)
+    d_tx = (same_asking deal (recorded_at now group deal agreed host a d_is) d.was refl).0
 
     d_asked : d.asked ≡ deal.asked
-    d_asked = (let f = d_asking in cc)
+    d_asked = (same_asking deal (recorded_at now group deal agreed host a d_is) d.was refl).1
 
     d_turn : d.turn ≡ deal.turn
-    d_turn = (let f = d_asking in cc)
+    d_turn = (same_asking deal (recorded_at now group deal agreed host a d_is) d.was refl).2
 
     d_results : IsOnly [] (results deal.tx deal.asked deal.turn host) sent
     d_results = subst (λ x. IsOnly [] (results x deal.asked deal.turn host) sent) d_tx (subst (λ x. IsOnly [] (results d.tx x deal.turn host) sent) d_asked
@@ -101,7 +99,7 @@ module _ (now after : Scene) (group : Draw) (taken : Option Errand) (sent : Draw
     d_ne i = a.apart.0.0 (d_is ∙ sym i)
 
     d_own : sent group ≡ [] → after.at group ≡ free
-    d_own s = own-done (Records d.tx (is_watch d.turn) true d.by) now after group taken sent row d.execution (coordinator deal (Records deal.tx (is_watch deal.turn) agreed host ∷ []) []).1 Unbound d_was refl s d.bond
+    d_own s = own-done (Records d.tx (is_watch d.turn) true d.by) now after group taken sent row d.execution (coordinator deal (Records deal.tx (is_watch deal.turn) agreed host ∷ []) []).1 Unbound (recorded_at now group deal agreed host a d_is) refl s d.bond
 
     d_lead : after.lead deal.asked ≡ Some host
     d_lead = row.leads deal.asked host d_ne a.leads.1.0
@@ -182,14 +180,11 @@ module _ (now after : Scene) (group : Draw) (taken : Option Errand) (sent : Draw
     h_is : deal.coord ≡ group
     h_is = first e
 
-    h_was : now.at group ≡ (coordinator deal (Records deal.tx (is_watch deal.turn) agreed host ∷ []) []).1
-    h_was = ap now.at (sym h_is) ∙ a.parties.0.0
-
     h_same : Records deal.tx (is_watch deal.turn) agreed host ≡ Records d.tx false true d.by
     h_same = second e
 
     h_asking : Asking d.tx d.asked First ≡ Asking deal.tx deal.asked deal.turn
-    h_asking = sym d.was ∙ ap (λ (h : Here). h.bond) h_was
+    h_asking = sym d.was ∙ ap (λ (h : Here). h.bond) (recorded_at now group deal agreed host a h_is)
 
     h_agreed : agreed ≡ true
     h_agreed = (let f = h_same in cc)
@@ -227,7 +222,7 @@ module _ (now after : Scene) (group : Draw) (taken : Option Errand) (sent : Draw
       record {
         parties = (
           (
-            own-done (Records d.tx false true d.by) now after group taken sent row d.execution (coordinator deal (Records deal.tx (is_watch deal.turn) agreed host ∷ []) []).1 (Asking d.tx d.watcher (Next d.asked d.by)) h_was refl
+            own-done (Records d.tx false true d.by) now after group taken sent row d.execution (coordinator deal (Records deal.tx (is_watch deal.turn) agreed host ∷ []) []).1 (Asking d.tx d.watcher (Next d.asked d.by)) (recorded_at now group deal agreed host a h_is) refl
                 (d.sends.1 group ((λ i. d.third.0 (sym i)), tt)) d.bond,
             (
               other-mailed now after group taken sent row d.watcher free (Question d.tx group true d.chief d.node ∷ []) d.third.0 (h_free d.watcher d.third.0 d.third.1) d.sends.0.0,
@@ -276,9 +271,6 @@ module _ (now after : Scene) (group : Draw) (taken : Option Errand) (sent : Draw
   ended_own : (tx : Draw) (party : Party) → now.at party.group ≡ (party_of tx party).1 → party.leg ≡ Filed → party.group ≡ group → after.at group ≡ free
   ended_own tx party was leg is = own-done (Ends d.tx) now after group taken sent row d.execution (closing tx Filed party.host) Unbound (ap now.at (sym is) ∙ (was ∙ ap (λ l. closing tx l party.host) leg)) refl (d.sends.1 group tt) d.bond
 
-  ended_other : (other : Draw) → (other ≡ group → ⊥) → after.at other ≡ now.at other
-  ended_other other ne = other-same now after group taken sent row other ne (d.sends.1 other tt)
-
   ended_last : (tx : Draw) (party : Party) → IsAt (Closes tx party) now → party.leg ≡ Filed → AreOne (party.group, Ends tx) (group, Ends d.tx) → Comes IsFreed group (Closes tx party) after
   ended_last tx party a leg e = (
     Still,
@@ -287,7 +279,7 @@ module _ (now after : Scene) (group : Draw) (taken : Option Errand) (sent : Draw
         tt,
         λ other none. elim (cases-draw other group) [
           | inl i ↦ ap after.at i ∙ ended_own tx party a.parties.0.0 leg (first e)
-          | inr ne ↦ ended_other other ne ∙ a.parties.1 other ((λ i. ne (i ∙ first e)), tt)
+          | inr ne ↦ other-same now after group taken sent row other ne (d.sends.1 other tt) ∙ a.parties.1 other ((λ i. ne (i ∙ first e)), tt)
         ],
       );
       leads = tt;
@@ -302,10 +294,10 @@ module _ (now after : Scene) (group : Draw) (taken : Option Errand) (sent : Draw
     Closes tx two,
     record {
       parties = (
-        (ended_other two.group ne_two ∙ a.parties.0.1.0, tt),
+        (other-same now after group taken sent row two.group ne_two (d.sends.1 two.group tt) ∙ a.parties.0.1.0, tt),
         λ other none. elim (cases-draw other group) [
           | inl i ↦ ap after.at i ∙ ended_own tx one a.parties.0.0 leg (first e)
-          | inr ne ↦ ended_other other ne ∙ a.parties.1 other ((λ i. ne (i ∙ first e)), (none.0, tt))
+          | inr ne ↦ other-same now after group taken sent row other ne (d.sends.1 other tt) ∙ a.parties.1 other ((λ i. ne (i ∙ first e)), (none.0, tt))
         ],
       );
       leads = (row.leads two.group two.host ne_two a.leads.1.0, tt);
@@ -323,10 +315,10 @@ module _ (now after : Scene) (group : Draw) (taken : Option Errand) (sent : Draw
     Closes tx one,
     record {
       parties = (
-        (ended_other one.group ne_one ∙ a.parties.0.0, tt),
+        (other-same now after group taken sent row one.group ne_one (d.sends.1 one.group tt) ∙ a.parties.0.0, tt),
         λ other none. elim (cases-draw other group) [
           | inl i ↦ ap after.at i ∙ ended_own tx two a.parties.0.1.0 leg (first e)
-          | inr ne ↦ ended_other other ne ∙ a.parties.1 other (none.0, ((λ i. ne (i ∙ first e)), tt))
+          | inr ne ↦ other-same now after group taken sent row other ne (d.sends.1 other tt) ∙ a.parties.1 other (none.0, ((λ i. ne (i ∙ first e)), tt))
         ],
       );
       leads = (row.leads one.group one.host ne_one a.leads.0, tt);

@@ -3,7 +3,7 @@ use Rattle.std.proofs.Common.{◌≡◌, ℕ, List, [], ◌∷◌, ◌++◌, Opt
 use Rattle.sc_base.specs.Definitions.{Among, Each}
 use Rattle.sc_node_table.specs.Values.{Draw}
 use Rattle.sc_node_table.specs.Definitions.{listed}
-use Rattle.sc_live_steps.specs.orders.Definitions.{Turn, First, Lone, Next, Errand, Result, Work, Ends, Here, free, Scene, IsNone, IsOnly, AreApart, Deal, Leg, Mailed, Filed, heard, closing, IsRow, GoesOn}
+use Rattle.sc_live_steps.specs.orders.Definitions.{Turn, First, Lone, Next, Asking, Errand, Result, Work, Ends, Here, free, Scene, IsNone, IsOnly, AreApart, Deal, Leg, Mailed, Filed, heard, closing, IsRow, GoesOn}
 use Rattle.sc_live_steps.proofs.OrdersProofs.NamedValues.{cases-draw, having, among-right, single, tagged, tokens}
 
 abbrev pub errands_of : Here → List Errand
@@ -87,3 +87,9 @@ pub closing-work : (tx : Draw) (leg : Leg) (host : ℕ) (name : Draw) (rest : Li
 closing-work tx Mailed host name rest t a = inr a
 closing-work tx Filed host name rest t (inl e) = inl (refl, e)
 closing-work tx Filed host name rest t (inr a) = inr a
+
+-- a coordinator asks for its deal alone
+pub same_asking : (deal : Deal) {here there : Here} {tx asked : Draw} {turn : Turn} → here ≡ there → here.bond ≡ Asking tx asked turn → there.bond ≡ Asking deal.tx deal.asked deal.turn → (tx ≡ deal.tx) × (asked ≡ deal.asked) × (turn ≡ deal.turn)
+same_asking deal {here} {there} {tx} {asked} {turn} same was is =
+    let f : Asking tx asked turn ≡ Asking deal.tx deal.asked deal.turn = sym was ∙ (ap (λ (h : Here). h.bond) same ∙ is) in
+    ((let g = f in cc), (let g = f in cc), (let g = f in cc))

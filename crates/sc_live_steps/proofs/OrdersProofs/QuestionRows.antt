@@ -2,9 +2,9 @@
 use Rattle.std.proofs.Common.{◌≡◌, ℕ, Bool, List, [], ◌∷◌, ◌++◌, Option, Some, None, inl, inr, refl, sym, ◌∙◌, ap, subst}
 use Rattle.sc_base.specs.Definitions.{Among}
 use Rattle.sc_node_table.specs.Values.{Draw}
-use Rattle.sc_live_steps.specs.orders.Definitions.{is_watch, Unbound, Asking, Errand, Question, Elsewhere, Reply, Result, Work, Answers, Records, Ends, Here, Scene, Deal, Leg, Mailed, Filed, Party, Stage, Still, Ordered, Asks, SentOn, Weighs, Replied, Recorded, Closes, ClosesBoth, coordinator, asked_one, heard_lead, bound_by, closing, party_of, parties_of, leads_of, IsAt, IsRow, PassesOn, AsksOn, Files, work_for, filed_there, Passes, AsksAgain, LastTakes, OneTakes, TwoTakes, IsTaken, OfQuestion, OfVote, OfOutcome, Comes, StepsBy}
+use Rattle.sc_live_steps.specs.orders.Definitions.{is_watch, Unbound, Errand, Question, Elsewhere, Reply, Result, Work, Answers, Records, Ends, Here, Scene, Deal, Leg, Mailed, Filed, Party, Stage, Still, Ordered, Asks, SentOn, Weighs, Replied, Recorded, Closes, ClosesBoth, coordinator, asked_one, heard_lead, bound_by, closing, party_of, parties_of, leads_of, IsAt, IsRow, PassesOn, AsksOn, Files, work_for, filed_there, Passes, AsksAgain, LastTakes, OneTakes, TwoTakes, IsTaken, OfQuestion, OfVote, OfOutcome, Comes, StepsBy}
 use Rattle.sc_live_steps.proofs.OrdersProofs.NamedValues.{AreOne, having, here-is, tokens, found}
-use Rattle.sc_live_steps.proofs.OrdersProofs.PartyChanges.{errands_of, other-mailed, other-same, own-taken, taken-there, lead-stays, leads-stay, deal-goes, no-errand, closing-errand}
+use Rattle.sc_live_steps.proofs.OrdersProofs.PartyChanges.{errands_of, other-mailed, other-same, own-taken, taken-there, lead-stays, leads-stay, deal-goes, no-errand, closing-errand, same_asking}
 use Rattle.sc_live_steps.proofs.OrdersProofs.OrderAndVoteRows.{first, second}
 
 -- what two rows that take an errand share: the parties are those of the deal, at the group that is asked or at the coordinator
@@ -116,20 +116,14 @@ module _ (now after : Scene) (group : Draw) (taken : Option Errand) (sent : Draw
       was : now.at group ≡ (coordinator deal [] (Elsewhere deal.tx deal.chief ∷ [])).1
       was = ap now.at (sym is) ∙ a.parties.0.0
 
-      asking : Asking d.tx d.asked d.turn ≡ Asking deal.tx deal.asked deal.turn
-      asking = (let f = second e in let g = d.asking in let h = ap (λ (k : Here). k.bond) was in tx_is ∙ (sym g ∙ h))
-        where
-          tx_is : Asking d.tx d.asked d.turn ≡ Asking d.tx d.asked d.turn
-          tx_is = refl
-
       asked_is : d.asked ≡ deal.asked
-      asked_is = (let f = asking in cc)
+      asked_is = (same_asking deal was d.asking refl).1
 
       tx_is : d.tx ≡ deal.tx
-      tx_is = (let f = asking in cc)
+      tx_is = (same_asking deal was d.asking refl).0
 
       turn_is : d.turn ≡ deal.turn
-      turn_is = (let f = asking in cc)
+      turn_is = (same_asking deal was d.asking refl).2
 
       chief_is : d.chief ≡ deal.chief
       chief_is = (let f : Some d.chief ≡ Some deal.chief = sym d.led ∙ (ap now.lead (sym is) ∙ a.leads.0) in cc)
