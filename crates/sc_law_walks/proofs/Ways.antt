@@ -1,5 +1,6 @@
--- One of two values, and the first of two that is there.
-use Rattle.std.proofs.Common.{◌≡◌, Bool, cond, Option, Some, None, refl}
+-- One of two values, the first of two that is there, and one that is not there.
+use Rattle.std.proofs.Common.{◌≡◌, Bool, false, cond, Option, Some, None, refl}
+use Rattle.std.specs.Prelude.{is_some}
 use Rattle.std.proofs.lemmas.Bool.{cond_both}
 use Rattle.sc_node_table.specs.Definitions.{either}
 
@@ -16,3 +17,8 @@ either_assoc (Some x) b c = refl
 pub either_none : {X : Type 0} (a : Option X) → either a None ≡ a
 either_none None = refl
 either_none (Some x) = refl
+
+-- one of two, where the test fails
+pub none_there : {X : Type 0} (o : Option X) → is_some o ≡ false → o ≡ None
+none_there None e = refl
+none_there (Some x) e = cc
