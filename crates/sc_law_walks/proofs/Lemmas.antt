@@ -1,10 +1,10 @@
 -- The lemmas of this crate that others cite, under one name.
-pub use Rattle.sc_law_walks.proofs.Ballots.{below_round}
+pub use Rattle.sc_law_walks.proofs.Ballots.{below_round, at_least_round}
 pub use Rattle.sc_law_walks.proofs.Calls.{next_found}
-pub use Rattle.sc_law_walks.proofs.Entries.{entered_next, floor_under, none_ready, idle_ready, idle_pump, entry_is, cut_next}
+pub use Rattle.sc_law_walks.proofs.Entries.{entered_next, entry_low, lost_counted, floor_under, none_ready, idle_ready, idle_pump, entry_is, cut_next}
 pub use Rattle.sc_law_walks.proofs.Places.{cleared, promised_place, executed_place, asked_place, welcomed_place, landed_place}
-pub use Rattle.sc_law_walks.proofs.Ways.{either_way, either_assoc, either_none, none_there}
-pub use Rattle.sc_law_walks.proofs.Counts.{promise_ballot, counted_ballot}
+pub use Rattle.sc_law_walks.proofs.Ways.{either_way, either_assoc, either_none, none_there, some_there}
+pub use Rattle.sc_law_walks.proofs.Counts.{promise_ballot, promise_flights, counted_ballot}
 pub use Rattle.sc_law_walks.proofs.Queues.{back_any}
 pub use Rattle.sc_law_walks.proofs.Walks.{Facts, States, Mails, Walk, Births, Sends, AreSaid, Hears, hears_all, IsReported, ended_replica, Ticks, LateAt}
 pub use Rattle.sc_law_walks.proofs.WalkRows.{creation}

@@ -109,7 +109,7 @@ answers client mail group seq (NotMine arc succ) body waited = waits client (Got
 answers client mail group seq (Gone into) body waited = waits client (Got mail) (answer_taken mail.from group seq (Gone into) client) (where_asked (was_asked client.asked mail.from group) group (Gone into) client)
 answers client mail group seq (Stale last) body waited = waits client (Got mail) (answer_taken mail.from group seq (Stale last) client) (where_asked (was_asked client.asked mail.from group) group (Stale last) client)
 
-waited_for : (waiting : Option ℕ) (seq : ℕ) → waits_for waiting seq ≡ true → waiting ≡ Some seq
+pub waited_for : (waiting : Option ℕ) (seq : ℕ) → waits_for waiting seq ≡ true → waiting ≡ Some seq
 waited_for None seq e = absurd (cc)
 waited_for (Some number) seq e = ap Some (eqb-true number seq e)
 

@@ -12,7 +12,7 @@ use Rattle.sc_node_table.specs.Definitions.{sent_all, answered, Found, is_act, a
 use Rattle.sc_paxos_law.proofs.Lemmas.{among-member}
 use Rattle.sc_live_plain.specs.Definitions.{Frame, IsFrame, mail_owes, replica_owes, Requests, IsPlainCommand, IsPlainCall, takers, IsPlainFlight, IsPlainLeader, IsPlainReplica}
 use Rattle.sc_live_plain.proofs.RowsProofs.SlotCounts.{one_if, one_yes, one_no, count-push}
-use Rattle.sc_live_plain.proofs.LeadersProofs.LeadingReplicas.{in_range, range_yes, range_behind, range_more, takes, takes_not, no_acts, IsHeld, IsReportedOf, IsSaid, IsNew, later_row, Leads}
+use Rattle.sc_live_plain.proofs.LeadersProofs.LeadingReplicas.{in_range, range_yes, range_behind, range_more, takes, takes_not, plain_acts, requests_only, offer_taken, IsHeld, IsReportedOf, IsSaid, IsNew, later_row, Leads}
 use Rattle.sc_live_plain.proofs.RowsProofs.RepeatedMail.{mail_of, all_each, all_owed, all_learns, all_kept, all_reached, among_push, last_among}
 use Rattle.sc_live_steps.proofs.FollowingProofs.LeastMembers.{none_decided}
 
@@ -59,15 +59,10 @@ module _ (begun : Requests) (frame : Frame) (is : IsFrame frame) (first free : �
   L taken place = Leads begun frame first free held bound wanted taken place
 
   module _ (slot taken : ℕ) (r : ReplicaState) (mails : List Mail) (k : L taken (r, mails)) (low : next r ≤ slot) where
-    calls_for : from_queues (r, mails) ≡ from_backlog (r, mails)
-    unfolding from_queues
-    calls_for =
-        cond-false (list_any is_act (under_way r)) (None, (r, mails)) (from_acts r.acts (r, mails)) (no_acts begun frame taken r k.leader (open_slots r))
-        ∙ ap (λ acts. from_acts acts (r, mails)) k.plain.acts
-
     found_calls : found_for slot (r, mails) ≡ from_backlog (r, mails)
     unfolding found_for
-    found_calls = ap (λ (what : Must Command). found_by what (r, mails)) (k.leader.open_ slot low) ∙ calls_for
+    found_calls = ap (λ (what : Must Command). found_by what (r, mails)) (k.leader.open_ slot low)
+        ∙ requests_only (IsPlainCommand begun frame) (plain_acts begun frame) r (Each-weaker (IsPlainFlight begun frame) (λ (flight : Flight Command). IsPlainCommand begun frame flight.value) (λ flight p. p.is_call) r.leader.flights k.leader.flights) k.leader.ready mails k.plain.acts
 
     find_call : (client seq : ℕ) (op : Op) (rest : List Command) → r.backlog ≡ Call client seq op ∷ rest → IsPlainCall begun frame client seq op
         → found_for slot (r, mails) ≡ (Some (Call client seq op), (record r { backlog = rest }, mails))
@@ -104,15 +99,6 @@ module _ (begun : Requests) (frame : Frame) (is : IsFrame frame) (first free : �
     name_is : name_of r ≡ frame.core.id
     name_is = ap (λ (core : Core). core.id) k.plain.group.core_is
 
-    taken_once : (s : ℕ) → takers after.0 s ≡ one_if (in_range (next r) (taken + 1) s)
-    unfolding after offered
-    taken_once s =
-        let push = count-push (λ (f : Flight Command). eqb f.slot s) r.leader.flights (record { slot = slot; value = Call client seq op; voters = None }) in
-        let before = k.leader.slots.once s in
-        let more = range_more (next r) taken s in
-        let same : one_if (eqb slot s) ≡ one_if (eqb (next r + taken) s) = ap (λ n. one_if (eqb n s)) at in
-        omega (arith, push, before, more, same)
-
     offered_plain : IsPlainReplica begun frame frame.lead after.0
     unfolding after offered
     offered_plain = (let p = k.plain in record {
@@ -139,7 +125,7 @@ module _ (begun : Requests) (frame : Frame) (is : IsFrame frame) (first free : �
       flights = Each-push (IsPlainFlight begun frame) r.leader.flights (record { slot = slot; value = Call client seq op; voters = None }) l.flights
           (record { is_call = calls_plain.0; voters_are = omega arith; undecided = none_decided (frame.at slot) });
       ready = l.ready;
-      slots = record { most = omega (arith, room); once = taken_once };
+      slots = record { most = omega (arith, room); once = offer_taken slot taken (frame.at slot) (Call client seq op) (record r { backlog = rest }) mails at k.leader.slots.once };
     })
 
     offered_owed : replica_owes after.0 + sum_by mail_owes after.1 ≤ bound
