@@ -12,16 +12,16 @@ use Rattle.sc_law_walks.proofs.Calls.{next_found}
 use Rattle.sc_law_walks.proofs.Ways.{either_way, none_there}
 use Rattle.sc_law_walks.specs.Definitions.{IfThere}
 
--- That P is kept by each offer of a replica that runs, at an open slot that it has nothing at and whose members are as Members says: of what was reported there, of nothing new below what was reported, of the head of either queue; and by the answer to a request that gets no slot.
-pub record TableOffers (Members : List ℕ → Type 0) (P : Place → Type 0) : Type 0 where
-  pub turned : (command : Command) (answer : AnswerBody) (backlog : List Command) (r : ReplicaState) (mails : List Mail) → r.running ≡ true → r.backlog ≡ command ∷ backlog → turned_down r.group.core command ≡ Some answer → P (r, mails)
-      → P (record r { backlog = backlog }, answered r.me r.group.core.id answer command mails)
-  pub offers_value : (slot : ℕ) (set : List ℕ) (command : Command) (r : ReplicaState) (mails : List Mail) → r.running ≡ true → next r ≤ slot → slot < next r + length r.sets → taken_at r slot ≡ None → must slot r.leader ≡ Value command → Members set → P (r, mails) → P (offered slot set command (r, mails))
-  pub offers_noop : (slot : ℕ) (set : List ℕ) (r : ReplicaState) (mails : List Mail) → r.running ≡ true → next r ≤ slot → slot < next r + length r.sets → taken_at r slot ≡ None → must slot r.leader ≡ Gap → Members set → P (r, mails) → P (offered slot set Noop (r, mails))
-  pub offers_act : (slot : ℕ) (set : List ℕ) (act : Command) (acts : List Command) (r : ReplicaState) (mails : List Mail) → r.running ≡ true → next r ≤ slot → slot < next r + length r.sets → taken_at r slot ≡ None → r.acts ≡ act ∷ acts → Members set → P (r, mails)
-      → P (offered slot set act (record r { acts = acts }, mails))
-  pub offers_call : (slot : ℕ) (set : List ℕ) (command : Command) (backlog : List Command) (r : ReplicaState) (mails : List Mail) → r.running ≡ true → next r ≤ slot → slot < next r + length r.sets → taken_at r slot ≡ None → r.backlog ≡ command ∷ backlog → Members set → P (r, mails)
-      → P (offered slot set command (record r { backlog = backlog }, mails))
+-- That Late is kept by each offer of a replica that runs, at an open slot that it has nothing at and whose members are as Members says: of what was reported there, of nothing new below what was reported, of the head of either queue; and by the answer to a request that gets no slot.
+pub record TableOffers (Members : List ℕ → Type 0) (Late : Place → Type 0) : Type 0 where
+  pub turned : (command : Command) (answer : AnswerBody) (backlog : List Command) (r : ReplicaState) (mails : List Mail) → r.running ≡ true → r.backlog ≡ command ∷ backlog → turned_down r.group.core command ≡ Some answer → Late (r, mails)
+      → Late (record r { backlog = backlog }, answered r.me r.group.core.id answer command mails)
+  pub offers_value : (slot : ℕ) (set : List ℕ) (command : Command) (r : ReplicaState) (mails : List Mail) → r.running ≡ true → next r ≤ slot → slot < next r + length r.sets → taken_at r slot ≡ None → must slot r.leader ≡ Value command → Members set → Late (r, mails) → Late (offered slot set command (r, mails))
+  pub offers_noop : (slot : ℕ) (set : List ℕ) (r : ReplicaState) (mails : List Mail) → r.running ≡ true → next r ≤ slot → slot < next r + length r.sets → taken_at r slot ≡ None → must slot r.leader ≡ Gap → Members set → Late (r, mails) → Late (offered slot set Noop (r, mails))
+  pub offers_act : (slot : ℕ) (set : List ℕ) (act : Command) (acts : List Command) (r : ReplicaState) (mails : List Mail) → r.running ≡ true → next r ≤ slot → slot < next r + length r.sets → taken_at r slot ≡ None → r.acts ≡ act ∷ acts → Members set → Late (r, mails)
+      → Late (offered slot set act (record r { acts = acts }, mails))
+  pub offers_call : (slot : ℕ) (set : List ℕ) (command : Command) (backlog : List Command) (r : ReplicaState) (mails : List Mail) → r.running ≡ true → next r ≤ slot → slot < next r + length r.sets → taken_at r slot ≡ None → r.backlog ≡ command ∷ backlog → Members set → Late (r, mails)
+      → Late (offered slot set command (record r { backlog = backlog }, mails))
 
 module _ (Members : List ℕ → Type 0) (P : Place → Type 0) (p : TableOffers Members P) where
   -- a replica that runs, whose next slot and number of open slots stay

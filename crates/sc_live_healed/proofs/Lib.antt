@@ -35,6 +35,7 @@ pub mod VotesInTurns
 pub mod VotesOfTurns
 pub mod IdleNodes
 pub mod FixedBesides
+pub mod UnqueuedEntries
 pub mod MovedReplicas
 pub mod PollAnswers
 pub mod PollRows
@@ -77,6 +78,5 @@ pub mod LoneTurnClients
 pub mod LoneTurnRows
 pub mod LoneTurnStarts
 pub mod AnsweredTurns
-pub mod RemainingTurns
 pub mod CrashedNodes
 pub mod AnsweredStores
