@@ -20,6 +20,7 @@ use Rattle.sc_client_table.proofs.TableProofs.TurnLemmas.{sends_in_turn}
 use Rattle.sc_meaning.specs.sound.Definitions.{Lawful, Player, as_nodes, births, client_seat, client_seats, node_seat, player_table, route_of, schedule, system_of, issues, asks_for, issued_from}
 use Rattle.sc_node_table.specs.Definitions.{numbers_from}
 use Rattle.sc_live_plain.specs.Definitions.{begun_ones, waiting_ones}
+use Rattle.sc_live_healed.proofs.SeatBirths.{seat_born}
 use Rattle.sc_live_healed.proofs.FixedJournals.{Rows, IsOf}
 use Rattle.sc_live_healed.specs.AskingClients.{IsAskingClient}
 use Rattle.sc_live_healed.proofs.AskingClientRows.{is_start, stays}
@@ -223,23 +224,10 @@ module _ (words : ℕ → ℕ → ℕ × ℕ) (scenario : Scenario) where
   abbrev IsBornSeat : Seat Player → Type 0
   IsBornSeat seat = IsAskingPlayer [] seat.who seat.actor
 
-  nodes_born : (bases : List Base) (numbers : List ℕ) → Each IsBornSeat (map (node_seat as_nodes bases scenario.policy) numbers)
-  nodes_born bases [] = tt
-  nodes_born bases (n ∷ numbers) = (tt, nodes_born bases numbers)
-
-  clients_born : (bases : List Base) (clients : List Requests) → Each IsBornSeat (client_seats bases clients)
-  clients_born [] clients = tt
-  clients_born (base ∷ bases) clients = by clients
-    where
-      by : (cs : List Requests) → Each IsBornSeat (map (client_seat (route_of base)) cs)
-      by [] = tt
-      by (c ∷ cs) = (record { number = refl; asks = record { some = omega arith; state = inl (record { waits = refl; replies = inl (refl, refl) }) }; few = λ seq e. absurd (true≢false (sym e)) }, by cs)
-
   pub first_asking : IsAskingJournal []
   first_asking = record {
-    players = λ seat is_of. Each-among IsBornSeat (births as_nodes scenario) seat
-        (Each-append IsBornSeat (map (node_seat as_nodes scenario.groups scenario.policy) (numbers_from 1 scenario.nodes)) (client_seats scenario.groups scenario.clients) (nodes_born scenario.groups (numbers_from 1 scenario.nodes)) (clients_born scenario.groups scenario.clients))
-        (find_found (λ (other : Seat Player). eqb other.who seat.who) (births as_nodes scenario) seat is_of).0;
+    players = seat_born IsBornSeat scenario (λ n. tt)
+        (λ base a c. record { number = refl; asks = record { some = omega arith; state = inl (record { waits = refl; replies = inl (refl, refl) }) }; few = λ seq e. absurd (true≢false (sym e)) });
   }
 
   pub journal_asking : (rows : Rows) → Lawful as_nodes words scenario rows → IsAskingJournal rows

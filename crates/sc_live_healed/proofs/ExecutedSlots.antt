@@ -17,6 +17,7 @@ use Rattle.sc_law_walks.proofs.Lemmas.{either_way, cleared, entered_next}
 use Rattle.sc_paxos_law.proofs.Lemmas.{among-member}
 use Rattle.sc_live_plain.specs.Definitions.{takers}
 use Rattle.sc_live_plain.proofs.Lemmas.{one_if_most, entries_at, out_none, out_here, out_other, standing, range_before, range_less, flights_at, among_push, others_kept, in_range, range_behind, one_if, one_no, out_each}
+use Rattle.sc_live_plain.proofs.Lemmas.{none_new}
 use Rattle.sc_live_healed.specs.Definitions.{IsFixedCommand, IsFixedRequest}
 use Rattle.sc_live_healed.proofs.ServingReplicas.{Grows, IsServing, IsUnderWay, grown}
 use Rattle.sc_live_healed.proofs.OfferedQueues.{requeued}
@@ -38,14 +39,6 @@ called_core None _ group client seq op g f h = cc
 called_core (Some into) lock group client seq op g f h = cc
 
 -- ---- what is told of an entry
-
--- no member is new
-none_new : (before now : List ℕ) → now ≡ before → filter (λ node. not (is_member before node)) now ≡ []
-none_new before now e = none_passes now (λ x a. ap not (ap (λ xs. is_member xs x) (sym e) ∙ among-member now x a))
-  where
-    none_passes : (xs : List ℕ) → ((x : ℕ) → Among x xs → not (is_member before x) ≡ false) → filter (λ node. not (is_member before node)) xs ≡ []
-    none_passes [] f = refl
-    none_passes (x ∷ xs) f = cond-false (not (is_member before x)) (x ∷ filter (λ node. not (is_member before node)) xs) (filter (λ node. not (is_member before node)) xs) (f x (inl refl)) ∙ none_passes xs (λ y a. f y (inr a))
 
 -- a place with more mails
 abbrev Says : ReplicaState → List Mail → Place → Type 0

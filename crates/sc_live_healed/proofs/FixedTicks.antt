@@ -81,4 +81,4 @@ module _ (base : Base) (me : ℕ) (w : FixedWalk base me) (t : FixedAskParts bas
 
 module _ (base : Base) (me : ℕ) (w : FixedWalk base me) (t : FixedTickParts base me w.P) where
   pub ticks : (drawer : Drawer) (place : Place) → w.P place → w.P (tick_row false drawer place)
-  ticks drawer place k = ticks_once base me w (record { reasks = t.reasks; relearns = t.relearns }) w.P (λ other q. q) t.elected drawer place k
+  ticks drawer place k = ticks_once base me w t.asks w.P (λ other q. q) t.elected drawer place k

@@ -26,6 +26,7 @@ pub mod IdleReplicas
 pub mod Lemmas
 pub mod FixedBirths
 pub mod FixedClients
+pub mod SeatBirths
 pub mod FixedJournals
 pub mod HarmlessRows
 pub mod UntoldRows

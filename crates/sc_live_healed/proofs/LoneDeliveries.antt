@@ -17,9 +17,9 @@ use Rattle.sc_live_orderly.specs.Definitions.{pending_mail, mail_with, TakesLowe
 use Rattle.sc_live_plain.proofs.Lemmas.{some_is}
 use Rattle.sc_live_plain.proofs.PlainProofs.PlainSteps.{to_numbers}
 use Rattle.sc_live_healed.proofs.FixedWalks.{IsMember}
-use Rattle.sc_live_healed.proofs.FixedBirths.{place_of}
 use Rattle.sc_live_healed.proofs.FixedJournals.{Rows, IsOf}
 use Rattle.sc_live_orderly.proofs.PendingMail.{crashed_same as one_crashed}
+use Rattle.sc_law_groups.proofs.WholeProofs.Lemmas.{group_place}
 
 -- ---- mail with copies
 
@@ -68,7 +68,7 @@ module _ (words : ℕ → ℕ → ℕ × ℕ) (scenario : Scenario) (bounded : I
   -- the members of a group are nodes of the scenario
   member_up : (base : Base) → Among base scenario.groups → (node : ℕ) → IsMember base node → IsUpTo scenario.nodes node
   member_up base a node m =
-      let p = place_of scenario bounded base a in
+      let p = group_place scenario bounded base a in
       subst (λ (b : Base). IsMember b node → IsUpTo scenario.nodes node) p.2
       (λ is. (let line = bounded.each p.0 (record { lo = 0; members = [] }) p.1 in Each-among (IsUpTo scenario.nodes) _ node (Each-from_All (IsUpTo scenario.nodes) _ line.members_in) (member-among _ node is))) m
 

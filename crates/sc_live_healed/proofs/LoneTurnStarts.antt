@@ -28,7 +28,7 @@ use Rattle.sc_live_healed.proofs.AskingClientRows.{starts, ticks, rests_ticked}
 use Rattle.sc_live_healed.proofs.LoneRequests as lone
 use Rattle.sc_live_healed.proofs.LoneDeliveries.{S, pending, member_gets}
 use Rattle.sc_live_healed.proofs.LoneTurns.{AtNodes, Leads, Where, IsSent, HasCrashed, Stands, Waits, TurnState, WaitsOn, HasAll}
-use Rattle.sc_live_healed.proofs.LoneTurnClients.{first_of, second_of, none_some}
+use Rattle.sc_live_healed.proofs.LoneTurnClients.{no_node, first_of, second_of, none_some}
 
 -- an idle leader has nothing under way
 idle_leads : (client first : ℕ) (r : ReplicaState) → IsIdle r → lone.LeadsAlone client first r
@@ -83,9 +83,6 @@ module _ (words : ℕ → ℕ → ℕ × ℕ) (scenario : Scenario) (bounded : I
           ∙ ap (λ (c : List ℕ). mail_with may (mails rows) c ++ filter may row.sent) counts
           ∙ ap (λ (ms : List Mail). ms ++ filter may row.sent)
           (mail_with-agree may (λ (mail : Mail). may_get (numbers_of (S words scenario bounded).births) rows mail.to) (λ mail. gets_same (numbers_of (S words scenario bounded).births) rows row kind mail.to) (mails rows) (copies rows) ∙ none_pending (S words scenario bounded) rows quiet)
-
-      no_node : {n : NodeState} {c : ClientState} → ◌≡◌ {A = Player} (Client c) (Node n) → ⊥
-      no_node e = cc
 
       nodes_then : (first : ℕ) → AtNodes words scenario bounded off client seat is_of number first after (λ n. Leads words scenario bounded off client seat is_of number first n)
       nodes_then first other of node e alive = elim (cases_eq seat.who other.who) [

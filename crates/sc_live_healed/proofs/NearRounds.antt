@@ -140,8 +140,8 @@ module _ (base : Base) (me : ℕ) (fresh : IsFresh base me) (bound : ℕ) where
 
   asks : FixedAskParts base me (λ place. IsFixedPlace base me place × StaysWithin bound place)
   asks = record {
-    reasks = λ to slot command r mails m on e k. ((fixed_ticks base me fresh).reasks to slot command r mails m on e k.0, says r to (Accept (name_of r) r.leader.ballot slot command) mails (own_round r mails on k.0 k.1) k.1);
-    relearns = λ to command r mails m on e k. ((fixed_ticks base me fresh).relearns to command r mails m on e k.0, says r to (Learn (name_of r) (next r - 1) command) mails tt k.1);
+    reasks = λ to slot command r mails m on e k. ((fixed_ticks base me fresh).asks.reasks to slot command r mails m on e k.0, says r to (Accept (name_of r) r.leader.ballot slot command) mails (own_round r mails on k.0 k.1) k.1);
+    relearns = λ to command r mails m on e k. ((fixed_ticks base me fresh).asks.relearns to command r mails m on e k.0, says r to (Learn (name_of r) (next r - 1) command) mails tt k.1);
   }
 
   elects : (r : ReplicaState) (mails : List Mail) → E (r, mails) → StaysWithin (bound + 1) (elected_place (r, mails))
