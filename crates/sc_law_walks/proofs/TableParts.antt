@@ -1,18 +1,14 @@
 -- What holds of any replica with its mails is kept while the replica offers, is elected, stops, and executes entries.
-use Rattle.std.proofs.Common.{◌≡◌, ℕ, ◌+◌, ◌-◌, ◌^◌, ◌<◌, ◌≤◌, ◌&&◌, nat_le, eqb, Bool, true, false, cond, List, [], ◌∷◌, ◌++◌, length, Option, Some, None, refl, arith}
-use Rattle.std.specs.Prelude.{is_some}
+use Rattle.std.proofs.Common.{◌≡◌, ℕ, ◌-◌, ◌^◌, ◌&&◌, eqb, Bool, true, false, cond, List, [], ◌∷◌, ◌++◌, Option, Some, None, refl}
 use Rattle.sc_base.specs.Definitions.{Each, is_member, least_of}
-use Rattle.std.specs.List.{list_any}
 use Rattle.std.proofs.lemmas.Bool.{cond_both, and_parts}
-use Rattle.sc_node_table.specs.Definitions.{at_slot, has_act, with_act, act_queued, elected, ended, stopped, saw, left_gone, left, is_among, looked_for, looked, executed_one, child_at, next_child, has_room, next_ready, ending, executed_ready, all_ready, executed, turned_down, answered, Found, is_act, from_backlog, from_acts, from_queues, found_by, found_for, offered, pumped_from, pumped, ReplicaState, Place, Executed, next, members, settled, may_offer, first_set, childless, taken_at, under_way, is_idle, last_slot, next_queued}
-use Rattle.sc_node_table.specs.Values.{Ballot, Command, Base, Route, AnswerBody, Mail, Must, Gap}
-use Rattle.sc_words.specs.declared.paxos.answers.Must.TheVariants.{Value, Free as Open}
+use Rattle.sc_node_table.specs.Definitions.{at_slot, has_act, with_act, act_queued, elected, ended, stopped, saw, left_gone, left, is_among, looked_for, looked, executed_one, child_at, next_child, has_room, next_ready, ending, executed_ready, all_ready, executed, pumped, ReplicaState, Place, Executed, next, members, childless}
+use Rattle.sc_node_table.specs.Values.{Ballot, Command, Base, Route, Mail}
 use Rattle.sc_group_table.specs.machine.Definitions.{child_by}
 use Rattle.sc_words.proofs.PaxosProofs.Lemmas.{at_least_itself, Each-append, Each-from}
-use Rattle.sc_words.specs.paxos.Definitions.{IsAtLeast, below, must}
-use Rattle.sc_law_walks.proofs.Calls.{next_found}
+use Rattle.sc_words.specs.paxos.Definitions.{IsAtLeast, below}
 use Rattle.sc_law_walks.proofs.Ways.{either_way}
-use Rattle.sc_law_walks.specs.Definitions.{IsFiledOnMail, IfThere}
+use Rattle.sc_law_walks.specs.Definitions.{IsFiledOnMail}
 use Rattle.sc_law_walks.proofs.PlaceWalks.{entered_place}
 use Rattle.sc_law_walks.proofs.TableWalks.{TableWalk, MayEnter}
 use Rattle.sc_law_walks.proofs.TablePumps.{TableOffers, pump_keeps}

@@ -1,6 +1,6 @@
 -- What a client does in each row, whatever comes: it rests, or asks a group that it knows.
-use Rattle.std.proofs.Common.{◌≡◌, ℕ, ◌≤◌, ◌||◌, Bool, true, false, true≢false, cond, [], length, Option, Some, None, ◌⊎◌, inl, inr, refl, sym, ◌∙◌, ap, subst, arith}
-use Rattle.std.proofs.lemmas.Bool.{cond_both, eqb-true, eq-eqb}
+use Rattle.std.proofs.Common.{◌≡◌, ℕ, ◌≤◌, ◌||◌, Bool, true, false, true≢false, cond, [], length, Option, Some, ◌⊎◌, inl, inr, refl, sym, ◌∙◌, ap, subst, arith}
+use Rattle.std.proofs.lemmas.Bool.{cond_both, eq-eqb}
 use Rattle.sc_node_table.specs.Values.{Draw, OrderLine, AnswerBody, Input, Got, Mail, MailBody, Answer, Value}
 use Rattle.sc_actor.specs.declared.rows.Input.TheVariants.{Tick, Go, Told}
 use Rattle.sc_client_table.specs.table.Definitions.{Client, ClientStep, waits_for, answer_taken, got, client_ticked, table}

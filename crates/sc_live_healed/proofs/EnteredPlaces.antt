@@ -1,9 +1,8 @@
 -- What an entry of a group that is not reshaped leaves: the replica with one more entry, whose slot is cleared; and of a counted one the answer and the Learns.
-use Rattle.std.proofs.Common.{◌≡◌, ℕ, not, Bool, true, false, List, filter, Option, Some, None, refl, ◌∙◌, ap}
-use Rattle.sc_base.specs.Definitions.{is_member}
+use Rattle.std.proofs.Common.{◌≡◌, ℕ, Bool, true, false, List, Option, Some, None, refl, ◌∙◌, ap}
 use Rattle.sc_node_table.specs.Values.{Base, Core, Command, Effect, Mail, Learn, OrderResult}
 use Rattle.sc_group_table.specs.machine.Definitions.{Group, applied}
-use Rattle.sc_node_table.specs.Definitions.{ReplicaState, Place, name_of, next, members, entered, forgotten, answer_of, order_result, answered_or_put_back, effect_reported, announced, before_of, spoken, learnt_to, welcomed, welcomed_all, sent_others, slot_lost, landed, flying}
+use Rattle.sc_node_table.specs.Definitions.{ReplicaState, Place, name_of, next, members, entered, answer_of, order_result, answered_or_put_back, effect_reported, announced, before_of, spoken, learnt_to, welcomed, welcomed_all, sent_others, landed, flying}
 use Rattle.sc_law_walks.proofs.Lemmas.{entered_group, entered_place, lost_counted}
 use Rattle.sc_law_walks.proofs.Places.{cleared}
 use Rattle.sc_live_healed.specs.Definitions.{IsFixedCommand}

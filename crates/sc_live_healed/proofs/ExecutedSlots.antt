@@ -1,10 +1,9 @@
 -- What one entry makes of a replica that runs, where its group is not reshaped: the next slot is taken no more, and the others stay.
-use Rattle.std.proofs.Common.{◌≡◌, ℕ, ◌+◌, ◌-◌, ◌≤◌, ◌||◌, not, eqb, nat_lt, Bool, true, false, cond, List, [], ◌∷◌, ◌++◌, Option, Some, None, inl, inr, refl, sym, ◌∙◌, ap, subst, arith}
-use Rattle.std.specs.List.{filter}
+use Rattle.std.proofs.Common.{◌≡◌, ℕ, ◌+◌, ◌-◌, ◌≤◌, ◌||◌, eqb, nat_lt, Bool, true, false, cond, List, [], ◌∷◌, ◌++◌, Option, Some, None, inl, inr, refl, sym, ◌∙◌, ap, subst, arith}
 use Rattle.std.specs.FinMap.{get}
 use Rattle.std.specs.Option.{option_map}
-use Rattle.std.proofs.lemmas.Bool.{cond-true, cond-false, cases_lt, cases_eq, ne_eqb}
-use Rattle.sc_base.specs.Definitions.{Among, Each, is_member, least_of}
+use Rattle.std.proofs.lemmas.Bool.{cond-true, cases_lt, cases_eq, ne_eqb}
+use Rattle.sc_base.specs.Definitions.{Each, is_member, least_of}
 use Rattle.sc_node_table.specs.Values.{Ballot, Noted, Op, Base, Command, Noop, Call, Core, Lock, Free, Effect, Route, AnswerBody, Mail, Learn, Flight}
 use Rattle.sc_words.specs.ideal.Definitions.{key_of, holds_key}
 use Rattle.sc_words.specs.declared.commands.effects.Effect.TheVariants as Was
@@ -14,7 +13,6 @@ use Rattle.sc_group_table.specs.machine.Definitions.{Group, served_by_note, call
 use Rattle.sc_node_table.specs.declared.Before.{Before}
 use Rattle.sc_node_table.specs.Definitions.{stopped, entered, answer_of, answered_or_put_back, effect_reported, announced, learnt_to, welcomed, slot_lost, landed, left_gone, left, looked_for, looked, executed_one, welcomed_all, answer_to, sent_others, put_back, queued_number, request_before, is_request_of, without_request, same_command, ReplicaState, Place, name_of, next, members, flying, forgotten, rest_of, without_slot, before_of, spoken, spoken_mails, begun_reported, went_on}
 use Rattle.sc_law_walks.proofs.Lemmas.{either_way, cleared, entered_next}
-use Rattle.sc_paxos_law.proofs.Lemmas.{among-member}
 use Rattle.sc_live_plain.specs.Definitions.{takers}
 use Rattle.sc_live_plain.proofs.Lemmas.{one_if_most, entries_at, out_none, out_here, out_other, standing, range_before, range_less, flights_at, among_push, others_kept, in_range, range_behind, one_if, one_no, out_each}
 use Rattle.sc_live_plain.proofs.Lemmas.{none_new}

@@ -1,13 +1,12 @@
 -- The groups of a bounded scenario are free at their birth, have names of their own, and follow one another.
-use Rattle.std.proofs.Common.{◌≡◌, ℕ, zero, suc, ◌+◌, ◌<◌, ◌≤◌, ◌&&◌, nat_le, eqb, Bool, true, false, List, [], ◌∷◌, length, ◌⊎◌, inl, inr, refl, sym, ◌∙◌, ap, subst, arith}
-use Rattle.std.proofs.lemmas.Bool.{cond_both, cases_lt, or_left, eq-eqb, eqb-false, le-leb}
-use Rattle.sc_base.specs.Definitions.{Among, is_member, least_of, most_nodes}
+use Rattle.std.proofs.Common.{◌≡◌, ℕ, ◌+◌, ◌<◌, ◌≤◌, nat_le, [], length, refl, sym, ◌∙◌, ap, subst, arith}
+use Rattle.std.proofs.lemmas.Bool.{le-leb}
+use Rattle.sc_base.specs.Definitions.{Among, least_of, most_nodes}
 use Rattle.sc_node_table.specs.Values.{Draw, Base}
 use Rattle.sc_words.proofs.PaxosProofs.Lemmas.{Each-among, Each-from_All}
-use Rattle.sc_scenario.specs.declared.scenario.drafts.GroupLine.{GroupLine}
 use Rattle.sc_scenario.specs.declared.scenario.scenarios.Scenario.{Scenario}
-use Rattle.sc_scenario.specs.scenario.Definitions.{IsBounded, IsUpTo, base_at, bases_up_to, place_right}
-use Rattle.sc_paxos_law.proofs.Lemmas.{Among-left, Among-right, Among-either, member-among}
+use Rattle.sc_scenario.specs.scenario.Definitions.{IsBounded, IsUpTo, base_at, place_right}
+use Rattle.sc_paxos_law.proofs.Lemmas.{member-among}
 use Rattle.sc_law_groups.proofs.WholeProofs.Lemmas.{in_up_to, group_place, right_in}
 use Rattle.sc_live_steps.proofs.FollowingProofs.Lemmas.{least_in}
 use Rattle.sc_base.proofs.Lemmas.{and_both}

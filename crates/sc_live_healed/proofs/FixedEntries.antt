@@ -1,5 +1,5 @@
 -- An entry that is a request or a Noop, of a group that is not reshaped: nothing is reported to the desk, nothing is said to others, members learn it, and nobody joins.
-use Rattle.std.proofs.Common.{◌≡◌, ℕ, Bool, true, false, List, Option, Some, None, refl, sym, ◌∙◌, ap, subst, inl, inr}
+use Rattle.std.proofs.Common.{◌≡◌, ℕ, Bool, List, Some, None, refl, sym, ◌∙◌, ap, subst, inl, inr}
 use Rattle.sc_base.specs.Definitions.{Among}
 use Rattle.sc_node_table.specs.Values.{Command, Noop, Call, Base, Core, OrderResult, Effect, Mail}
 use Rattle.sc_group_table.specs.machine.Definitions.{applied, Group}

@@ -1,14 +1,10 @@
 -- An invariant of a replica of a group that is not reshaped is kept while the replica offers and executes entries.
-use Rattle.std.proofs.Common.{◌≡◌, ℕ, ◌+◌, ◌<◌, ◌≤◌, ◌&&◌, nat_le, eqb, Bool, true, false, cond, List, [], ◌∷◌, ◌++◌, length, replicate, Option, Some, None, refl, sym, ◌∙◌, ap, subst, arith, inl, inr}
-use Rattle.std.specs.Prelude.{is_some}
-use Rattle.sc_base.specs.Definitions.{Among, Each, is_member}
-use Rattle.std.proofs.lemmas.Bool.{cond_both, cond-true, and_parts, eq-eqb, or_left, or_right}
-use Rattle.std.specs.List.{list_any}
+use Rattle.std.proofs.Common.{◌≡◌, ℕ, Bool, true, List, [], ◌∷◌, ◌++◌, replicate, Option, Some, None, refl, sym, ◌∙◌, ap, subst, inl, inr}
+use Rattle.sc_base.specs.Definitions.{Each, is_member}
+use Rattle.std.proofs.lemmas.Bool.{cond_both, cond-true}
 use Rattle.sc_words.proofs.PaxosProofs.Lemmas.{Each-from}
-use Rattle.sc_node_table.specs.Definitions.{at_slot, left_gone, left, is_among, looked_for, looked, executed_one, next_child, has_room, next_ready, ending, executed_ready, all_ready, executed, turned_down, answered, Found, is_act, from_backlog, from_acts, from_queues, found_by, found_for, offered, pumped_from, pumped, ReplicaState, Place, Executed, next, members, settled, may_offer, first_set, childless, taken_at, under_way, is_idle, last_slot, next_queued, slots_ahead}
-use Rattle.sc_node_table.specs.Values.{Command, Noop, Call, Base, Core, Route, AnswerBody, Mail, Must, Gap}
-use Rattle.sc_words.specs.declared.paxos.answers.Must.TheVariants.{Value, Free as Open}
-use Rattle.sc_words.specs.paxos.Definitions.{must}
+use Rattle.sc_node_table.specs.Definitions.{left_gone, left, is_among, looked_for, looked, executed_one, next_child, next_ready, ending, executed_ready, all_ready, executed, pumped, ReplicaState, Place, Executed, next, members, childless, slots_ahead}
+use Rattle.sc_node_table.specs.Values.{Command, Noop, Call, Base, Core, Route}
 use Rattle.sc_law_walks.proofs.Lemmas.{ready_so, TableOffers, pump_keeps, entered_place}
 use Rattle.sc_paxos_law.proofs.Lemmas.{among-member}
 use Rattle.sc_live_healed.proofs.FixedWalks.{FixedWalk, IsMember}

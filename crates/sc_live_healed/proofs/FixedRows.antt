@@ -1,16 +1,15 @@
 -- An invariant of a replica of a group that is not reshaped is kept by each row of the replica's table.
 use Rattle.std.proofs.Common.{◌≡◌, ℕ, zero, suc, ◌+◌, ◌≤◌, ◌&&◌, ◌||◌, not, nat_le, nat_lt, eqb, refl, Bool, true, false, true≢false, cond, List, [], ◌∷◌, ◌++◌, length, Option, Some, None, sym, ◌∙◌, ap, subst, arith}
-use Rattle.sc_base.specs.Definitions.{same_ballot, is_member}
-use Rattle.std.proofs.lemmas.Bool.{cond_both, and_parts, eqb-true, eq-eqb, ltb-false, ltb-true}
+use Rattle.sc_base.specs.Definitions.{is_member}
+use Rattle.std.proofs.lemmas.Bool.{cond_both, and_parts, eqb-true, ltb-false, ltb-true}
 use Rattle.sc_node_table.specs.Values.{Ballot, Draw, Op, Command, Call, Base, Core, AnswerBody, Mail, MailBody, Request, Answer, Prepare, Promise, Accept, Accepted, Nack, Learn, Ask, Install, TxPrepare, TxVote, TxOutcome, TxElsewhere, TxWatch, TxWatched, Told, Report, PrepareAnswer, AcceptAnswer, Counted, Chosen, NotYet}
 use Rattle.sc_mail.specs.declared.bodies.AnswerBody.TheVariants as Says
 use Rattle.sc_words.specs.declared.paxos.answers.PrepareAnswer.TheVariants as Prepared
 use Rattle.sc_words.specs.declared.paxos.answers.AcceptAnswer.TheVariants as Asked
 use Rattle.sc_words.specs.paxos.Definitions.{IsAtLeast, below, prepared, accepted as accepted_by, AcceptorState, reports_from, may_promise, may_accept, after_promise, after_accept, LeaderState, promise_counted, entry_at, counted}
-use Rattle.sc_words.proofs.PaxosProofs.Lemmas.{at_least_itself}
 use Rattle.sc_node_table.specs.Definitions.{ended, stopped, saw, executed, has_room, jumped, install_to, sent, pumped, queued_number, without_request, ReplicaState, Place, Executed, childless, name_of, next, members, set_at, last_slot, forgotten, refused_at, queued, requested, request_row, learn_row, taught, most_taught, ask_row, looked_up, looked, took_over, install_row, mailed, at_slot, with_slot, promise_to, promised, prepare_row, accepted_to, took, accept_row, leads, promise_row, readied, vote_tallied, voted, accepted_row, nack_row}
 use Rattle.sc_law_walks.proofs.Places.{asked_place}
-use Rattle.sc_law_walks.proofs.Lemmas.{either_way, seen_top, put_there, leads_on, ended_off, ended_next, jumped_runs}
+use Rattle.sc_law_walks.proofs.Lemmas.{either_way, seen_top, put_there, leads_on, ended_off, ended_next}
 use Rattle.sc_law_walks.specs.Definitions.{GoesOn}
 use Rattle.sc_live_healed.proofs.FixedWalks.{FixedWalk, IsMember}
 use Rattle.sc_live_healed.proofs.FixedParts.{counted_fixed}

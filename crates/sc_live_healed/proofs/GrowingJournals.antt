@@ -12,14 +12,12 @@ use Rattle.sc_node_table.specs.Definitions.{NodeState, ReplicaState, Place, name
 use Rattle.sc_law_walks.proofs.Lemmas.{either_way}
 use Rattle.sc_actor.specs.Definitions.{mails, numbered, acted, input_of, value, IsStep}
 use Rattle.sc_actor.proofs.Lemmas.{lawful-induction, value-snoc, mails-snoc}
-use Rattle.sc_client_table.specs.table.Definitions.{Client as ClientState}
 use Rattle.sc_client_table.proofs.TableProofs.TurnLemmas.{each_request}
-use Rattle.sc_node_table.specs.Definitions.{born_replica, born_replicas, numbers_from}
+use Rattle.sc_node_table.specs.Definitions.{born_replica, born_replicas}
 use Rattle.sc_paxos_law.proofs.Lemmas.{place_among}
 use Rattle.sc_scenario.specs.declared.scenario.scenarios.Scenario.{Scenario}
-use Rattle.sc_scenario.specs.declared.scenario.scenarios.Asks.{Asks as Requests}
 use Rattle.sc_scenario.specs.scenario.Definitions.{IsBounded}
-use Rattle.sc_meaning.specs.sound.Definitions.{Lawful, Player, as_nodes, births, client_seat, client_seats, node_seat, player_table, route_of, schedule, system_of}
+use Rattle.sc_meaning.specs.sound.Definitions.{Lawful, Player, as_nodes, player_table, schedule, system_of}
 use Rattle.sc_live_orderly.specs.Definitions.{is_told}
 use Rattle.sc_live_healed.proofs.SeatBirths.{seat_born}
 use Rattle.sc_live_healed.proofs.FixedJournals.{Rows, IsFixedPlayer, IsOf, IsFixedJournal, Brings, fresh, given, first_fixed, brings, next_fixed, AreUntold, untold_parts}

@@ -1,8 +1,7 @@
 -- Where the members that are alive are more than half, and all of them are among some nodes, these are a majority.
-use Rattle.std.proofs.Common.{◌≡◌, ℕ, ◌*◌, ◌≤◌, Bool, true, List, [], ◌∷◌, length, count_by, inl, inr, refl, arith}
-use Rattle.std.proofs.lemmas.Bool.{cases_Bool, lt-ltb}
+use Rattle.std.proofs.Common.{◌≡◌, ℕ, ◌*◌, Bool, true, List, length, arith}
+use Rattle.std.proofs.lemmas.Bool.{lt-ltb}
 use Rattle.sc_base.specs.Definitions.{Among, votes_of, is_majority, is_member}
-use Rattle.sc_live_plain.proofs.Lemmas.{count-cons, one_yes, one_no}
 use Rattle.sc_paxos_law.proofs.Leading.{counts_within}
 use Rattle.sc_live_healed.specs.Definitions.{LivingMajority}
 

@@ -1,18 +1,16 @@
 -- What the pump leaves of a replica that runs, where its group is not reshaped: all open slots are taken, or nothing is queued and each report is of a slot that is taken.
-use Rattle.std.proofs.Common.{◌≡◌, ℕ, zero, suc, ◌+◌, ◌<◌, ◌≤◌, ◌&&◌, eqb, Bool, true, false, List, [], ◌∷◌, replicate, Option, Some, None, inl, inr, refl, sym, ◌∙◌, ap, subst, arith}
+use Rattle.std.proofs.Common.{◌≡◌, ℕ, zero, suc, ◌+◌, ◌<◌, ◌≤◌, ◌&&◌, Bool, true, false, List, [], ◌∷◌, replicate, Option, Some, None, inl, inr, refl, sym, ◌∙◌, ap, subst, arith}
 use Rattle.std.specs.Prelude.{is_some, nat_le, nat_lt}
-use Rattle.std.specs.List.{list_any}
 use Rattle.std.specs.Option.{option_map}
-use Rattle.std.proofs.lemmas.Bool.{cond_both, cond-false, cases_lt, ltb-false, and_parts, and_from, both_ways, le-leb, leb-true, or_parts, cases_eq}
+use Rattle.std.proofs.lemmas.Bool.{cond_both, cases_lt, ltb-false, and_parts, and_from, both_ways, le-leb, leb-true, or_parts, cases_eq}
 use Rattle.sc_base.specs.Definitions.{Among, Each}
 use Rattle.sc_node_table.specs.Values.{Ballot, Op, Base, Command, Noop, Call, Core, Free, Mail, MailBody, Accept, Must, Gap, Flight, Report}
 use Rattle.sc_words.specs.declared.paxos.answers.Must.TheVariants.{Value, Free as Open}
 use Rattle.sc_words.specs.ideal.Definitions.{key_of, holds_key}
 use Rattle.sc_words.specs.paxos.Definitions.{must, must_without, choice, names_above}
 use Rattle.sc_words.proofs.PaxosProofs.Lemmas.{Each-push, Each-weaker, Each-among, Each-from, choice_among, choice_best}
-use Rattle.sc_node_table.specs.Definitions.{sent_all, is_act, next_queued, from_backlog, from_acts, from_queues, found_by, found_for, offered, pumped_from, pumped, ReplicaState, Place, name_of, next, first_set, settled, may_offer, taken_at, under_way, open_slots, is_idle, last_slot, slots_ahead}
-use Rattle.sc_live_plain.specs.Definitions.{takers}
-use Rattle.sc_live_plain.proofs.Lemmas.{requests_only, offer_taken, count-push, range_more, takes, takes_not, all_kept, all_reached, call_found, none_found, by_found, by_nothing, mail_of, in_range, range_yes, range_behind, one_if, one_yes, one_no}
+use Rattle.sc_node_table.specs.Definitions.{sent_all, next_queued, from_backlog, found_by, found_for, offered, pumped_from, pumped, ReplicaState, Place, name_of, next, first_set, settled, may_offer, taken_at, is_idle, last_slot, slots_ahead}
+use Rattle.sc_live_plain.proofs.Lemmas.{requests_only, offer_taken, takes, takes_not, all_kept, all_reached, call_found, none_found, by_found, by_nothing, mail_of, in_range, range_yes, range_behind, one_yes, one_no}
 use Rattle.sc_live_steps.proofs.FollowingProofs.LeastMembers.{none_decided}
 use Rattle.sc_law_groups.proofs.GroupProofs.Offering.{must_value}
 use Rattle.sc_live_healed.specs.Definitions.{IsFixedCommand, IsFixedRequest, IsUndecided, HasOfferedAll}

@@ -1,7 +1,7 @@
 -- A poll begins: a tick of a replica that is not settled elects it with its next ballot, and asks each member for its promise.
-use Rattle.std.proofs.Common.{◌≡◌, ℕ, zero, suc, ◌+◌, ◌-◌, ◌^◌, ◌<◌, ◌≤◌, ◌||◌, not, nat_le, eqb, true, false, List, [], ◌∷◌, replicate, None, inl, inr, ◌∙◌, ap, arith}
+use Rattle.std.proofs.Common.{◌≡◌, ℕ, ◌+◌, ◌-◌, ◌^◌, ◌||◌, not, nat_le, eqb, true, false, List, [], ◌∷◌, replicate, None, inl, inr, ◌∙◌, ap, arith}
 use Rattle.std.specs.Prelude.{is_some}
-use Rattle.std.proofs.lemmas.Bool.{cond-true, cond-false, and_parts, cases_lt, leb-true, or_left}
+use Rattle.std.proofs.lemmas.Bool.{cond-true, cond-false, and_parts, leb-true, or_left}
 use Rattle.sc_base.specs.Definitions.{Among, Drawer, is_member, most_nodes}
 use Rattle.sc_words.proofs.PaxosProofs.Lemmas.{Among-filter}
 use Rattle.sc_paxos_law.proofs.Lemmas.{Among-left, Among-right}

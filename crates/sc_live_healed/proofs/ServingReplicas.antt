@@ -1,15 +1,11 @@
 -- What holds of a replica that runs, in the midst of a row: which slots are taken, and by what.
-use Rattle.std.proofs.Common.{◌≡◌, ℕ, ◌+◌, ◌≤◌, ◌||◌, true, false, List, [], ◌∷◌, ◌++◌, replicate, Option, Some, None, ◌⊎◌, inl, inr, refl, ap}
-use Rattle.std.specs.List.{list_any}
-use Rattle.std.specs.Option.{option_map}
-use Rattle.std.proofs.lemmas.Bool.{or_parts, or_from}
+use Rattle.std.proofs.Common.{◌≡◌, ℕ, ◌+◌, ◌≤◌, true, false, List, [], replicate, ◌⊎◌, inl, inr, refl, ap}
 use Rattle.sc_base.specs.Definitions.{Among, Each}
 use Rattle.sc_node_table.specs.Values.{Ballot, Base, Command, Noop, Call, Mail, Accept, Flight, Report}
-use Rattle.sc_words.specs.paxos.Definitions.{flight_at}
-use Rattle.sc_words.proofs.PaxosProofs.Lemmas.{Each-among, Each-weaker, find_found}
-use Rattle.sc_node_table.specs.Definitions.{is_act, ReplicaState, Place, next, either, taken_at, listed, taken_from, at_slot, slots_ahead, last_slot}
+use Rattle.sc_words.proofs.PaxosProofs.Lemmas.{Each-weaker}
+use Rattle.sc_node_table.specs.Definitions.{is_act, ReplicaState, Place, next, slots_ahead, last_slot}
 use Rattle.sc_live_plain.specs.Definitions.{AreTaken}
-use Rattle.sc_live_plain.proofs.Lemmas.{mail_of, at_found}
+use Rattle.sc_live_plain.proofs.Lemmas.{mail_of}
 use Rattle.sc_live_healed.specs.Definitions.{IsFixedCommand, IsFixedRequest, IsUndecided, HasVoted}
 
 -- what stands in one list of mails stands in the other

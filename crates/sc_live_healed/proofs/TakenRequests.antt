@@ -1,12 +1,12 @@
 -- Where a request stands at a leader: queued, in flight or ready; and what parts of a row do with it. No slot has two commands in flight or ready, and each that has one is open.
-use Rattle.std.proofs.Common.{◌≡◌, ℕ, zero, suc, ◌+◌, ◌<◌, ◌≤◌, ◌&&◌, eqb, ltb, Bool, true, false, true≢false, List, [], ◌∷◌, ◌++◌, length, Option, Some, None, ◌⊎◌, inl, inr, refl, sym, ◌∙◌, ap, subst, arith}
+use Rattle.std.proofs.Common.{◌≡◌, ℕ, ◌+◌, ◌<◌, ◌≤◌, ◌&&◌, eqb, ltb, Bool, true, false, true≢false, List, [], ◌∷◌, ◌++◌, length, Option, Some, None, ◌⊎◌, inl, inr, refl, sym, ◌∙◌, ap, subst, arith}
 use Rattle.std.specs.Option.{option_map}
-use Rattle.std.proofs.lemmas.Bool.{cond_both, cond-true, cond-false, cases_eq, ltb-true, ltb-false, eqb-true, eq-eqb, and_parts, and_from}
+use Rattle.std.proofs.lemmas.Bool.{cond_both, cond-true, cond-false, ltb-true, ltb-false, eqb-true, eq-eqb, and_parts, and_from}
 use Rattle.sc_base.specs.Definitions.{Among, Each, client_actor}
 use Rattle.sc_node_table.specs.Values.{Draw, Op, Command, Noop, Call, Join, Leave, Split, Begin, Prepared, RecordVote, GiveUp, Finish, Watched, RecordWatch, AnswerBody, Mail, Answer, Flight}
 use Rattle.sc_words.specs.paxos.Definitions.{flight_at}
 use Rattle.sc_words.proofs.PaxosProofs.Lemmas.{Each-among}
-use Rattle.sc_node_table.specs.Definitions.{ReplicaState, next, taken_at, taken_from, open_slots, under_way, numbers_from, at_slot, either, listed, answered, answered_all, dismissed, dismissed_all, queued_number, without_request, is_request_of, put_back, request_before}
+use Rattle.sc_node_table.specs.Definitions.{ReplicaState, next, taken_at, taken_from, open_slots, under_way, at_slot, either, listed, answered, answered_all, dismissed, dismissed_all, queued_number, without_request, is_request_of, put_back, request_before}
 use Rattle.sc_law_walks.proofs.Lemmas.{grows}
 use Rattle.sc_law_walks.proofs.Talks.{all_answered, all_dismissed}
 use Rattle.sc_live_plain.specs.Definitions.{takers}

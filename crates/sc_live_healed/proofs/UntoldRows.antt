@@ -1,5 +1,5 @@
 -- A lawful journal of lines that give no order has no row that gives one, and one of lines that do not crash an actor has no row that does.
-use Rattle.std.proofs.Common.{◌≡◌, ℕ, List, [], ◌∷◌, Bool, false, true, ◌&&◌, ◌||◌, eqb, refl}
+use Rattle.std.proofs.Common.{◌≡◌, ℕ, List, [], ◌∷◌, Bool, false, true, ◌&&◌, eqb, refl}
 use Rattle.std.proofs.lemmas.Bool.{or_from}
 use Rattle.sc_base.specs.Definitions.{Each}
 use Rattle.sc_actor.specs.declared.rows.Row.{Row}

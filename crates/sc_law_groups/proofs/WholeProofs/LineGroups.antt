@@ -1,5 +1,5 @@
 -- Each group of a list of lines is that of a line, and each line has its group.
-use Rattle.std.proofs.Common.{◌≡◌, ℕ, zero, suc, ◌+◌, ◌<◌, ◌≤◌, ◌⊎◌, eqb, List, [], ◌∷◌, ◌++◌, length, inl, inr, sym, ap, subst, arith}
+use Rattle.std.proofs.Common.{◌≡◌, ℕ, zero, suc, ◌+◌, ◌<◌, ◌≤◌, ◌⊎◌, eqb, List, [], ◌∷◌, length, inl, inr, sym, ap, subst, arith}
 use Rattle.std.proofs.lemmas.Bool.{cond_both, cases_lt, eqb-false}
 use Rattle.sc_base.specs.Definitions.{Among}
 use Rattle.sc_node_table.specs.Values.{Base}

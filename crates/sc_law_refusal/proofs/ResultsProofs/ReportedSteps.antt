@@ -1,8 +1,8 @@
 -- What a replica reports of orders in any row of its table.
-use Rattle.std.proofs.Common.{◌≡◌, ℕ, ◌≤◌, eqb, nat_lt, ◌&&◌, Bool, true, false, true≢false, refl, sym, ◌∙◌, ap, arith, subst, List, [], ◌∷◌, ◌++◌, Option, Some, None, inl, inr}
+use Rattle.std.proofs.Common.{◌≡◌, ℕ, ◌≤◌, eqb, ◌&&◌, Bool, true, false, true≢false, refl, sym, ◌∙◌, ap, arith, subst, List, [], ◌∷◌, ◌++◌, Option, Some, None, inl, inr}
 use Rattle.std.specs.Option.{option_map}
 use Rattle.std.specs.FinMap.{entries}
-use Rattle.std.proofs.lemmas.Bool.{cond_both, and_parts, eqb-true, eq-eqb}
+use Rattle.std.proofs.lemmas.Bool.{cond_both, and_parts, eqb-true}
 use Rattle.sc_base.specs.Definitions.{Among, Drawer, next_name, same_ballot}
 use Rattle.sc_base.proofs.Lemmas.{ballot_is}
 use Rattle.sc_node_table.specs.Values.{Ballot, Draw, Command, Base, Order, OrderLine, OrderRefusal, OrderResult, Refused, Counted, Chosen, NotYet, Mail, MailBody, Request, Answer, Prepare, Promise, Accept, Accepted, Nack, Learn, Ask, Install, TxPrepare, TxVote, TxOutcome, TxElsewhere, TxWatch, TxWatched, Told}
@@ -15,7 +15,6 @@ use Rattle.sc_law_entries.proofs.NamesProofs.EachFound.{slot_with}
 use Rattle.sc_node_table.specs.Definitions.{ReplicaState, Place, Executed, childless, name_of, next, at_slot, with_slot, set_at, has_room, leads, voted, vote_tallied, readied, accepted_row, executed, forgotten, ordered_command, ordered_row, queued_or_refused, untaken, result_sent, wished_line, policy_line, is_at_rest, waited_in, tick_row, mailed, made_by, named, installed_replica}
 use Rattle.sc_meaning.specs.sound.Definitions.{Ahead}
 use Rattle.sc_law_groups.proofs.GroupProofs.Lemmas.{IsLearnt, Steps, rule, first, birth, IsReplica, IsState}
-use Rattle.sc_law_walks.proofs.Ways.{either_way}
 use Rattle.sc_law_walks.proofs.Lemmas.{counted_ballot}
 use Rattle.sc_law_walks.proofs.TableParts.{execution, pumps}
 use Rattle.sc_law_walks.proofs.TableRows as rows

@@ -9,7 +9,7 @@ use Rattle.sc_node_table.specs.Values.{Op, Command, Call, AnswerBody, Mail, Mail
 use Rattle.sc_words.specs.paxos.Definitions.{flight_at}
 use Rattle.sc_words.proofs.PaxosProofs.Lemmas.{Each-among, find_found}
 use Rattle.sc_node_table.specs.Definitions.{is_act, from_backlog, from_acts, from_queues, offered, ReplicaState, Place, next, flying, either, taken_at, listed, taken_from, under_way, open_slots, at_slot, numbers_from}
-use Rattle.sc_live_plain.specs.Definitions.{Frame, answer_owes, mail_owes, replica_owes, Requests, IsPlainCommand, IsPlainBody, takers, AreTaken, IsPlainFlight, IsPlainLeader, IsPlainReplica}
+use Rattle.sc_live_plain.specs.Definitions.{Frame, answer_owes, mail_owes, replica_owes, Requests, IsPlainCommand, IsPlainBody, takers, AreTaken, IsPlainLeader, IsPlainReplica}
 use Rattle.sc_live_plain.proofs.RowsProofs.SlotCounts.{one_if, one_yes, one_no, count-cons, count-push, find_none, find_some, at_none, at_some, at_found}
 use Rattle.sc_live_plain.proofs.RowsProofs.RepeatedMail.{learns_to, mail_of}
 

@@ -1,18 +1,17 @@
 -- What the leading replica of a plain group offers: its queued requests, at the slots that are free, in their order.
-use Rattle.std.proofs.Common.{◌≡◌, ℕ, zero, suc, ◌+◌, ◌<◌, ◌≤◌, ◌&&◌, not, leb, eqb, Bool, true, List, [], ◌∷◌, ◌++◌, length, map, sum_by, Option, Some, None, ◌⊎◌, inl, inr, refl, sym, ◌∙◌, ap, subst, arith, append_assoc}
+use Rattle.std.proofs.Common.{◌≡◌, ℕ, zero, suc, ◌+◌, ◌<◌, ◌≤◌, ◌&&◌, not, leb, Bool, true, List, [], ◌∷◌, ◌++◌, length, map, sum_by, Option, Some, None, ◌⊎◌, inl, inr, refl, sym, ◌∙◌, ap, subst, arith, append_assoc}
 use Rattle.std.specs.Prelude.{is_some, nat_le}
-use Rattle.std.specs.List.{list_any}
 use Rattle.std.proofs.lemmas.Bool.{cond_both, cond-true, cond-false, cases_lt, cases_eq, le-leb, and_from, both_ways}
 use Rattle.std.proofs.lemmas.List.{length_push}
 use Rattle.sc_base.specs.Definitions.{Among, Each, votes_of}
 use Rattle.sc_node_table.specs.Values.{Ballot, Draw, Op, Command, Call, Core, Lock, Free, Route, AnswerBody, Mail, MailBody, Accept, Must, Flight}
 use Rattle.sc_words.specs.ideal.Definitions.{key_of, holds_key}
 use Rattle.sc_words.proofs.PaxosProofs.Lemmas.{Each-push, Each-weaker}
-use Rattle.sc_node_table.specs.Definitions.{sent_all, answered, Found, is_act, admits_requests, waits, refused_by, turned_down, next_queued, from_backlog, from_acts, from_queues, found_by, found_for, offered, pumped_from, pumped, ReplicaState, Place, name_of, next, first_set, settled, may_offer, taken_at, under_way, open_slots, is_idle, last_slot, numbers_from, slots_ahead}
+use Rattle.sc_node_table.specs.Definitions.{sent_all, answered, Found, admits_requests, waits, refused_by, turned_down, next_queued, from_backlog, found_by, found_for, offered, pumped_from, pumped, ReplicaState, Place, name_of, next, first_set, settled, may_offer, taken_at, is_idle, last_slot, numbers_from, slots_ahead}
 use Rattle.sc_paxos_law.proofs.Lemmas.{among-member}
-use Rattle.sc_live_plain.specs.Definitions.{Frame, IsFrame, mail_owes, replica_owes, Requests, IsPlainCommand, IsPlainCall, takers, IsPlainFlight, IsPlainLeader, IsPlainReplica}
-use Rattle.sc_live_plain.proofs.RowsProofs.SlotCounts.{one_if, one_yes, one_no, count-push}
-use Rattle.sc_live_plain.proofs.LeadersProofs.LeadingReplicas.{in_range, range_yes, range_behind, range_more, takes, takes_not, plain_acts, requests_only, offer_taken, IsHeld, IsReportedOf, IsSaid, IsNew, later_row, Leads}
+use Rattle.sc_live_plain.specs.Definitions.{Frame, IsFrame, mail_owes, replica_owes, Requests, IsPlainCommand, IsPlainCall, IsPlainFlight, IsPlainLeader, IsPlainReplica}
+use Rattle.sc_live_plain.proofs.RowsProofs.SlotCounts.{one_yes, one_no}
+use Rattle.sc_live_plain.proofs.LeadersProofs.LeadingReplicas.{in_range, range_yes, range_behind, takes, takes_not, plain_acts, requests_only, offer_taken, IsHeld, IsReportedOf, IsSaid, IsNew, later_row, Leads}
 use Rattle.sc_live_plain.proofs.RowsProofs.RepeatedMail.{mail_of, all_each, all_owed, all_learns, all_kept, all_reached, among_push, last_among}
 use Rattle.sc_live_steps.proofs.FollowingProofs.LeastMembers.{none_decided}
 
