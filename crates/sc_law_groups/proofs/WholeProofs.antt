@@ -21,6 +21,7 @@ pub mod Speaking
 pub mod SplitExample
 pub mod StartValid
 pub mod Starts
+pub mod LineGroups
 pub mod JournalsInTurn
 pub mod TwoGroups
 pub mod Unions

@@ -1,11 +1,12 @@
--- An entry takes one more slot, and one that does not run executes and offers no more by itself.
-use Rattle.std.proofs.Common.{◌≡◌, ℕ, ◌+◌, ◌-◌, ◌≤◌, ◌&&◌, eqb, Bool, true, false, true≢false, cond, List, [], ◌∷◌, ◌++◌, length, Option, Some, None, refl, ◌∙◌, ap, arith, length-drop}
-use Rattle.std.specs.Prelude.{nat_le}
-use Rattle.std.proofs.lemmas.Bool.{cond-true, eq-eqb}
+-- An entry takes one more slot and stands below the next one, and one that does not run executes and offers no more by itself.
+use Rattle.std.proofs.Common.{◌≡◌, ℕ, ◌+◌, ◌-◌, ◌<◌, ◌≤◌, ◌&&◌, eqb, Bool, true, false, true≢false, cond, List, [], ◌∷◌, ◌++◌, length, Option, Some, None, inl, inr, refl, ◌∙◌, ap, arith, length-drop}
+use Rattle.std.specs.Prelude.{nat_le, nat_lt, slice_get}
+use Rattle.std.proofs.lemmas.Bool.{cond-true, cases_lt, eq-eqb, ltb-true}
 use Rattle.std.proofs.lemmas.List.{length_push}
+use Rattle.std.proofs.lemmas.Option.{slice_get_past}
 use Rattle.sc_node_table.specs.Values.{Command, Learnt}
-use Rattle.sc_words.specs.paxos.Definitions.{LogState, next_of, log_cut}
-use Rattle.sc_node_table.specs.Definitions.{with_entry, entered, executed_one, next_child, has_room, ending, executed_ready, pumped, pumped_from, ReplicaState, Place, childless, next, first_set, may_offer, floor_of, forgotten, last_slot, at_slot}
+use Rattle.sc_words.specs.paxos.Definitions.{LogState, entry_at, next_of, log_cut}
+use Rattle.sc_node_table.specs.Definitions.{with_entry, entered, slot_lost, executed_one, next_child, has_room, ending, executed_ready, pumped, pumped_from, ReplicaState, Place, childless, next, first_set, may_offer, floor_of, forgotten, last_slot, at_slot}
 
 -- an entry is put behind the others
 pub entry_is : (command : Command) (log : LogState Command) → with_entry command log ≡ record log { entries = log.entries ++ command ∷ [] }
@@ -18,6 +19,22 @@ floor_under last some = omega arith
 -- a log that is cut not above its last entry has the same next slot
 pub cut_next : (upto : ℕ) (log : LogState Command) → upto ≤ log.base + length log.entries → next_of (log_cut upto log) ≡ next_of log
 cut_next upto log low = let d = length-drop (upto - log.base) log.entries in omega (arith, low, d)
+
+-- an entry of a log is below its next slot
+pub entry_low : (slot : ℕ) (log : LogState Command) (command : Command) → entry_at slot log ≡ Some command → slot < next_of log
+entry_low slot log command e = by (nat_lt log.base slot) refl e
+  where
+    held : (place : ℕ) → slice_get log.entries place ≡ Some command → place < length log.entries
+    held place is = elim (cases_lt place (length log.entries)) [ inl low ↦ low | inr past ↦ (let none = slice_get_past log.entries place past in cc (is, none)) ]
+
+    by : (b : Bool) → nat_lt log.base slot ≡ b → cond b (slice_get log.entries (slot - log.base - 1)) None ≡ Some command → slot < next_of log
+    by true t is = (let low = held (slot - log.base - 1) is in let up = ltb-true log.base slot t in omega (arith, low, up))
+    by false f is = cc
+
+-- a counted entry takes no slot from another command
+pub lost_counted : (command : Command) (o : Option Command) (r : ReplicaState) → slot_lost true command o r ≡ r
+lost_counted command None r = refl
+lost_counted command (Some other) r = refl
 
 -- one more slot is executed
 pub entered_next : (command : Command) (r : ReplicaState) → next (entered command r) ≡ next r + 1

@@ -10,6 +10,7 @@ pub mod PlaceWalks
 pub mod Talks
 pub mod TableWalks
 pub mod TableEntries
+pub mod TablePumps
 pub mod TableParts
 pub mod TableRows
 pub mod TableTicks

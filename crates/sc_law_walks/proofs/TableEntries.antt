@@ -1,14 +1,19 @@
 -- What holds of a replica with its mails is kept by an entry, with all that is told of it, where each part of the entry keeps it.
 use Rattle.std.proofs.Common.{◌≡◌, ℕ, ◌-◌, not, Bool, true, cond, List, [], ◌∷◌, filter, Option, Some, None, refl}
 use Rattle.std.proofs.lemmas.Bool.{cond_both}
-use Rattle.sc_base.specs.Definitions.{is_member}
+use Rattle.sc_base.specs.Definitions.{Among, Each, is_member}
+use Rattle.sc_words.proofs.PaxosProofs.Lemmas.{Each-from}
 use Rattle.sc_node_table.specs.Values.{Op, Command, Call, Effect, OrderResult, AnswerBody, Mail, Prepare, Learn, Install}
 use Rattle.sc_group_table.specs.machine.Definitions.{base_of, applied}
-use Rattle.sc_node_table.specs.Definitions.{entered, answer_of, answered_or_put_back, order_result, effect_reported, announced, learnt_to, welcomed, landed, install_to, asked_to_promise, welcomed_all, sent, answer_to, order_reported, order_number, put_back, ReplicaState, Place, name_of, members, next, flying, before_of, spoken, spoken_mails}
+use Rattle.sc_node_table.specs.Definitions.{entered, answer_of, answered_or_put_back, order_result, effect_reported, announced, learnt_to, welcomed, landed, install_to, welcomed_all, sent, answer_to, order_reported, order_number, put_back, ReplicaState, Place, name_of, members, next, flying, before_of, spoken, spoken_mails}
 use Rattle.sc_law_walks.proofs.Ways.{either_way}
 use Rattle.sc_law_walks.proofs.Places.{cleared, landed_place}
 use Rattle.sc_law_walks.proofs.PlaceWalks.{entered_place}
-use Rattle.sc_law_walks.proofs.Talks.{others_sent}
+use Rattle.sc_law_walks.proofs.Talks.{each_other_sent}
+
+-- the members of a replica that were none at the start
+abbrev pub joined : ReplicaState → ReplicaState → List ℕ
+joined start r = filter (λ node. not (is_member (members start) node)) (members r)
 
 -- That each part of an entry, counted or learnt, of this replica keeps P, and from the entry itself on Q: what is told of it, what the members learn, what new members are sent, and what lost its slot and goes back.
 pub record TableEntry (counted : Bool) (command : Command) (start : ReplicaState) (P Q : Place → Type 0) : Type 1 where
@@ -18,9 +23,9 @@ pub record TableEntry (counted : Bool) (command : Command) (start : ReplicaState
   pub returned : (r : ReplicaState) (mails : List Mail) → counted ≡ true → Q (r, mails) → Q (put_back command r, mails)
   pub reports : (result : OrderResult) (r : ReplicaState) (mails : List Mail) → order_result command (applied start.group command).1 ≡ Some result → Q (r, mails) → Q (r, order_reported r.me (order_number command) result mails)
   pub speaks : (r : ReplicaState) (mails : List Mail) → Q (r, mails) → Q (r, spoken_mails counted r.me r.group (before_of start.group.core) (applied start.group command).1 command mails)
-  pub teaches : (to : ℕ) (r : ReplicaState) (mails : List Mail) → counted ≡ true → Q (r, mails) → Q (r, sent r.me to (Learn (name_of r) (next start) command) mails)
-  pub installs : (to : ℕ) (r : ReplicaState) (mails : List Mail) → counted ≡ true → Q (r, mails) → Q (r, sent r.me to (Install (name_of r) (next r - 1) (base_of r.group) r.sets) mails)
-  pub repolls : (to : ℕ) (r : ReplicaState) (mails : List Mail) → counted ≡ true → Q (r, mails) → Q (r, sent r.me to (Prepare (name_of r) r.leader.ballot (next r)) mails)
+  pub teaches : (to : ℕ) (r : ReplicaState) (mails : List Mail) → counted ≡ true → Among to (members start) → Q (r, mails) → Q (r, sent r.me to (Learn (name_of r) (next start) command) mails)
+  pub installs : (to : ℕ) (r : ReplicaState) (mails : List Mail) → counted ≡ true → Among to (joined start r) → Q (r, mails) → Q (r, sent r.me to (Install (name_of r) (next r - 1) (base_of r.group) r.sets) mails)
+  pub repolls : (to : ℕ) (r : ReplicaState) (mails : List Mail) → counted ≡ true → Among to (joined start r) → Q (r, mails) → Q (r, sent r.me to (Prepare (name_of r) r.leader.ballot (next r)) mails)
   pub flies : (other : Command) (r : ReplicaState) (mails : List Mail) → flying r (next start) ≡ Some other → Q (r, mails) → Lost other
   pub landed : (place : Place) → Q place → Q (cleared (next start) place)
   pub back : (other : Command) (r : ReplicaState) (mails : List Mail) → Lost other → Q (r, mails) → Q (put_back other r, mails)
@@ -51,27 +56,26 @@ module _ (counted : Bool) (command : Command) (start : ReplicaState) (P Q : Plac
   unfolding spoken
   spoken_kept (r, mails) k = p.speaks r mails k
 
-  learnt_kept : (nodes : List ℕ) (place : Place) → Q place → Q (learnt_to counted nodes (next start) command place)
+  learnt_kept : (place : Place) → Q place → Q (learnt_to counted (members start) (next start) command place)
   unfolding learnt_to
-  learnt_kept nodes (r, mails) k = cond_both counted (r, _) (r, mails) Q (λ t. others_sent r.me (λ ms. Q (r, ms)) (Learn (name_of r) (next start) command) (λ to ms q. p.teaches to r ms t q) nodes mails k) (λ _. k)
+  learnt_kept (r, mails) k =
+      cond_both counted (r, _) (r, mails) Q
+      (λ t. each_other_sent r.me (λ node. Among node (members start)) (λ ms. Q (r, ms)) (Learn (name_of r) (next start) command) (λ to ms m q. p.teaches to r ms t m q) (members start) mails
+      (Each-from (λ node. Among node (members start)) (members start) (λ node a. a)) k) (λ _. k)
 
-  installed_kept : (node : ℕ) (place : Place) → counted ≡ true → Q place → Q (install_to node place)
-  unfolding install_to
-  installed_kept node (r, mails) t k = p.installs node r mails t k
+  all_welcomed : (nodes : List ℕ) (r : ReplicaState) (mails : List Mail) → counted ≡ true → Each (λ node. Among node (joined start r)) nodes → Q (r, mails) → Q (welcomed_all nodes (r, mails))
+  unfolding welcomed_all install_to
+  all_welcomed [] r mails t new k = k
+  all_welcomed (node ∷ nodes) r mails t new k =
+      let told : List Mail = sent r.me node (Install (name_of r) (next r - 1) (base_of r.group) r.sets) mails in
+      let asked : List Mail = sent r.me node (Prepare (name_of r) r.leader.ballot (next r)) told in
+      let q : Q (r, told) = p.installs node r mails t new.0 k in
+      either_way (λ (place : Place). Q (welcomed_all nodes place)) r.leader.is_first (r, told) (r, asked) (all_welcomed nodes r told t new.1 q) (all_welcomed nodes r asked t new.1 (p.repolls node r told t new.0 q))
 
-  asked_kept : (node : ℕ) (place : Place) → counted ≡ true → Q place → Q (asked_to_promise node place)
-  asked_kept node (r, mails) t k = either_way Q r.leader.is_first (r, mails) (r, sent r.me node (Prepare (name_of r) r.leader.ballot (next r)) mails) k (p.repolls node r mails t k)
-
-  all_welcomed : (nodes : List ℕ) (place : Place) → counted ≡ true → Q place → Q (welcomed_all nodes place)
-  unfolding welcomed_all
-  all_welcomed [] place t k = k
-  all_welcomed (node ∷ nodes) place t k = all_welcomed nodes (asked_to_promise node (install_to node place)) t (asked_kept node (install_to node place) t (installed_kept node place t k))
-
-  welcomed_kept : (nodes : List ℕ) (place : Place) → Q place → Q (welcomed counted nodes place)
+  welcomed_kept : (place : Place) → Q place → Q (welcomed counted (members start) place)
   unfolding welcomed
-  welcomed_kept nodes (r, mails) k =
-      let added : List ℕ = filter (λ node. not (is_member nodes node)) (members r) in
-      cond_both counted (welcomed_all added (r, mails)) (r, mails) Q (λ t. all_welcomed added (r, mails) t k) (λ _. k)
+  welcomed_kept (r, mails) k =
+      cond_both counted (welcomed_all (joined start r) (r, mails)) (r, mails) Q (λ t. all_welcomed (joined start r) r mails t (Each-from (λ node. Among node (joined start r)) (joined start r) (λ node a. a)) k) (λ _. k)
 
   abbrev Flies : Option Command → Type 0
   Flies None = Unit {0}
@@ -91,4 +95,4 @@ module _ (counted : Bool) (command : Command) (start : ReplicaState) (P Q : Plac
       let place1 : Place = announced counted effect command place0 in
       let place2 : Place = spoken counted (before_of start.group.core) effect command place1 in
       let place3 : Place = learnt_to counted (members start) (next start) command place2 in
-      landed_kept (welcomed counted (members start) place3) (welcomed_kept (members start) place3 (learnt_kept (members start) place2 (spoken_kept place1 (announced_kept place0 (p.entered mails k)))))
+      landed_kept (welcomed counted (members start) place3) (welcomed_kept place3 (learnt_kept place2 (spoken_kept place1 (announced_kept place0 (p.entered mails k)))))

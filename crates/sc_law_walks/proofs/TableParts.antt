@@ -1,25 +1,17 @@
 -- What holds of any replica with its mails is kept while the replica offers, is elected, stops, and executes entries.
-use Rattle.std.proofs.Common.{◌≡◌, ℕ, ◌+◌, ◌-◌, ◌^◌, ◌<◌, ◌≤◌, ◌&&◌, nat_le, eqb, Bool, true, false, cond, List, [], ◌∷◌, ◌++◌, length, Option, Some, None, refl, arith}
-use Rattle.std.specs.Prelude.{is_some}
+use Rattle.std.proofs.Common.{◌≡◌, ℕ, ◌-◌, ◌^◌, ◌&&◌, eqb, Bool, true, false, cond, List, [], ◌∷◌, ◌++◌, Option, Some, None, refl}
 use Rattle.sc_base.specs.Definitions.{Each, is_member, least_of}
-use Rattle.std.specs.List.{list_any}
 use Rattle.std.proofs.lemmas.Bool.{cond_both, and_parts}
-use Rattle.sc_node_table.specs.Definitions.{at_slot, has_act, with_act, act_queued, elected, ended, stopped, saw, left_gone, left, is_among, looked_for, looked, executed_one, child_at, next_child, has_room, next_ready, ending, executed_ready, all_ready, executed, turned_down, answered, Found, is_act, from_backlog, from_acts, from_queues, found_by, found_for, offered, pumped_from, pumped, ReplicaState, Place, Executed, next, members, settled, may_offer, first_set, childless, taken_at, under_way, is_idle, last_slot, next_queued}
-use Rattle.sc_node_table.specs.Values.{Ballot, Command, Base, Route, AnswerBody, Mail, Must, Gap}
-use Rattle.sc_words.specs.declared.paxos.answers.Must.TheVariants.{Value, Free as Open}
+use Rattle.sc_node_table.specs.Definitions.{at_slot, has_act, with_act, act_queued, elected, ended, stopped, saw, left_gone, left, is_among, looked_for, looked, executed_one, child_at, next_child, has_room, next_ready, ending, executed_ready, all_ready, executed, pumped, ReplicaState, Place, Executed, next, members, childless}
+use Rattle.sc_node_table.specs.Values.{Ballot, Command, Base, Route, Mail}
 use Rattle.sc_group_table.specs.machine.Definitions.{child_by}
-use Rattle.sc_words.proofs.PaxosProofs.Lemmas.{at_least_itself, Each-append}
-use Rattle.sc_words.specs.paxos.Definitions.{IsAtLeast, below, must}
-use Rattle.sc_law_walks.proofs.Calls.{next_found}
+use Rattle.sc_words.proofs.PaxosProofs.Lemmas.{at_least_itself, Each-append, Each-from}
+use Rattle.sc_words.specs.paxos.Definitions.{IsAtLeast, below}
 use Rattle.sc_law_walks.proofs.Ways.{either_way}
-use Rattle.sc_law_walks.specs.Definitions.{IsFiledOnMail, IfThere}
+use Rattle.sc_law_walks.specs.Definitions.{IsFiledOnMail}
 use Rattle.sc_law_walks.proofs.PlaceWalks.{entered_place}
 use Rattle.sc_law_walks.proofs.TableWalks.{TableWalk, MayEnter}
-
--- one of two, where the test fails
-pub none_there : {X : Type 0} (o : Option X) → is_some o ≡ false → o ≡ None
-none_there None e = refl
-none_there (Some x) e = cc
+use Rattle.sc_law_walks.proofs.TablePumps.{TableOffers, pump_keeps}
 
 -- a ballot that is seen is no later than the greatest
 pub seen_top : (ballot : Ballot) (place : Place) → IsAtLeast (saw ballot place).0.top ballot
@@ -38,7 +30,7 @@ seen_acceptor ballot (r, mails) =
     either_way (λ (p : Place). p.0.acceptor ≡ r.acceptor) (r.running && below r.leader.ballot ballot) (stopped (Some ballot.node) (seen, mails)) (seen, mails) same same
 
 -- what is ready is executed by one that runs
-ready_so : (r : ReplicaState) (command : Command) → next_ready r ≡ Some command → (r.running ≡ true) × (at_slot r.ready (next r) ≡ Some command)
+pub ready_so : (r : ReplicaState) (command : Command) → next_ready r ≡ Some command → (r.running ≡ true) × (at_slot r.ready (next r) ≡ Some command)
 ready_so r command e = by r.running (has_room r) refl e
   where
     by : (b c : Bool) → r.running ≡ b → cond (b && c) (at_slot r.ready (next r)) None ≡ Some command → (r.running ≡ true) × (at_slot r.ready (next r) ≡ Some command)
@@ -56,82 +48,19 @@ module _ (w : TableWalk) where
   abbrev pub AfterAll : Executed → Type 0
   AfterAll step = w.facts.Late step.0 × Each w.facts.Child step.1
 
-  -- ---- the pump: a replica that runs, whose next slot stays with the members of the open slots, and which has nothing at the slot
+  -- ---- the pump
 
-  abbrev Pumps : ℕ → ℕ → Place → Type 0
-  Pumps x n place = After place × (place.0.running ≡ true) × (next place.0 ≡ x) × (length place.0.sets ≡ n)
-
-  module _ (x n slot : ℕ) (set : List ℕ) where
-    abbrev At : Place → Type 0
-    At place = Pumps x n place × (slot < next place.0 + length place.0.sets) × (taken_at place.0 slot ≡ None)
-
-    -- it is so after what was found is offered
-    abbrev Finds : Found → Type 0
-    Finds found = IfThere (λ command. Pumps x n (offered slot set command found.1)) (Pumps x n found.1) found.0
-
-    offered_so : (command : Command) (r : ReplicaState) (mails : List Mail) → r.running ≡ true → next r ≡ x → length r.sets ≡ n → After (offered slot set command (r, mails)) → Pumps x n (offered slot set command (r, mails))
-    unfolding offered
-    offered_so command r mails on same many k = (k, on, same, many)
-
-    -- the requests that are turned down are taken out one by one
-    module _ (r : ReplicaState) where
-      abbrev Left : List Command → List Mail → Type 0
-      Left backlog mails = At (record r { backlog = backlog }, mails)
-
-      abbrev Next : Option Command × List Command × List Mail → Type 0
-      Next found = Finds (found.0, (record r { backlog = found.1 }, found.2))
-
-      turned_out : (command : Command) (answer : AnswerBody) (backlog : List Command) (mails : List Mail) → turned_down r.group.core command ≡ Some answer → Left (command ∷ backlog) mails → Left backlog (answered r.me r.group.core.id answer command mails)
-      turned_out command answer backlog mails e k = ((w.states.turned command answer backlog (record r { backlog = command ∷ backlog }) mails k.0.1 refl e k.0.0, k.0.1, k.0.2, k.0.3), k.1, k.2)
-
-      call_offered : (command : Command) (backlog : List Command) (mails : List Mail) → Left (command ∷ backlog) mails → Next (Some command, backlog, mails)
-      call_offered command backlog mails k = offered_so command (record r { backlog = backlog }) mails k.0.1 k.0.2 k.0.3 (w.states.offers_call slot set command backlog (record r { backlog = command ∷ backlog }) mails k.0.1 k.1 k.2 refl k.0.0)
-
-      calls_left : (backlog : List Command) (mails : List Mail) → Left backlog mails → Next (next_queued r.me (is_idle r) r.group.core backlog mails)
-      calls_left backlog mails k = next_found r.me (is_idle r) r.group.core Left Next (λ cs ms q. q.0) call_offered (λ command answer cs ms wait e q. turned_out command answer cs ms e q) backlog mails k
-
-    calls_find : (place : Place) → At place → Finds (from_backlog place)
-    unfolding from_backlog
-    calls_find (r, mails) k = calls_left r r.backlog mails k
-
-    acts_find : (acts : List Command) (place : Place) → place.0.acts ≡ acts → At place → Finds (from_acts acts place)
-    acts_find [] place e k = calls_find place k
-    acts_find (act ∷ acts) (r, mails) e k =
-        either_way Finds (is_idle r) (Some act, (record r { acts = acts }, mails)) (None, (r, mails))
-        (offered_so act (record r { acts = acts }) mails k.0.1 k.0.2 k.0.3 (w.states.offers_act slot set act acts r mails k.0.1 k.1 k.2 e k.0.0)) k.0
-
-    queues_find : (place : Place) → At place → Finds (from_queues place)
-    unfolding from_queues
-    queues_find (r, mails) k = either_way Finds (list_any is_act (under_way r)) (None, (r, mails)) (from_acts r.acts (r, mails)) k.0 (acts_find r.acts (r, mails) refl k)
-
-    by_find : (what : Must Command) (place : Place) → must slot place.0.leader ≡ what → At place → Finds (found_by what place)
-    by_find (Value command) (r, mails) e k = offered_so command r mails k.0.1 k.0.2 k.0.3 (w.states.offers_value slot set command r mails k.0.1 k.1 k.2 e k.0.0)
-    by_find Gap (r, mails) e k = offered_so _ r mails k.0.1 k.0.2 k.0.3 (w.states.offers_noop slot set r mails k.0.1 k.1 k.2 k.0.0)
-    by_find Open place e k = queues_find place k
-
-    slot_finds : (place : Place) → At place → Finds (found_for slot place)
-    unfolding found_for
-    slot_finds (r, mails) k = by_find (must slot r.leader) (r, mails) refl k
-
-  pump_by : (x n slot : ℕ) (set : List ℕ) (sets : List (List ℕ)) (found : Found) → Finds x n slot set found → ((place : Place) → Pumps x n place → Pumps x n (pumped_from (slot + 1) sets place))
-      → Pumps x n (elim (found.0) [ None ↦ found.1 | Some command ↦ pumped_from (slot + 1) sets (offered slot set command found.1) ])
-  pump_by x n slot set sets (None, place) k more = k
-  pump_by x n slot set sets (Some command, place) k more = more (offered slot set command place) k
-
-  from_pumps : (x n slot : ℕ) (sets : List (List ℕ)) (place : Place) → slot + length sets ≤ x + n → Pumps x n place → Pumps x n (pumped_from slot sets place)
-  unfolding pumped_from
-  from_pumps x n slot [] place low k = k
-  from_pumps x n slot (set ∷ sets) place low k =
-      let here : slot < next place.0 + length place.0.sets = (let same = k.2 in let many = k.3 in omega (arith, low, same, many)) in
-      let more : (slot + 1) + length sets ≤ x + n = omega (arith, low) in
-      cond_both (is_some (taken_at place.0 slot)) _ _ (Pumps x n) (λ _. from_pumps x n (slot + 1) sets place more k)
-      (λ none. either_way (Pumps x n) (may_offer place.0 set) _ _ (pump_by x n slot set sets (found_for slot place) (slot_finds x n slot set place (k, here, none_there (taken_at place.0 slot) none)) (λ p q. from_pumps x n (slot + 1) sets p more q)) k)
+  offers_kept : TableOffers (λ set. Unit {0}) After
+  offers_kept = record {
+    turned = λ command answer backlog r mails on e turn k. w.states.turned command answer backlog r mails on e turn k;
+    offers_value = λ slot set command r mails on low near none e of k. w.states.offers_value slot set command r mails on near none e k;
+    offers_noop = λ slot set r mails on low near none gap of k. w.states.offers_noop slot set r mails on near none k;
+    offers_act = λ slot set act acts r mails on low near none e of k. w.states.offers_act slot set act acts r mails on near none e k;
+    offers_call = λ slot set command backlog r mails on low near none e of k. w.states.offers_call slot set command backlog r mails on near none e k;
+  }
 
   pub pumps : (place : Place) → After place → After (pumped place)
-  unfolding pumped
-  pumps place k =
-      cond_both (settled place.0 && nat_le (next place.0) last_slot) (pumped_from (next place.0) place.0.sets place) place After
-      (λ t. (from_pumps (next place.0) (length place.0.sets) (next place.0) place.0.sets place (omega arith) (k, (and_parts place.0.running (may_offer place.0 (first_set place.0.sets)) (and_parts (settled place.0) (nat_le (next place.0) last_slot) t).0).0, refl, refl)).0) (λ _. k)
+  pumps place k = (pump_keeps (λ set. Unit {0}) After offers_kept place (Each-from (λ set. Unit {0}) place.0.sets (λ set a. tt)) k).0
 
   -- a command of a transaction waits last, unless there is one of its kind
   pub act_waits : (act : Command) (r : ReplicaState) (mails : List Mail) → IsFiledOnMail act → r.running ≡ true → w.facts.Files act → After (r, mails) → After (with_act act r, mails)

@@ -35,7 +35,7 @@ told_runs false false offer why other e = cc
 first_there : (slot : ℕ) (command : Command) (es : List (ℕ × Command)) → at_slot ((slot, command) ∷ es) slot ≡ Some command
 first_there slot command es = cond_both (eqb slot slot) (Some command) (at_slot es slot) (λ (o : Option Command). o ≡ Some command) (λ _. refl) (λ f. absurd (true≢false (sym (eq-eqb slot slot refl) ∙ f)))
 
-put_there : (es : List (ℕ × Command)) (slot : ℕ) (command : Command) → at_slot (with_slot es slot command) slot ≡ Some command
+pub put_there : (es : List (ℕ × Command)) (slot : ℕ) (command : Command) → at_slot (with_slot es slot command) slot ≡ Some command
 put_there [] slot command = first_there slot command []
 put_there (e ∷ es) slot command =
     cond_both (eqb e.0 slot) _ _ (λ (xs : List (ℕ × Command)). at_slot xs slot ≡ Some command) (λ _. first_there slot command es)
@@ -43,7 +43,7 @@ put_there (e ∷ es) slot command =
     (cond_both (eqb e.0 slot) (Some e.1) (at_slot (with_slot es slot command) slot) (λ (o : Option Command). o ≡ Some command) (λ t. absurd (true≢false (sym t ∙ f))) (λ _. put_there es slot command)))
 
 -- what is not refused is taken by one that runs
-taken_runs : (gone : Option Route) (core : Core) (running : Bool) (hint : Option ℕ) (op : Op) → request_refusal gone core running hint op ≡ None → running ≡ true
+pub taken_runs : (gone : Option Route) (core : Core) (running : Bool) (hint : Option ℕ) (op : Op) → request_refusal gone core running hint op ≡ None → running ≡ true
 taken_runs (Some into) core running hint op e = cc
 taken_runs None core true hint op e = refl
 taken_runs None core false hint op e = cc
@@ -57,7 +57,7 @@ pub ended_off : (hint : Option ℕ) (answer : AnswerBody) (r : ReplicaState) (ma
 unfolding ended
 ended_off hint answer r mails = refl
 
-ended_next : (hint : Option ℕ) (answer : AnswerBody) (r : ReplicaState) (mails : List Mail) → next (ended hint answer (r, mails)).0 ≡ next r
+pub ended_next : (hint : Option ℕ) (answer : AnswerBody) (r : ReplicaState) (mails : List Mail) → next (ended hint answer (r, mails)).0 ≡ next r
 unfolding ended
 ended_next hint answer r mails = refl
 
@@ -65,7 +65,7 @@ ended_sets : (hint : Option ℕ) (answer : AnswerBody) (r : ReplicaState) (mails
 unfolding ended
 ended_sets hint answer r mails = refl
 
-jumped_runs : (slot : ℕ) (base : Base) (sets : List (List ℕ)) (r : ReplicaState) → (jumped slot base sets r).running ≡ r.running
+pub jumped_runs : (slot : ℕ) (base : Base) (sets : List (List ℕ)) (r : ReplicaState) → (jumped slot base sets r).running ≡ r.running
 unfolding jumped forgotten
 jumped_runs slot base sets r = refl
 

@@ -1,6 +1,6 @@
 -- What holds of the mails of a row is kept by all that a replica tells others by the entries, the locks and the queues of its group.
 use Rattle.std.proofs.Common.{ℕ, refl, eqb, Bool, cond, List, [], ◌∷◌, Option, Some, None}
-use Rattle.sc_base.specs.Definitions.{client_actor, same_draw, least_of}
+use Rattle.sc_base.specs.Definitions.{client_actor, same_draw, least_of, Each}
 use Rattle.sc_node_table.specs.Values.{Draw, Body, Offer, Watch, Command, Call, Split, Begin, Prepared, RecordVote, GiveUp, Watched, RecordWatch, Core, Lock, Free, Coordinating, Promised, Watching, Effect, Link, OrderResult, Heard, Outcome, Past, Vote, AnswerBody, Mail, MailBody, Answer, TxPrepare, TxVote, TxOutcome, TxWatch, TxWatched}
 use Rattle.sc_words.specs.declared.commands.bodies.Body.TheVariants as At
 use Rattle.sc_words.specs.declared.commands.votes.Outcome.TheVariants as Is
@@ -14,7 +14,19 @@ use Rattle.sc_node_table.specs.Definitions.{sent, sent_all, answer_to, sent_othe
 use Rattle.sc_law_walks.proofs.Ways.{either_way}
 use Rattle.sc_law_walks.proofs.PlaceWalks.{Talk, Parties, parties}
 
--- the same mail to several nodes
+-- the same mail to nodes of which M holds
+module _ (me : ℕ) (M : ℕ → Type 0) (Q : List Mail → Type 0) (body : MailBody) (puts : (to : ℕ) (mails : List Mail) → M to → Q mails → Q (sent me to body mails)) where
+  pub each_sent : (nodes : List ℕ) (mails : List Mail) → Each M nodes → Q mails → Q (sent_all me nodes body mails)
+  unfolding sent_all
+  each_sent [] mails of m = m
+  each_sent (node ∷ nodes) mails of m = each_sent nodes (sent me node body mails) of.1 (puts node mails of.0 m)
+
+  pub each_other_sent : (nodes : List ℕ) (mails : List Mail) → Each M nodes → Q mails → Q (sent_others me nodes body mails)
+  unfolding sent_others
+  each_other_sent [] mails of m = m
+  each_other_sent (node ∷ nodes) mails of m = each_other_sent nodes (cond (eqb node me) mails (sent me node body mails)) of.1 (either_way Q (eqb node me) mails (sent me node body mails) m (puts node mails of.0 m))
+
+-- the same mail to any nodes
 module _ (me : ℕ) (Q : List Mail → Type 0) (body : MailBody) (puts : (to : ℕ) (mails : List Mail) → Q mails → Q (sent me to body mails)) where
   pub all_sent : (nodes : List ℕ) (mails : List Mail) → Q mails → Q (sent_all me nodes body mails)
   unfolding sent_all

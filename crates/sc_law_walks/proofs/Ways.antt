@@ -1,5 +1,6 @@
--- One of two values, and the first of two that is there.
+-- One of two values, the first of two that is there, and one that is there or not.
 use Rattle.std.proofs.Common.{◌≡◌, ◌||◌, not, Bool, true, false, cond, Option, Some, None, refl}
+use Rattle.std.specs.Prelude.{is_some}
 use Rattle.std.proofs.lemmas.Bool.{cond_both}
 use Rattle.sc_node_table.specs.Definitions.{either}
 
@@ -22,3 +23,13 @@ either_assoc (Some x) b c = refl
 pub either_none : {X : Type 0} (a : Option X) → either a None ≡ a
 either_none None = refl
 either_none (Some x) = refl
+
+-- what is there or not, where the test fails ..
+pub none_there : {X : Type 0} (o : Option X) → is_some o ≡ false → o ≡ None
+none_there None e = refl
+none_there (Some x) e = cc
+
+-- .. and where it passes
+pub some_there : {X : Type 0} (o : Option X) → is_some o ≡ true → (x : X) × (o ≡ Some x)
+some_there None e = cc
+some_there (Some x) e = (x, refl)

@@ -27,7 +27,7 @@ use Rattle.sc_live_healed.proofs.HealedLines.{client_turn, clients_are, lines_sp
 use Rattle.sc_live_healed.proofs.LivingSeats.{node_found, node_numbered}
 use Rattle.sc_live_healed.proofs.ShorterSchedules.{WholePrefix, whole_prefix}
 use Rattle.sc_live_healed.proofs.UntoldRows.{Spares, rows_untold, rows_spare}
-use Rattle.sc_live_healed.proofs.RemainingTurns.{turns_from}
+use Rattle.sc_live_orderly.proofs.TakenTurns.{turns_from}
 use Rattle.sc_live_healed.proofs.CrashedNodes.{has_crash, line_crashes, asks_spare}
 use Rattle.sc_live_healed.proofs.AnsweredTurns.{turn_answers}
 use Rattle.sc_live_healed.specs.Definitions.{crashes, lives, HasLivingMajorities, NodeTurn, ClientTurn, node_lines, client_lines, IsHealed, IsIdle, IsAtEnd, IsKicked, HasReplies, AskedACrashedNode, HealedStoresAnswer}

@@ -23,13 +23,9 @@ neither : {X : Type 0} (a b : Option X) → either a b ≡ None → (a ≡ None)
 neither None b e = (refl, e)
 neither (Some x) b e = cc
 
-none_mapped : (o : Option (Flight Command)) → option_map (λ (flight : Flight Command). flight.value) o ≡ None → o ≡ None
-none_mapped None e = refl
-none_mapped (Some x) e = cc
-
-no_flights : (fs : Flights) (slot : ℕ) → flight_at slot fs ≡ None → flights_at slot fs ≡ 0
+no_flights : (fs : Flights) (slot : ℕ) → option_map (λ (flight : Flight Command). flight.value) (flight_at slot fs) ≡ None → flights_at slot fs ≡ 0
 no_flights fs slot e = elim (cases_lt 0 (flights_at slot fs)) [
-  | inl up ↦ (let found = find_some (λ (f : Flight Command). eqb f.slot slot) fs (omega (arith, up)) in absurd (some_none (sym found.1 ∙ e)))
+  | inl up ↦ (let found = find_some (λ (f : Flight Command). eqb f.slot slot) fs (omega (arith, up)) in absurd (some_none (sym (ap (option_map (λ (flight : Flight Command). flight.value)) found.1) ∙ e)))
   | inr few ↦ omega (arith, few)
 ]
   where
@@ -39,7 +35,7 @@ no_flights fs slot e = elim (cases_lt 0 (flights_at slot fs)) [
 pub untaken : (r : ReplicaState) (slot : ℕ) → taken_at r slot ≡ None → takers r slot ≡ 0
 untaken r slot e =
     let none = neither (option_map (λ (flight : Flight Command). flight.value) (flight_at slot r.leader.flights)) (at_slot r.ready slot) e in
-    let a = no_flights r.leader.flights slot (none_mapped (flight_at slot r.leader.flights) none.0) in
+    let a = no_flights r.leader.flights slot none.0 in
     let b = at_nothing r.ready slot none.1 in
     omega (arith, a, b)
 

@@ -1,10 +1,11 @@
 -- What a client does in each row, whatever comes: it rests, or asks a group that it knows.
-use Rattle.std.proofs.Common.{◌≡◌, ℕ, ◌≤◌, ◌||◌, Bool, true, false, true≢false, cond, [], length, Option, Some, None, ◌⊎◌, inl, inr, refl, sym, ◌∙◌, ap, subst, arith}
-use Rattle.std.proofs.lemmas.Bool.{cond_both, eqb-true, eq-eqb}
+use Rattle.std.proofs.Common.{◌≡◌, ℕ, ◌≤◌, ◌||◌, Bool, true, false, true≢false, cond, [], length, Option, Some, ◌⊎◌, inl, inr, refl, sym, ◌∙◌, ap, subst, arith}
+use Rattle.std.proofs.lemmas.Bool.{cond_both, eq-eqb}
 use Rattle.sc_node_table.specs.Values.{Draw, OrderLine, AnswerBody, Input, Got, Mail, MailBody, Answer, Value}
 use Rattle.sc_actor.specs.declared.rows.Input.TheVariants.{Tick, Go, Told}
 use Rattle.sc_client_table.specs.table.Definitions.{Client, ClientStep, waits_for, answer_taken, got, client_ticked, table}
 use Rattle.sc_live_plain.specs.Definitions.{IsResting}
+use Rattle.sc_client_table.proofs.TableProofs.TurnLemmas.{waited_for}
 use Rattle.sc_live_healed.specs.AskingClients.{IsAskingOn, IsAskingClient}
 use Rattle.sc_live_healed.proofs.AskingClients.{Asks, Ends, Ignores, Does, AsksOn, AsksNext, EndsNow, TakesNoNotice, turned, begun_on, answered_on}
 
@@ -13,10 +14,6 @@ use Rattle.sc_live_healed.proofs.AskingClients.{Asks, Ends, Ignores, Does, AsksO
 -- a mail that is no answer is ignored
 no_notice : (client : Client) (mail : Mail) → ((group : Draw) (seq : ℕ) (answer : AnswerBody) → client.waiting ≡ Some seq → mail.body ≡ Answer group seq answer → ⊥) → Ignores client mail (client, [])
 no_notice client mail other = record { after_is = refl; no_reply = λ seq group reply waits e. other group seq (Value reply) waits e; not_sent = λ seq group answer waits asked e on. other group seq answer waits e }
-
-waited_so : (waiting : Option ℕ) (seq : ℕ) → waits_for waiting seq ≡ true → waiting ≡ Some seq
-waited_so None seq e = absurd (true≢false (sym e))
-waited_so (Some number) seq e = ap Some (eqb-true number seq e)
 
 waited_not : (waiting : Option ℕ) (seq : ℕ) → waits_for waiting seq ≡ false → waiting ≡ Some seq → ⊥
 waited_not waiting seq e is = true≢false (sym (eq-eqb seq seq refl) ∙ (sym (ap (λ o. waits_for o seq) is) ∙ e))
@@ -35,7 +32,7 @@ does client a mail some = by mail.body refl
     by (Answer group seq answer) is =
         cond_both (waits_for client.waiting seq) (answer_taken mail.from group seq answer client) (client, []) (λ (x : ClientStep). Does client a.seq mail x)
         (λ t. (
-        let own : a.seq ≡ seq = one_number a.seq seq (sym a.waits ∙ waited_so client.waiting seq t) in
+        let own : a.seq ≡ seq = one_number a.seq seq (sym a.waits ∙ waited_for client.waiting seq t) in
         subst (λ n. Does client a.seq mail (answer_taken mail.from group n answer client)) own (answered_on client a mail group answer some (is ∙ ap (λ n. Answer group n answer) (sym own)))))
         (λ f. TakesNoNotice (no_notice client mail (λ g number more waits e. waited_not client.waiting seq f (waits ∙ ap Some (sym (same_seq group g seq number answer more (sym is ∙ e)))))))
     by _ is = TakesNoNotice (no_notice client mail (λ group seq answer waits e. (let no : ⊥ = cc in no)))

@@ -14,6 +14,7 @@ use Rattle.sc_client_table.specs.lookup.Definitions.{KnownGroups, way_to, learnt
 use Rattle.sc_client_table.proofs.LookupProofs.KnownLemmas.{set_value-known, length-changed, some_learnt}
 use Rattle.sc_client_table.specs.table.Definitions.{Client, request_at, waiting_request, ClientStep, asked_of, sent_to, sent_where, chosen_for, request_sent, started, was_asked, redirected, answer_taken, request_of, turned_on}
 use Rattle.sc_live_plain.proofs.PlainProofs.PlainKnownGroups.{one_chosen, chosen_is}
+use Rattle.sc_law_walks.proofs.Lemmas.{some_there}
 use Rattle.sc_live_healed.specs.AskingClients.{IsAskingOn, IsAskingClient}
 
 -- ---- groups that are known
@@ -29,10 +30,6 @@ in_known group (f ∷ known) entry (inr a) e =
 changed_known : (change : Way → Way) (other group : Draw) (known : KnownGroups) (way : Option Way) → is_some (way_to other (changed change group known way)) ≡ is_some (way_to other known)
 changed_known change other group known None = refl
 changed_known change other group known (Some way) = set_value-known (same_draw other) (same_draw group) known (change way)
-
-there : {X : Type 0} (o : Option X) → is_some o ≡ true → (x : X) × (o ≡ Some x)
-there None e = cc
-there (Some x) e = (x, refl)
 
 -- ---- a request is sent
 
@@ -56,7 +53,7 @@ request_is seq op client k = ap (request_at client.requests) k.waits ∙ ap (λ 
 -- it is sent to a group that is known
 sent_on : (seq : ℕ) (op : Op) (client : Client) (group : Draw) → IsReady seq op client → is_some (way_to group client.known) ≡ true → DidAskOn seq op client (sent_to group client)
 sent_on seq op client group k known =
-    let way = there (way_to group client.known) known in
+    let way = some_there (way_to group client.known) known in
     record {
       group = group;
       target = target_of way.0;

@@ -1,25 +1,23 @@
 -- In each lawful journal every client rests or asks on, and has sent no request with a greater number than those that it has begun.
-use Rattle.std.proofs.Common.{◌≡◌, ℕ, ◌+◌, ◌-◌, ◌≤◌, ◌&&◌, ◌||◌, eqb, Bool, true, false, true≢false, cond, List, [], ◌∷◌, ◌++◌, map, find, length, Option, Some, None, ◌⊎◌, inl, inr, refl, sym, ◌∙◌, ap, subst, arith}
+use Rattle.std.proofs.Common.{◌≡◌, ℕ, ◌+◌, ◌-◌, ◌≤◌, ◌&&◌, ◌||◌, eqb, Bool, true, false, true≢false, cond, List, [], ◌∷◌, ◌++◌, find, length, Option, Some, None, ◌⊎◌, inl, inr, refl, sym, ◌∙◌, ap, subst, arith}
 use Rattle.std.specs.List.{list_any}
 use Rattle.std.specs.Prelude.{slice_get}
 use Rattle.std.specs.Option.{option_map}
 use Rattle.std.proofs.lemmas.Bool.{cond_both, eqb-true, eq-eqb, and_parts, or_cases}
 use Rattle.std.proofs.lemmas.List.{length_push}
 use Rattle.std.proofs.lemmas.List.Folds.{list_any-append}
-use Rattle.sc_base.specs.Definitions.{Each, client_actor}
-use Rattle.sc_node_table.specs.Values.{Seat, Row, Event, Deliver, Drop, Again, Crash, Input, Got, OrderLine, Merge, Mail, Request, Op, Base, Node, Client}
+use Rattle.sc_base.specs.Definitions.{client_actor}
+use Rattle.sc_node_table.specs.Values.{Seat, Row, Event, Deliver, Drop, Again, Crash, Input, Got, OrderLine, Merge, Mail, Request, Op, Node, Client}
 use Rattle.sc_actor.specs.declared.rows.Event.TheVariants.{Tick as TickEvent, Go as GoEvent, Told as ToldEvent}
 use Rattle.sc_actor.specs.declared.rows.Input.TheVariants.{Tick, Go, Told}
 use Rattle.sc_actor.specs.Definitions.{mails, numbered, acted, input_of, value, has_started, is_go, IsStep, IsOpen, IsLoose}
 use Rattle.sc_actor.proofs.Lemmas.{lawful-induction, value-snoc}
-use Rattle.sc_words.proofs.PaxosProofs.Lemmas.{Each-among, Each-append, find_found}
 use Rattle.sc_scenario.specs.declared.scenario.scenarios.Scenario.{Scenario}
-use Rattle.sc_scenario.specs.declared.scenario.scenarios.Asks.{Asks as Requests}
 use Rattle.sc_client_table.specs.table.Definitions.{Client as ClientState, table, request_at, InTurn, SendsWaiting, Waits, Begins, TakesReply}
 use Rattle.sc_client_table.proofs.TableProofs.TurnLemmas.{sends_in_turn}
-use Rattle.sc_meaning.specs.sound.Definitions.{Lawful, Player, as_nodes, births, client_seat, client_seats, node_seat, player_table, route_of, schedule, system_of, issues, asks_for, issued_from}
-use Rattle.sc_node_table.specs.Definitions.{numbers_from}
+use Rattle.sc_meaning.specs.sound.Definitions.{Lawful, Player, as_nodes, births, player_table, schedule, system_of, issues, asks_for, issued_from}
 use Rattle.sc_live_plain.specs.Definitions.{begun_ones, waiting_ones}
+use Rattle.sc_live_healed.proofs.SeatBirths.{seat_born}
 use Rattle.sc_live_healed.proofs.FixedJournals.{Rows, IsOf}
 use Rattle.sc_live_healed.specs.AskingClients.{IsAskingClient}
 use Rattle.sc_live_healed.proofs.AskingClientRows.{is_start, stays}
@@ -223,23 +221,10 @@ module _ (words : ℕ → ℕ → ℕ × ℕ) (scenario : Scenario) where
   abbrev IsBornSeat : Seat Player → Type 0
   IsBornSeat seat = IsAskingPlayer [] seat.who seat.actor
 
-  nodes_born : (bases : List Base) (numbers : List ℕ) → Each IsBornSeat (map (node_seat as_nodes bases scenario.policy) numbers)
-  nodes_born bases [] = tt
-  nodes_born bases (n ∷ numbers) = (tt, nodes_born bases numbers)
-
-  clients_born : (bases : List Base) (clients : List Requests) → Each IsBornSeat (client_seats bases clients)
-  clients_born [] clients = tt
-  clients_born (base ∷ bases) clients = by clients
-    where
-      by : (cs : List Requests) → Each IsBornSeat (map (client_seat (route_of base)) cs)
-      by [] = tt
-      by (c ∷ cs) = (record { number = refl; asks = record { some = omega arith; state = inl (record { waits = refl; replies = inl (refl, refl) }) }; few = λ seq e. absurd (true≢false (sym e)) }, by cs)
-
   pub first_asking : IsAskingJournal []
   first_asking = record {
-    players = λ seat is_of. Each-among IsBornSeat (births as_nodes scenario) seat
-        (Each-append IsBornSeat (map (node_seat as_nodes scenario.groups scenario.policy) (numbers_from 1 scenario.nodes)) (client_seats scenario.groups scenario.clients) (nodes_born scenario.groups (numbers_from 1 scenario.nodes)) (clients_born scenario.groups scenario.clients))
-        (find_found (λ (other : Seat Player). eqb other.who seat.who) (births as_nodes scenario) seat is_of).0;
+    players = seat_born IsBornSeat scenario (λ n. tt)
+        (λ base a c. record { number = refl; asks = record { some = omega arith; state = inl (record { waits = refl; replies = inl (refl, refl) }) }; few = λ seq e. absurd (true≢false (sym e)) });
   }
 
   pub journal_asking : (rows : Rows) → Lawful as_nodes words scenario rows → IsAskingJournal rows

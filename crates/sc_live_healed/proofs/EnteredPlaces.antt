@@ -1,23 +1,19 @@
 -- What an entry of a group that is not reshaped leaves: the replica with one more entry, whose slot is cleared; and of a counted one the answer and the Learns.
-use Rattle.std.proofs.Common.{◌≡◌, ℕ, not, Bool, true, false, List, filter, Option, Some, None, refl, ◌∙◌, ap}
-use Rattle.sc_base.specs.Definitions.{is_member}
+use Rattle.std.proofs.Common.{◌≡◌, ℕ, Bool, true, false, List, Option, Some, None, refl, ◌∙◌, ap}
 use Rattle.sc_node_table.specs.Values.{Base, Core, Command, Effect, Mail, Learn, OrderResult}
 use Rattle.sc_group_table.specs.machine.Definitions.{Group, applied}
-use Rattle.sc_node_table.specs.Definitions.{ReplicaState, Place, name_of, next, members, entered, forgotten, answer_of, order_result, answered_or_put_back, effect_reported, announced, before_of, spoken, learnt_to, welcomed, welcomed_all, sent_others, slot_lost, landed, flying}
-use Rattle.sc_law_walks.proofs.Lemmas.{entered_place}
+use Rattle.sc_node_table.specs.Definitions.{ReplicaState, Place, name_of, next, members, entered, answer_of, order_result, answered_or_put_back, effect_reported, announced, before_of, spoken, learnt_to, welcomed, welcomed_all, sent_others, landed, flying}
+use Rattle.sc_law_walks.proofs.Lemmas.{entered_group, entered_place, lost_counted}
 use Rattle.sc_law_walks.proofs.Places.{cleared}
 use Rattle.sc_live_healed.specs.Definitions.{IsFixedCommand}
-use Rattle.sc_live_healed.proofs.FixedEntries.{no_result, no_speech, none_new}
+use Rattle.sc_live_plain.proofs.Lemmas.{none_new}
+use Rattle.sc_live_healed.proofs.FixedEntries.{no_result, no_speech}
 use Rattle.sc_live_healed.proofs.FixedParts.{applied_core}
 
 unreported : (o : Option OrderResult) (command : Command) (place : Place) → o ≡ None → effect_reported o command place ≡ place
 unfolding effect_reported
 unreported None command place e = refl
 unreported (Some result) command place e = absurd (cc)
-
-pub entered_group : (command : Command) (r : ReplicaState) → (entered command r).group ≡ (applied r.group command).0
-unfolding entered forgotten
-entered_group command r = refl
 
 module _ (base : Base) (command : Command) (start : ReplicaState) (fixed : IsFixedCommand base command) where
   abbrev effect : Effect
@@ -44,17 +40,13 @@ module _ (base : Base) (command : Command) (start : ReplicaState) (fixed : IsFix
       ∙ ap (λ (p : Place). landed false (next start) command p) (learns_none (members start) (next start) (entered command start, mails))
 
   -- a counted entry: its client is answered, or it goes back; and the members learn it
-  lost_counted : (o : Option Command) (r : ReplicaState) → slot_lost true command o r ≡ r
-  lost_counted None r = refl
-  lost_counted (Some other) r = refl
-
   landed_counted : (slot : ℕ) (r : ReplicaState) (mails : List Mail) → landed true slot command (r, mails) ≡ cleared slot (r, mails)
   unfolding landed
-  landed_counted slot r mails = ap (λ (x : ReplicaState). (x, mails)) (lost_counted (flying r slot) (cleared slot (r, mails)).0)
+  landed_counted slot r mails = ap (λ (x : ReplicaState). (x, mails)) (lost_counted command (flying r slot) (cleared slot (r, mails)).0)
 
   welcomes_none : (r : ReplicaState) (mails : List Mail) → members r ≡ members start → welcomed true (members start) (r, mails) ≡ (r, mails)
   unfolding welcomed welcomed_all
-  welcomes_none r mails e = ap (λ (nodes : List ℕ). welcomed_all nodes (r, mails)) (ap (λ (nodes : List ℕ). filter (λ node. not (is_member (members start) node)) nodes) e ∙ none_new (members start))
+  welcomes_none r mails e = ap (λ (nodes : List ℕ). welcomed_all nodes (r, mails)) (none_new (members start) (members r) e)
 
   -- the mails of a counted entry
   abbrev pub learning : Place → List Mail

@@ -1,10 +1,9 @@
 -- What one entry makes of a replica that runs, where its group is not reshaped: the next slot is taken no more, and the others stay.
-use Rattle.std.proofs.Common.{◌≡◌, ℕ, ◌+◌, ◌-◌, ◌≤◌, ◌||◌, not, eqb, nat_lt, Bool, true, false, cond, List, [], ◌∷◌, ◌++◌, Option, Some, None, inl, inr, refl, sym, ◌∙◌, ap, subst, arith}
-use Rattle.std.specs.List.{filter}
+use Rattle.std.proofs.Common.{◌≡◌, ℕ, ◌+◌, ◌-◌, ◌≤◌, ◌||◌, eqb, nat_lt, Bool, true, false, cond, List, [], ◌∷◌, ◌++◌, Option, Some, None, inl, inr, refl, sym, ◌∙◌, ap, subst, arith}
 use Rattle.std.specs.FinMap.{get}
 use Rattle.std.specs.Option.{option_map}
-use Rattle.std.proofs.lemmas.Bool.{cond-true, cond-false, cases_lt, cases_eq, ne_eqb}
-use Rattle.sc_base.specs.Definitions.{Among, Each, is_member, least_of}
+use Rattle.std.proofs.lemmas.Bool.{cond-true, cases_lt, cases_eq, ne_eqb}
+use Rattle.sc_base.specs.Definitions.{Each, is_member, least_of}
 use Rattle.sc_node_table.specs.Values.{Ballot, Noted, Op, Base, Command, Noop, Call, Core, Lock, Free, Effect, Route, AnswerBody, Mail, Learn, Flight}
 use Rattle.sc_words.specs.ideal.Definitions.{key_of, holds_key}
 use Rattle.sc_words.specs.declared.commands.effects.Effect.TheVariants as Was
@@ -14,9 +13,9 @@ use Rattle.sc_group_table.specs.machine.Definitions.{Group, served_by_note, call
 use Rattle.sc_node_table.specs.declared.Before.{Before}
 use Rattle.sc_node_table.specs.Definitions.{stopped, entered, answer_of, answered_or_put_back, effect_reported, announced, learnt_to, welcomed, slot_lost, landed, left_gone, left, looked_for, looked, executed_one, welcomed_all, answer_to, sent_others, put_back, queued_number, request_before, is_request_of, without_request, same_command, ReplicaState, Place, name_of, next, members, flying, forgotten, rest_of, without_slot, before_of, spoken, spoken_mails, begun_reported, went_on}
 use Rattle.sc_law_walks.proofs.Lemmas.{either_way, cleared, entered_next}
-use Rattle.sc_paxos_law.proofs.Lemmas.{among-member}
 use Rattle.sc_live_plain.specs.Definitions.{takers}
 use Rattle.sc_live_plain.proofs.Lemmas.{one_if_most, entries_at, out_none, out_here, out_other, standing, range_before, range_less, flights_at, among_push, others_kept, in_range, range_behind, one_if, one_no, out_each}
+use Rattle.sc_live_plain.proofs.Lemmas.{none_new}
 use Rattle.sc_live_healed.specs.Definitions.{IsFixedCommand, IsFixedRequest}
 use Rattle.sc_live_healed.proofs.ServingReplicas.{Grows, IsServing, IsUnderWay, grown}
 use Rattle.sc_live_healed.proofs.OfferedQueues.{requeued}
@@ -38,14 +37,6 @@ called_core None _ group client seq op g f h = cc
 called_core (Some into) lock group client seq op g f h = cc
 
 -- ---- what is told of an entry
-
--- no member is new
-none_new : (before now : List ℕ) → now ≡ before → filter (λ node. not (is_member before node)) now ≡ []
-none_new before now e = none_passes now (λ x a. ap not (ap (λ xs. is_member xs x) (sym e) ∙ among-member now x a))
-  where
-    none_passes : (xs : List ℕ) → ((x : ℕ) → Among x xs → not (is_member before x) ≡ false) → filter (λ node. not (is_member before node)) xs ≡ []
-    none_passes [] f = refl
-    none_passes (x ∷ xs) f = cond-false (not (is_member before x)) (x ∷ filter (λ node. not (is_member before node)) xs) (filter (λ node. not (is_member before node)) xs) (f x (inl refl)) ∙ none_passes xs (λ y a. f y (inr a))
 
 -- a place with more mails
 abbrev Says : ReplicaState → List Mail → Place → Type 0

@@ -12,7 +12,7 @@ use Rattle.sc_actor.specs.Definitions.{mails, numbered, acted, input_of, value, 
 use Rattle.sc_actor.proofs.Lemmas.{lawful-induction, value-snoc, mails-snoc}
 use Rattle.sc_words.proofs.PaxosProofs.Lemmas.{Each-among, Each-append, find_found}
 use Rattle.sc_group_table.specs.machine.Definitions.{group_of}
-use Rattle.sc_node_table.specs.Definitions.{NodeState, ReplicaState, Place, next, name_of, flying, open_nodes, with_replica, mailed, ticked, tick_row, names_after_tick, node_table, slots_ahead, born_replica, born_replicas, numbers_from}
+use Rattle.sc_node_table.specs.Definitions.{NodeState, ReplicaState, Place, next, name_of, flying, open_nodes, with_replica, mailed, ticked, tick_row, names_after_tick, node_table, slots_ahead, born_replica, born_replicas}
 use Rattle.sc_law_refusal.proofs.HeldCommands as held
 use Rattle.sc_law_walks.proofs.Talks.{all_sent}
 use Rattle.sc_law_walks.proofs.Lemmas.{either_way}
@@ -20,17 +20,17 @@ use Rattle.sc_client_table.specs.table.Definitions.{Client as ClientState, table
 use Rattle.sc_client_table.proofs.TableProofs.TurnLemmas.{sends_in_turn}
 use Rattle.sc_paxos_law.proofs.Lemmas.{place_among}
 use Rattle.sc_scenario.specs.declared.scenario.scenarios.Scenario.{Scenario}
-use Rattle.sc_scenario.specs.declared.scenario.scenarios.Asks.{Asks as Requests}
 use Rattle.sc_scenario.specs.scenario.Definitions.{IsBounded}
-use Rattle.sc_meaning.specs.sound.Definitions.{Lawful, Player, as_nodes, births, client_seat, client_seats, node_seat, player_table, route_of, schedule, system_of, issues, asks_for}
+use Rattle.sc_meaning.specs.sound.Definitions.{Lawful, Player, as_nodes, player_table, schedule, system_of, issues, asks_for}
 use Rattle.sc_live_orderly.specs.Definitions.{is_told}
+use Rattle.sc_law_groups.proofs.WholeProofs.Lemmas.{group_place}
+use Rattle.sc_live_healed.proofs.SeatBirths.{seat_born}
 use Rattle.sc_live_healed.specs.Definitions.{IsFixedMail, IsFixedNode, IsFixedBody}
 use Rattle.sc_live_healed.proofs.FixedWalks.{IsFresh, IsFixedPlace}
 use Rattle.sc_live_healed.proofs.FixedParts.{opt_some}
 use Rattle.sc_live_healed.proofs.FixedRows.{takes_mail}
 use Rattle.sc_live_healed.proofs.FixedTicks.{ticks}
 use Rattle.sc_live_healed.proofs.FixedBesides.{FixedTickStates, both_walk, both_ticks}
-use Rattle.sc_live_healed.proofs.FixedBirths.{place_of}
 use Rattle.sc_live_healed.proofs.FixedJournals.{Rows, IsFixedPlayer, IsOf, IsFixedJournal, Brings, fresh, given, first_fixed, brings, next_fixed, AreUntold, untold_parts}
 use Rattle.sc_live_healed.proofs.FixedNodes.{AreFresh, MayTake, One, into, one_ticks}
 use Rattle.sc_live_healed.proofs.NodeMail.{TakesMail, PassesMail, mail_taken}
@@ -136,7 +136,7 @@ module _ (client bound : ℕ) where
 
     born_noted : (base : Base) → Among base bases → HasNoted client bound (group_of base)
     born_noted base a =
-        let p = place_of scenario bounded base a in
+        let p = group_place scenario bounded base a in
         subst (λ (b : Base). HasNoted client bound (group_of b)) p.2 (λ note e. absurd (none_some (sym (get-empty nat_cmp client) ∙ e)))
       where
         none_some : {X : Type 0} {x : X} → None ≡ Some x → ⊥
@@ -153,25 +153,11 @@ module _ (client bound : ℕ) where
     abbrev IsBornSeat : Seat Player → Type 0
     IsBornSeat seat = PlayerFew seat.actor
 
-    nodes_born : (numbers : List ℕ) → Each IsBornSeat (map (node_seat as_nodes bases scenario.policy) numbers)
-    nodes_born [] = tt
-    nodes_born (n ∷ numbers) = (born_all n bases (λ b a. a), nodes_born numbers)
-
-    clients_born : (some : List Base) (clients : List Requests) → Each IsBornSeat (client_seats some clients)
-    clients_born [] clients = tt
-    clients_born (base ∷ some) clients = by clients
-      where
-        by : (cs : List Requests) → Each IsBornSeat (map (client_seat (route_of base)) cs)
-        by [] = tt
-        by (c ∷ cs) = (tt, by cs)
-
     first_few : IsFewJournal scenario []
     first_few = record {
       fixed = first_fixed words scenario bounded off;
       sent = tt;
-      players = λ seat e. Each-among IsBornSeat (births as_nodes scenario) seat
-          (Each-append IsBornSeat (map (node_seat as_nodes bases scenario.policy) (numbers_from 1 scenario.nodes)) (client_seats bases scenario.clients) (nodes_born (numbers_from 1 scenario.nodes)) (clients_born bases scenario.clients))
-          (find_found (λ (other : Seat Player). eqb other.who seat.who) (births as_nodes scenario) seat e).0;
+      players = seat_born IsBornSeat scenario (λ n. born_all n bases (λ b a. a)) (λ base a c. tt);
     }
 
     -- ---- one row more

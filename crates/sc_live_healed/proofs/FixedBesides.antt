@@ -122,6 +122,8 @@ module _ (base : Base) (me : ℕ) (fresh : IsFresh base me) (x : FixedFacts) (t 
   abbrev pub both_ticks : FixedTickStates base me x → FixedTickParts base me (λ place. IsFixedPlace base me place × x.E place)
   both_ticks u = record {
     elected = λ r mails p0 k. ((fixed_ticks base me fresh).elected r mails p0 k.0, u.elected r mails p0 k.0 k.1);
-    reasks = λ to slot command r mails p0 p1 p2 k. ((fixed_ticks base me fresh).reasks to slot command r mails p0 p1 p2 k.0, u.reasks to slot command r mails p0 p1 p2 k.0 k.1);
-    relearns = λ to command r mails p0 p1 p2 k. ((fixed_ticks base me fresh).relearns to command r mails p0 p1 p2 k.0, u.relearns to command r mails p0 p1 p2 k.0 k.1);
+    asks = record {
+      reasks = λ to slot command r mails p0 p1 p2 k. ((fixed_ticks base me fresh).asks.reasks to slot command r mails p0 p1 p2 k.0, u.reasks to slot command r mails p0 p1 p2 k.0 k.1);
+      relearns = λ to command r mails p0 p1 p2 k. ((fixed_ticks base me fresh).asks.relearns to command r mails p0 p1 p2 k.0, u.relearns to command r mails p0 p1 p2 k.0 k.1);
+    };
   }

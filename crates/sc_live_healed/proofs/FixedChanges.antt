@@ -11,11 +11,11 @@ use Rattle.sc_words.specs.paxos.Definitions.{IsAtLeast, AcceptorState, LeaderSta
 use Rattle.sc_node_table.specs.Definitions.{ended, stopped, entered, forgotten, floor_of, jumped, offered, put_back, request_before, queued_number, answered, answered_all, dismissed, dismissed_all, sent, sent_all, under_way, without_slot, hinted, name_of, next, rest_of, ReplicaState, Place, answer_of, waits_in, open_nodes, flying, slots_ahead, with_entry}
 use Rattle.sc_law_entries.proofs.NamesProofs.EachFound.{Each-drop, slot_without, flight_without}
 use Rattle.sc_law_walks.proofs.Places.{cleared}
-use Rattle.sc_law_walks.proofs.Lemmas.{either_way, elected_place, entered_place}
+use Rattle.sc_law_walks.proofs.Lemmas.{either_way, elected_place, TableEntry, entry_holds, entered_place}
 use Rattle.sc_law_walks.specs.Definitions.{GoesOn}
 use Rattle.sc_live_healed.proofs.FixedWalks.{IsFixedPlace, IsSaid, IsMember, IsFresh}
-use Rattle.sc_live_healed.proofs.FixedEntries.{FixedEntry, entry_keeps}
-use Rattle.sc_live_healed.proofs.FixedTicks.{all_told}
+use Rattle.sc_live_healed.proofs.FixedEntries.{unreported, unspoken, learner, none_joined}
+use Rattle.sc_law_walks.proofs.Talks.{each_sent}
 use Rattle.sc_live_healed.proofs.FixedParts as parts
 use Rattle.sc_live_healed.specs.Definitions.{IsFixedRequest, IsFixedCommand, IsFixedReplica, KeepsBallots, IsFixedBody, IsFixedAnswer}
 
@@ -126,7 +126,7 @@ module _ (base : Base) (me : ℕ) (fresh : IsFresh base me) where
   offers slot set command r mails on f of k =
       let own : r.leader.ballot.node ≡ me = (k.ballots.running on).own ∙ k.me_is in
       let more : Said (sent_all r.me set (Accept (name_of r) r.leader.ballot slot command) mails) =
-      all_told r.me base Said (Accept (name_of r) r.leader.ballot slot command) (λ to ms m s. one_said r to (Accept (name_of r) r.leader.ballot slot command) ms k.me_is (name_is r k.fixed, (fresh.member, m), own, f) s) set mails of k.said in
+      each_sent r.me (IsMember base) Said (Accept (name_of r) r.leader.ballot slot command) (λ to ms m s. one_said r to (Accept (name_of r) r.leader.ballot slot command) ms k.me_is (name_is r k.fixed, (fresh.member, m), own, f) s) set mails of k.said in
       let said : F (r, sent_all r.me set (Accept (name_of r) r.leader.ballot slot command) mails) = record { me_is = k.me_is; fixed = k.fixed; ballots = k.ballots; said = more } in
       runs_with r _ (with_flight_at slot command r.leader) r.ready r.backlog on refl k.fixed.backlog
       (Each-append (λ (flight : Flight Command). Fixed flight.value) r.leader.flights (record { slot = slot; value = command; voters = None } ∷ []) k.fixed.flights (f, tt)) k.fixed.ready k.fixed.reports said
@@ -219,13 +219,17 @@ module _ (base : Base) (me : ℕ) (fresh : IsFresh base me) where
         by true q = refl
         by false q = absurd (none_flies r slot other (k.stopped q).flights e)
 
-    entry_of : (counted : Bool) → (counted ≡ true → start.running ≡ true) → FixedEntry base counted command start Q
+    entry_of : (counted : Bool) → (counted ≡ true → start.running ≡ true) → TableEntry counted command start (λ place. F place) Q
     entry_of counted on = record {
       Lost = λ other. Fixed other × (start.running ≡ true);
-      core_is = λ place k. k.0.fixed.group;
+      entered = λ mails k. enters mails k;
       answers = λ client seq op answer r mails t is e k. (answers_client r client seq answer mails (parts.answer_fine base me fresh start.group client seq op answer same (subst (λ (c : Command). answer_of (applied start.group c).1 ≡ Some answer) is e)) k.0, k.1);
       returned = λ r mails t k. goes_back command r mails f (on t) k;
-      teaches = λ to r mails t m k. (sends r to (Learn (name_of r) (next start) command) mails (name_is r k.0.fixed, (fresh.member, m), f) k.0, k.1);
+      reports = λ result r mails is k. absurd (unreported base counted command start f same result is);
+      speaks = λ r mails k. unspoken base counted command start f same Q r mails k;
+      teaches = λ to r mails t a k. (sends r to (Learn (name_of r) (next start) command) mails (name_is r k.0.fixed, (fresh.member, learner base counted command start f same to a), f) k.0, k.1);
+      installs = λ to r mails t new k. absurd (none_joined base counted command start f same r k.0.fixed.group to new);
+      repolls = λ to r mails t new k. absurd (none_joined base counted command start f same r k.0.fixed.group to new);
       flies = λ other r mails e k. (parts.flight_fixed base r.leader.flights (next start) other e k.0.fixed.flights, sym k.1 ∙ flying_runs r (next start) other k.0.ballots e);
       landed = λ place k. clears place k;
       back = λ other r mails l k. goes_back other r mails l.0 l.1 k;
@@ -233,7 +237,7 @@ module _ (base : Base) (me : ℕ) (fresh : IsFresh base me) where
 
   pub enters_place : (counted : Bool) (command : Command) (r : ReplicaState) (mails : List Mail) → (counted ≡ true → r.running ≡ true) → Fixed command → F (r, mails) → F (entered_place counted command (r, mails))
   enters_place counted command r mails on f k =
-      (entry_keeps base counted command r (Q command r f k.fixed.group) (entry_of command r f k.fixed.group counted on) f k.fixed.group mails (enters command r f k.fixed.group mails k)).0
+      (entry_holds counted command r (λ place. F place) (Q command r f k.fixed.group) (entry_of command r f k.fixed.group counted on) mails k).0
 
   -- ---- votes and promises
 
@@ -318,5 +322,5 @@ module _ (base : Base) (me : ℕ) (fresh : IsFresh base me) where
           running = λ on. record { own = refl; seen = at_least_itself ballot; unpassed = next_round r.top r.acceptor.promised r.me k.ballots.promised; hint = refl };
           stopped = λ off. absurd (true≢false off);
         };
-        said = all_told r.me base Said (Prepare (name_of r) ballot (next r)) (λ to ms m s. one_said r to (Prepare (name_of r) ballot (next r)) ms k.me_is (name_is r k.fixed, (fresh.member, m), k.me_is) s) (open_nodes r.sets) mails (parts.open_are_members base r.sets k.fixed.sets) k.said;
+        said = each_sent r.me (IsMember base) Said (Prepare (name_of r) ballot (next r)) (λ to ms m s. one_said r to (Prepare (name_of r) ballot (next r)) ms k.me_is (name_is r k.fixed, (fresh.member, m), k.me_is) s) (open_nodes r.sets) mails (parts.open_are_members base r.sets k.fixed.sets) k.said;
       }

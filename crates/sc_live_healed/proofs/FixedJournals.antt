@@ -9,14 +9,14 @@ use Rattle.sc_actor.specs.declared.rows.Event.TheVariants.{Tick as TickEvent, Go
 use Rattle.sc_actor.specs.declared.rows.Input.TheVariants.{Tick, Go, Told}
 use Rattle.sc_actor.specs.Definitions.{mails, numbered, acted, input_of, value, IsStep, IsOpen, IsLoose}
 use Rattle.sc_actor.proofs.Lemmas.{lawful-induction, value-snoc, mails-snoc}
-use Rattle.sc_node_table.specs.Definitions.{ReplicaState, replica_of, born_node, born_replica, born_replicas, first_ballot, slots_ahead, numbers_from}
-use Rattle.sc_words.proofs.PaxosProofs.Lemmas.{Each-among, Each-append, Each-from, find_found, at_least_itself}
+use Rattle.sc_node_table.specs.Definitions.{ReplicaState, replica_of, born_node, born_replica, born_replicas, first_ballot, slots_ahead}
+use Rattle.sc_words.proofs.PaxosProofs.Lemmas.{Each-among, Each-append, Each-from, at_least_itself}
 use Rattle.sc_scenario.specs.declared.scenario.scenarios.Scenario.{Scenario}
-use Rattle.sc_scenario.specs.declared.scenario.scenarios.Asks.{Asks as Requests}
 use Rattle.sc_scenario.specs.scenario.Definitions.{IsBounded}
-use Rattle.sc_meaning.specs.sound.Definitions.{Lawful, Player, as_nodes, births, client_seat, client_seats, node_seat, player_table, route_of, schedule, system_of}
+use Rattle.sc_meaning.specs.sound.Definitions.{Lawful, Player, as_nodes, births, player_table, schedule, system_of}
 use Rattle.sc_live_orderly.specs.Definitions.{is_told}
 use Rattle.sc_paxos_law.proofs.Lemmas.{place_among}
+use Rattle.sc_live_healed.proofs.SeatBirths.{seat_born}
 use Rattle.sc_live_healed.proofs.FixedWalks.{IsMember}
 use Rattle.sc_live_healed.proofs.FixedNodes.{AreFresh, MayTake, IsOne, steps_fixed}
 use Rattle.sc_live_healed.proofs.FixedBirths.{groups_fresh}
@@ -108,23 +108,11 @@ module _ (words : ℕ → ℕ → ℕ × ℕ) (scenario : Scenario) (bounded : I
   abbrev IsBornSeat : Seat Player → Type 0
   IsBornSeat seat = IsPlayer seat.who seat.actor
 
-  nodes_born : (numbers : List ℕ) → Each IsBornSeat (map (node_seat as_nodes bases scenario.policy) numbers)
-  nodes_born [] = tt
-  nodes_born (n ∷ numbers) = ((refl, off, born_fixed n), nodes_born numbers)
-
-  clients_born : (some : List Base) → ((base : Base) → Among base some → Among base bases) → (clients : List Requests) → Each IsBornSeat (client_seats some clients)
-  clients_born [] within clients = tt
-  clients_born (base ∷ some) within clients = by clients
-    where
-      by : (cs : List Requests) → Each IsBornSeat (map (client_seat (route_of base)) cs)
-      by [] = tt
-      by (c ∷ cs) = ((record { base = base; among = within base (inl refl); name = refl; members = refl; preferred = λ node e. absurd (cc) }, tt), by cs)
-
-  seats_born : Each IsBornSeat (births as_nodes scenario)
-  seats_born = Each-append IsBornSeat (map (node_seat as_nodes bases scenario.policy) (numbers_from 1 scenario.nodes)) (client_seats bases scenario.clients) (nodes_born (numbers_from 1 scenario.nodes)) (clients_born bases (λ base a. a) scenario.clients)
-
   pub first_fixed : IsFixedJournal scenario []
-  first_fixed = record { sent = tt; players = λ seat e. Each-among IsBornSeat (births as_nodes scenario) seat seats_born (find_found (λ (other : Seat Player). eqb other.who seat.who) (births as_nodes scenario) seat e).0 }
+  first_fixed = record {
+    sent = tt;
+    players = seat_born IsBornSeat scenario (λ n. (refl, off, born_fixed n)) (λ base a c. (record { base = base; among = a; name = refl; members = refl; preferred = λ node e. absurd (cc) }, tt));
+  }
 
   -- ---- one row more
 

@@ -18,7 +18,7 @@ use Rattle.sc_words.specs.paxos.Definitions.{LeaderState, flight_at, counted, vo
 use Rattle.sc_node_table.specs.Definitions.{answer_of, admits_requests, turned_down, refused_at, request_refusal, request_before, without_request, is_request_of, at_slot, with_entry, ReplicaState, slots_ahead, open_nodes, is_in_some, nodes_to, numbers_from, refused_by}
 use Rattle.sc_law_entries.specs.names.Definitions.{Opt}
 use Rattle.sc_law_entries.proofs.NamesProofs.EachFound.{opt_get, opt_find, opt_slot, flight_without, voters_with}
-use Rattle.sc_law_walks.proofs.Lemmas.{either_way}
+use Rattle.sc_law_walks.proofs.Lemmas.{either_way, called_core}
 use Rattle.sc_live_healed.proofs.FixedWalks.{IsFresh, IsMember}
 use Rattle.sc_live_healed.specs.Definitions.{IsFixedRequest, IsFixedCommand, IsFixedAnswer}
 
@@ -28,22 +28,6 @@ opt_some P None x e p = absurd (cc)
 opt_some P (Some y) x e p = (let same : y ≡ x = cc in subst P same p)
 
 -- ---- the executed state
-
-served_core : (o : Option Noted) (group : Group) (client seq : ℕ) (op : Op) → (served_by_note o group client seq op).0.core ≡ group.core
-served_core None group client seq op = refl
-served_core (Some noted) group client seq op =
-    either_way (λ (p : Group × Effect). p.0.core ≡ group.core) (nat_lt noted.seq seq) (done group client seq op) _ refl (either_way (λ (p : Group × Effect). p.0.core ≡ group.core) (eqb noted.seq seq) (group, Was.Again noted.reply) (group, Was.Stale noted.seq) refl refl)
-
-all_served : (group : Group) (client seq : ℕ) (op : Op) → (served group client seq op).0.core ≡ group.core
-all_served group client seq op =
-    either_way (λ (p : Group × Effect). p.0.core ≡ group.core) (holds_key group.core.arc (key_of op)) (served_by_note (get group.clients client) group client seq op) (group, Was.NotMine group.core.arc group.core.succ) (served_core (get group.clients client) group client seq op) refl
-
-called_core : (gone : Option Route) (lock : Lock) (group : Group) (client seq : ℕ) (op : Op) → (called gone lock group client seq op).0.core ≡ group.core
-called_core (Some into) lock group client seq op = refl
-called_core None Free group client seq op = all_served group client seq op
-called_core None (Watching tx watch) group client seq op = all_served group client seq op
-called_core None (Coordinating tx body order heard) group client seq op = refl
-called_core None (Promised tx offer) group client seq op = refl
 
 -- a request or a Noop leaves the group's record
 pub applied_core : (base : Base) (command : Command) (group : Group) → IsFixedCommand base command → (applied group command).0.core ≡ group.core

@@ -86,8 +86,10 @@ module _ (base : Base) (me : ℕ) (fresh : IsFresh base me) where
   abbrev pub fixed_ticks : FixedTickParts base me (λ place. F place)
   fixed_ticks = record {
     elected = λ r mails off k. changes.elects base me fresh r mails k;
-    reasks = λ to slot command r mails m on e k. changes.sends base me fresh r to (Accept (name_of r) r.leader.ballot slot command) mails (changes.name_is base me fresh r k.fixed, (fresh.member, m), (k.ballots.running on).own ∙ k.me_is, parts.flight_fixed base r.leader.flights slot command e k.fixed.flights) k;
-    relearns = λ to command r mails m on e k. changes.sends base me fresh r to (Learn (name_of r) (next r - 1) command) mails (changes.name_is base me fresh r k.fixed, (fresh.member, m), parts.entry_fixed base (next r - 1) r.log command e k.fixed.entries) k;
+    asks = record {
+      reasks = λ to slot command r mails m on e k. changes.sends base me fresh r to (Accept (name_of r) r.leader.ballot slot command) mails (changes.name_is base me fresh r k.fixed, (fresh.member, m), (k.ballots.running on).own ∙ k.me_is, parts.flight_fixed base r.leader.flights slot command e k.fixed.flights) k;
+      relearns = λ to command r mails m on e k. changes.sends base me fresh r to (Learn (name_of r) (next r - 1) command) mails (changes.name_is base me fresh r k.fixed, (fresh.member, m), parts.entry_fixed base (next r - 1) r.log command e k.fixed.entries) k;
+    };
   }
 
   -- a row of mail, and a tick of a node without policy, leave such a replica and send such mail

@@ -1,29 +1,20 @@
 -- An invariant of a replica of a group that is not reshaped is kept by each row of the replica's table.
 use Rattle.std.proofs.Common.{◌≡◌, ℕ, zero, suc, ◌+◌, ◌≤◌, ◌&&◌, ◌||◌, not, nat_le, nat_lt, eqb, refl, Bool, true, false, true≢false, cond, List, [], ◌∷◌, ◌++◌, length, Option, Some, None, sym, ◌∙◌, ap, subst, arith}
-use Rattle.sc_base.specs.Definitions.{same_ballot, is_member}
-use Rattle.std.proofs.lemmas.Bool.{cond_both, and_parts, eqb-true, eq-eqb, ltb-false, ltb-true}
+use Rattle.sc_base.specs.Definitions.{is_member}
+use Rattle.std.proofs.lemmas.Bool.{cond_both, and_parts, eqb-true, ltb-false, ltb-true}
 use Rattle.sc_node_table.specs.Values.{Ballot, Draw, Op, Command, Call, Base, Core, AnswerBody, Mail, MailBody, Request, Answer, Prepare, Promise, Accept, Accepted, Nack, Learn, Ask, Install, TxPrepare, TxVote, TxOutcome, TxElsewhere, TxWatch, TxWatched, Told, Report, PrepareAnswer, AcceptAnswer, Counted, Chosen, NotYet}
 use Rattle.sc_mail.specs.declared.bodies.AnswerBody.TheVariants as Says
 use Rattle.sc_words.specs.declared.paxos.answers.PrepareAnswer.TheVariants as Prepared
 use Rattle.sc_words.specs.declared.paxos.answers.AcceptAnswer.TheVariants as Asked
 use Rattle.sc_words.specs.paxos.Definitions.{IsAtLeast, below, prepared, accepted as accepted_by, AcceptorState, reports_from, may_promise, may_accept, after_promise, after_accept, LeaderState, promise_counted, entry_at, counted}
-use Rattle.sc_words.proofs.PaxosProofs.Lemmas.{at_least_itself}
 use Rattle.sc_node_table.specs.Definitions.{ended, stopped, saw, executed, has_room, jumped, install_to, sent, pumped, queued_number, without_request, ReplicaState, Place, Executed, childless, name_of, next, members, set_at, last_slot, forgotten, refused_at, queued, requested, request_row, learn_row, taught, most_taught, ask_row, looked_up, looked, took_over, install_row, mailed, at_slot, with_slot, promise_to, promised, prepare_row, accepted_to, took, accept_row, leads, promise_row, readied, vote_tallied, voted, accepted_row, nack_row}
 use Rattle.sc_law_walks.proofs.Places.{asked_place}
-use Rattle.sc_law_walks.proofs.Lemmas.{either_way}
+use Rattle.sc_law_walks.proofs.Lemmas.{either_way, seen_top, put_there, leads_on, ended_off, ended_next}
 use Rattle.sc_law_walks.specs.Definitions.{GoesOn}
 use Rattle.sc_live_healed.proofs.FixedWalks.{FixedWalk, IsMember}
 use Rattle.sc_live_healed.proofs.FixedParts.{counted_fixed}
 use Rattle.sc_live_healed.proofs.FixedPumps.{pumps, execution}
 use Rattle.sc_live_healed.specs.Definitions.{IsFixedCommand}
-
--- a ballot that is seen is no later than the greatest
-pub seen_top : (ballot : Ballot) (place : Place) → IsAtLeast (saw ballot place).0.top ballot
-unfolding saw ended
-seen_top ballot (r, mails) =
-    let seen : ReplicaState = cond (below r.top ballot) (record r { top = ballot }) r in
-    let s : IsAtLeast seen.top ballot = cond_both (below r.top ballot) (record r { top = ballot }) r (λ (x : ReplicaState). IsAtLeast x.top ballot) (λ _. at_least_itself ballot) (λ f. f) in
-    either_way (λ (p : Place). IsAtLeast p.0.top ballot) (r.running && below r.leader.ballot ballot) (stopped (Some ballot.node) (seen, mails)) (seen, mails) s s
 
 -- a ballot that is seen stops nobody any more
 pub seen_on : (ballot : Ballot) (place : Place) → GoesOn ballot (saw ballot place).0
@@ -33,34 +24,7 @@ seen_on ballot (r, mails) =
     let same : (seen.running && below seen.leader.ballot ballot) ≡ (r.running && below r.leader.ballot ballot) = either_way (λ (x : ReplicaState). (x.running && below x.leader.ballot ballot) ≡ (r.running && below r.leader.ballot ballot)) (below r.top ballot) (record r { top = ballot }) r refl refl in
     cond_both (r.running && below r.leader.ballot ballot) (stopped (Some ballot.node) (seen, mails)) (seen, mails) (λ (p : Place). GoesOn ballot p.0) (λ _. refl) (λ f. same ∙ f)
 
--- what is put at a slot is there
-first_there : (slot : ℕ) (command : Command) (es : List (ℕ × Command)) → at_slot ((slot, command) ∷ es) slot ≡ Some command
-first_there slot command es = cond_both (eqb slot slot) (Some command) (at_slot es slot) (λ (o : Option Command). o ≡ Some command) (λ _. refl) (λ f. absurd (true≢false (sym (eq-eqb slot slot refl) ∙ f)))
-
-put_there : (es : List (ℕ × Command)) (slot : ℕ) (command : Command) → at_slot (with_slot es slot command) slot ≡ Some command
-put_there [] slot command = first_there slot command []
-put_there (e ∷ es) slot command =
-    cond_both (eqb e.0 slot) _ _ (λ (xs : List (ℕ × Command)). at_slot xs slot ≡ Some command) (λ _. first_there slot command es)
-    (λ f. either_way (λ (xs : List (ℕ × Command)). at_slot xs slot ≡ Some command) (nat_lt slot e.0) _ _ (first_there slot command (e ∷ es))
-    (cond_both (eqb e.0 slot) (Some e.1) (at_slot (with_slot es slot command) slot) (λ (o : Option Command). o ≡ Some command) (λ t. absurd (true≢false (sym t ∙ f))) (λ _. put_there es slot command)))
-
-leads_on : (ballot : Ballot) (r : ReplicaState) → leads ballot r ≡ true → r.running ≡ true
-leads_on ballot r t = (and_parts r.running (same_ballot ballot r.leader.ballot) t).0
-
--- ---- one that stops for a state that it takes over
-
-ended_off : (hint : Option ℕ) (answer : AnswerBody) (r : ReplicaState) (mails : List Mail) → (ended hint answer (r, mails)).0.running ≡ false
-unfolding ended
-ended_off hint answer r mails = refl
-
-ended_next : (hint : Option ℕ) (answer : AnswerBody) (r : ReplicaState) (mails : List Mail) → next (ended hint answer (r, mails)).0 ≡ next r
-unfolding ended
-ended_next hint answer r mails = refl
-
-jumped_runs : (slot : ℕ) (base : Base) (sets : List (List ℕ)) (r : ReplicaState) → (jumped slot base sets r).running ≡ r.running
-unfolding jumped forgotten
-jumped_runs slot base sets r = refl
-
+-- the members of a state that is taken over
 jumped_members : (slot : ℕ) (base : Base) (sets : List (List ℕ)) (r : ReplicaState) → members (jumped slot base sets r) ≡ base.core.members
 unfolding jumped forgotten
 jumped_members slot base sets r = refl

@@ -1,14 +1,15 @@
 -- An invariant of a replica of a group that is not reshaped is kept by the replica's tick, where its node has no policy.
-use Rattle.std.proofs.Common.{◌≡◌, ℕ, ◌+◌, ◌-◌, ◌^◌, ◌||◌, not, eqb, refl, Bool, true, false, cond, List, [], ◌∷◌, Option, Some, None, sym, ◌∙◌, ap, subst}
+use Rattle.std.proofs.Common.{◌≡◌, ℕ, ◌+◌, ◌-◌, ◌^◌, ◌||◌, not, eqb, refl, Bool, true, false, List, [], ◌∷◌, Option, Some, None, sym, ◌∙◌, ap, subst}
 use Rattle.std.specs.Prelude.{is_some}
 use Rattle.std.proofs.lemmas.Bool.{cond_both, and_parts}
 use Rattle.sc_base.specs.Definitions.{Each, Drawer, is_member}
 use Rattle.sc_words.proofs.PaxosProofs.Lemmas.{Each-filter}
-use Rattle.sc_node_table.specs.Values.{Command, Base, Core, Lock, Free, Coordinating, Promised, Watching, Mail, MailBody, Accept, Learn}
+use Rattle.sc_node_table.specs.Values.{Command, Base, Core, Lock, Free, Coordinating, Promised, Watching, Mail, Accept, Learn}
 use Rattle.sc_group_table.specs.machine.Definitions.{Group}
 use Rattle.sc_words.specs.paxos.Definitions.{entry_at, has_counted}
-use Rattle.sc_node_table.specs.Definitions.{elected, sent_all, sent_others, sent, pumped, wishing, reminded, reminders, waited_in, ReplicaState, Place, name_of, next, members, settled, is_idle, may_offer, first_set, tick_row, asked_again, uncounted, last_entry_sent, flying}
+use Rattle.sc_node_table.specs.Definitions.{elected, sent_all, pumped, wishing, reminded, reminders, waited_in, ReplicaState, Place, name_of, next, members, settled, is_idle, may_offer, first_set, tick_row, asked_again, uncounted, last_entry_sent, flying}
 use Rattle.sc_law_walks.proofs.Lemmas.{either_way, elected_place}
+use Rattle.sc_law_walks.proofs.Talks.{each_sent, each_other_sent}
 use Rattle.sc_live_healed.proofs.FixedWalks.{FixedWalk, FixedAskParts, FixedTickParts, IsMember}
 use Rattle.sc_live_healed.proofs.FixedPumps.{OfMembers, open_members, pumps, set_members}
 
@@ -19,18 +20,6 @@ not_so false e = cc
 so_not : (b : Bool) → not b ≡ true → b ≡ false
 so_not false e = refl
 so_not true e = cc
-
--- the same body to members of the group
-module _ (me : ℕ) (base : Base) (Q : List Mail → Type 0) (body : MailBody) (puts : (to : ℕ) (mails : List Mail) → IsMember base to → Q mails → Q (sent me to body mails)) where
-  pub all_told : (nodes : List ℕ) (mails : List Mail) → Each (IsMember base) nodes → Q mails → Q (sent_all me nodes body mails)
-  unfolding sent_all
-  all_told [] mails of m = m
-  all_told (node ∷ nodes) mails of m = all_told nodes (sent me node body mails) of.1 (puts node mails of.0 m)
-
-  pub others_told : (nodes : List ℕ) (mails : List Mail) → Each (IsMember base) nodes → Q mails → Q (sent_others me nodes body mails)
-  unfolding sent_others
-  others_told [] mails of m = m
-  others_told (node ∷ nodes) mails of m = others_told nodes (cond (eqb node me) mails (sent me node body mails)) of.1 (either_way Q (eqb node me) mails (sent me node body mails) m (puts node mails of.0 m))
 
 -- nothing is reminded and nothing wished
 waits_none : (lock : Lock) (r : ReplicaState) → lock ≡ Free → waited_in lock r ≡ r
@@ -59,7 +48,7 @@ module _ (base : Base) (me : ℕ) (w : FixedWalk base me) (t : FixedAskParts bas
   last_said None r mails on e k = k
   last_said (Some command) r mails on e k =
       let of : Each (IsMember base) (members r) = subst (λ (core : Core). Each (IsMember base) core.members) (sym (w.frame (r, mails) k).fixed.group) (set_members base me w) in
-      others_told r.me base (λ ms. P (r, ms)) (Learn (name_of r) (next r - 1) command) (λ to ms m q. t.relearns to command r ms m on e q) (members r) mails of k
+      each_other_sent r.me (IsMember base) (λ ms. P (r, ms)) (Learn (name_of r) (next r - 1) command) (λ to ms m q. t.relearns to command r ms m on e q) (members r) mails of k
 
   again_by : (r : ReplicaState) (slot : ℕ) (set : List ℕ) (sets : List (List ℕ)) (mails : List Mail) (o : Option Command) → r.running ≡ true → Each (IsMember base) set → flying r slot ≡ o → P (r, mails)
       → ((more : List Mail) → P (r, more) → P (r, asked_again r (slot + 1) sets more))
@@ -67,7 +56,7 @@ module _ (base : Base) (me : ℕ) (w : FixedWalk base me) (t : FixedAskParts bas
   again_by r slot set sets mails None on of e k more = more mails k
   again_by r slot set sets mails (Some command) on of e k more =
       more (sent_all r.me (uncounted r slot set) (Accept (name_of r) r.leader.ballot slot command) mails)
-      (all_told r.me base (λ ms. P (r, ms)) (Accept (name_of r) r.leader.ballot slot command) (λ to ms m q. t.reasks to slot command r ms m on e q) (uncounted r slot set) mails (Each-filter (IsMember base) (λ node. not (has_counted slot node r.leader)) set of) k)
+      (each_sent r.me (IsMember base) (λ ms. P (r, ms)) (Accept (name_of r) r.leader.ballot slot command) (λ to ms m q. t.reasks to slot command r ms m on e q) (uncounted r slot set) mails (Each-filter (IsMember base) (λ node. not (has_counted slot node r.leader)) set of) k)
 
   again_said : (r : ReplicaState) (slot : ℕ) (sets : List (List ℕ)) (mails : List Mail) → r.running ≡ true → OfMembers base me w sets → P (r, mails) → P (r, asked_again r slot sets mails)
   unfolding asked_again
@@ -92,4 +81,4 @@ module _ (base : Base) (me : ℕ) (w : FixedWalk base me) (t : FixedAskParts bas
 
 module _ (base : Base) (me : ℕ) (w : FixedWalk base me) (t : FixedTickParts base me w.P) where
   pub ticks : (drawer : Drawer) (place : Place) → w.P place → w.P (tick_row false drawer place)
-  ticks drawer place k = ticks_once base me w (record { reasks = t.reasks; relearns = t.relearns }) w.P (λ other q. q) t.elected drawer place k
+  ticks drawer place k = ticks_once base me w t.asks w.P (λ other q. q) t.elected drawer place k

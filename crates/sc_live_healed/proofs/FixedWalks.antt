@@ -10,12 +10,16 @@ use Rattle.sc_law_walks.specs.Definitions.{GoesOn}
 use Rattle.sc_law_walks.proofs.Lemmas.{entered_place, elected_place}
 use Rattle.sc_live_healed.specs.Definitions.{IsFixedReplica, KeepsBallots, IsFixedBody}
 
+-- a node is a member of the group
+abbrev pub IsMember : Base → ℕ → Type 0
+IsMember base node = is_member base.core.members node ≡ true
+
 -- A group as it is at its birth: it is not locked and not gone, its first leader is a member, and so is this node.
 pub record IsFresh (base : Base) (me : ℕ) : Type 0 where
   pub free : base.core.lock ≡ Free
   pub stands : base.core.gone ≡ None
-  pub first : is_member base.core.members base.core.first ≡ true
-  pub member : is_member base.core.members me ≡ true
+  pub first : IsMember base base.core.first
+  pub member : IsMember base me
 
 -- a mail that a member sends, of a group that is not reshaped
 abbrev pub IsSaid : Base → ℕ → Mail → Type 0
@@ -27,10 +31,6 @@ pub record IsFixedPlace (base : Base) (me : ℕ) (place : Place) : Type 0 where
   pub fixed : IsFixedReplica base place.0
   pub ballots : KeepsBallots base place.0
   pub said : Each (IsSaid base me) place.1
-
--- a node is a member of the group
-abbrev pub IsMember : Base → ℕ → Type 0
-IsMember base node = is_member base.core.members node ≡ true
 
 -- One invariant of replicas of such a group with their mails: what holds of the replica that a row finds, what holds of replicas and mails, what is heard, and that each part of a row that is no tick keeps it.
 pub record FixedWalk (base : Base) (me : ℕ) : Type 1 where
@@ -88,5 +88,4 @@ pub record FixedAskParts (base : Base) (me : ℕ) (P : Place → Type 0) : Type 
 -- That ticks keep the invariant: elections, and what is said again.
 pub record FixedTickParts (base : Base) (me : ℕ) (P : Place → Type 0) : Type 0 where
   pub elected : (r : ReplicaState) (mails : List Mail) → settled r ≡ false → P (r, mails) → P (elected_place (r, mails))
-  pub reasks : (to slot : ℕ) (command : Command) (r : ReplicaState) (mails : List Mail) → IsMember base to → r.running ≡ true → flying r slot ≡ Some command → P (r, mails) → P (r, sent r.me to (Accept (name_of r) r.leader.ballot slot command) mails)
-  pub relearns : (to : ℕ) (command : Command) (r : ReplicaState) (mails : List Mail) → IsMember base to → settled r ≡ true → entry_at (next r - 1) r.log ≡ Some command → P (r, mails) → P (r, sent r.me to (Learn (name_of r) (next r - 1) command) mails)
+  pub asks : FixedAskParts base me P

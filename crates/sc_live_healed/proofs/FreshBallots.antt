@@ -9,15 +9,16 @@ use Rattle.sc_actor.specs.declared.rows.Event.TheVariants.{Tick as TickEvent, Go
 use Rattle.sc_actor.specs.declared.rows.Input.TheVariants.{Tick, Go, Told as ToldInput}
 use Rattle.sc_actor.specs.Definitions.{mails, acted, input_of, value, IsStep}
 use Rattle.sc_actor.proofs.Lemmas.{lawful-induction, lawful-prefix, value-snoc, mails-snoc, find-who}
-use Rattle.sc_node_table.specs.Definitions.{NodeState, ReplicaState, name_of, group_of_mail, mailed, ticked, born_replica, born_replicas, slots_ahead, numbers_from}
+use Rattle.sc_node_table.specs.Definitions.{NodeState, ReplicaState, name_of, group_of_mail, mailed, ticked, born_replica, born_replicas, slots_ahead}
 use Rattle.sc_scenario.specs.declared.scenario.drafts.GroupLine.{GroupLine}
 use Rattle.sc_scenario.specs.declared.scenario.scenarios.Scenario.{Scenario}
-use Rattle.sc_scenario.specs.declared.scenario.scenarios.Asks.{Asks as Requests}
 use Rattle.sc_scenario.specs.scenario.Definitions.{IsBounded, base_at, bases_up_to}
-use Rattle.sc_meaning.specs.sound.Definitions.{Lawful, Player, as_nodes, births, client_seat, client_seats, node_seat, player_table, route_of, schedule, system_of}
+use Rattle.sc_meaning.specs.sound.Definitions.{Lawful, Player, as_nodes, births, player_table, schedule, system_of}
 use Rattle.sc_live_orderly.specs.Definitions.{is_told}
+use Rattle.sc_law_groups.proofs.WholeProofs.Lemmas.{group_place}
+use Rattle.sc_live_healed.proofs.SeatBirths.{seat_born}
 use Rattle.sc_live_healed.proofs.FixedNodes.{AreFresh, MayTake}
-use Rattle.sc_live_healed.proofs.FixedBirths.{groups_fresh, place_of}
+use Rattle.sc_live_healed.proofs.FixedBirths.{groups_fresh}
 use Rattle.sc_live_healed.proofs.FixedJournals.{Rows, IsOf, IsFixedPlayer, Brings, AreUntold, untold_parts, brings, given}
 use Rattle.sc_live_healed.proofs.MovedReplicas.{AsksWithin, Brings as BringsBallot, within_more}
 use Rattle.sc_live_healed.proofs.NearJournals.{IsNearJournal, journal_near}
@@ -134,27 +135,12 @@ module _ (words : ℕ → ℕ → ℕ × ℕ) (scenario : Scenario) (bounded : I
 
   one_base : OneNamed base_name base.core.id bases
   one_base =
-      let p = place_of scenario bounded base among in
+      let p = group_place scenario bounded base among in
       subst (λ (bs : List Base). OneNamed base_name base.core.id bs) (sym bounded.groups)
       (subst (λ (b : Base). OneNamed base_name b.core.id (bases_up_to bounded.starts (length bounded.starts))) p.2 (one_before bounded.starts (length bounded.starts) p.0 p.1))
 
-  nodes_born : (numbers : List ℕ) → Each IsBornSeat (map (node_seat as_nodes bases scenario.policy) numbers)
-  nodes_born [] = tt
-  nodes_born (n ∷ numbers) = ((rounds_born n bases, born_one base.core.id n bases one_base), nodes_born numbers)
-
-  clients_born : (some : List Base) (clients : List Requests) → Each IsBornSeat (client_seats some clients)
-  clients_born [] clients = tt
-  clients_born (b ∷ some) clients = by clients
-    where
-      by : (cs : List Requests) → Each IsBornSeat (map (client_seat (route_of b)) cs)
-      by [] = tt
-      by (c ∷ cs) = ((tt, tt), by cs)
-
   seats_born : (seat : Seat Player) → IsOf scenario seat → IsBornSeat seat
-  seats_born seat is_of =
-      Each-among IsBornSeat (births as_nodes scenario) seat
-      (Each-append IsBornSeat (map (node_seat as_nodes bases scenario.policy) (numbers_from 1 scenario.nodes)) (client_seats bases scenario.clients) (nodes_born (numbers_from 1 scenario.nodes)) (clients_born bases scenario.clients))
-      (find_found (λ (other : Seat Player). eqb other.who seat.who) (births as_nodes scenario) seat is_of).0
+  seats_born = seat_born IsBornSeat scenario (λ n. (rounds_born n bases, born_one base.core.id n bases one_base)) (λ b a c. (tt, tt))
 
   -- ---- seats
 

@@ -12,15 +12,14 @@ use Rattle.sc_node_table.specs.Definitions.{NodeState, ReplicaState, Place, name
 use Rattle.sc_law_walks.proofs.Lemmas.{either_way}
 use Rattle.sc_actor.specs.Definitions.{mails, numbered, acted, input_of, value, IsStep}
 use Rattle.sc_actor.proofs.Lemmas.{lawful-induction, value-snoc, mails-snoc}
-use Rattle.sc_client_table.specs.table.Definitions.{Client as ClientState}
-use Rattle.sc_client_table.proofs.TableProofs.TurnLemmas.{sends_in_turn}
-use Rattle.sc_node_table.specs.Definitions.{born_replica, born_replicas, numbers_from}
+use Rattle.sc_client_table.proofs.TableProofs.TurnLemmas.{each_request}
+use Rattle.sc_node_table.specs.Definitions.{born_replica, born_replicas}
 use Rattle.sc_paxos_law.proofs.Lemmas.{place_among}
 use Rattle.sc_scenario.specs.declared.scenario.scenarios.Scenario.{Scenario}
-use Rattle.sc_scenario.specs.declared.scenario.scenarios.Asks.{Asks as Requests}
 use Rattle.sc_scenario.specs.scenario.Definitions.{IsBounded}
-use Rattle.sc_meaning.specs.sound.Definitions.{Lawful, Player, as_nodes, births, client_seat, client_seats, node_seat, player_table, route_of, schedule, system_of}
+use Rattle.sc_meaning.specs.sound.Definitions.{Lawful, Player, as_nodes, player_table, schedule, system_of}
 use Rattle.sc_live_orderly.specs.Definitions.{is_told}
+use Rattle.sc_live_healed.proofs.SeatBirths.{seat_born}
 use Rattle.sc_live_healed.proofs.FixedJournals.{Rows, IsFixedPlayer, IsOf, IsFixedJournal, Brings, fresh, given, first_fixed, brings, next_fixed, AreUntold, untold_parts}
 use Rattle.sc_live_healed.specs.Definitions.{IsFixedBody, IsFixedMail, IsFixedNode}
 use Rattle.sc_live_healed.proofs.FixedNodes.{AreFresh, MayTake, One, into, one_ticks}
@@ -118,26 +117,11 @@ module _ (g : Growth) (words : ℕ → ℕ → ℕ × ℕ) (scenario : Scenario)
   abbrev IsBornSeat : Seat Player → Type 0
   IsBornSeat seat = PlayerGrown g (g.bound_at 0) seat.actor
 
-  nodes_born : (numbers : List ℕ) → Each IsBornSeat (map (node_seat as_nodes bases scenario.policy) numbers)
-  nodes_born [] = tt
-  nodes_born (n ∷ numbers) = (born_all n bases, nodes_born numbers)
-
-  clients_born : (some : List Base) (clients : List Requests) → Each IsBornSeat (client_seats some clients)
-  clients_born [] clients = tt
-  clients_born (base ∷ some) clients = by clients
-    where
-      by : (cs : List Requests) → Each IsBornSeat (map (client_seat (route_of base)) cs)
-      by [] = tt
-      by (c ∷ cs) = (tt, by cs)
-
-  seats_born : Each IsBornSeat (births as_nodes scenario)
-  seats_born = Each-append IsBornSeat (map (node_seat as_nodes bases scenario.policy) (numbers_from 1 scenario.nodes)) (client_seats bases scenario.clients) (nodes_born (numbers_from 1 scenario.nodes)) (clients_born bases scenario.clients)
-
   first_near : IsGrownJournal g scenario (g.bound_at 0) []
   first_near = record {
     fixed = first_fixed words scenario bounded off;
     sent = tt;
-    players = λ seat e. Each-among IsBornSeat (births as_nodes scenario) seat seats_born (find_found (λ (other : Seat Player). eqb other.who seat.who) (births as_nodes scenario) seat e).0;
+    players = seat_born IsBornSeat scenario (λ n. born_all n bases) (λ base a c. tt);
   }
 
   -- ---- one row more
@@ -149,15 +133,6 @@ module _ (g : Growth) (words : ℕ → ℕ → ℕ × ℕ) (scenario : Scenario)
     abbrev Acted : Player × List Mail → Type 0
     Acted p = PlayerGrown g (bound + g.adds) p.0 × Each (λ (mail : Mail). g.Names (bound + g.adds) mail.body) p.1
 
-    client_acts : (client : ClientState) (input : Input Mail OrderLine) → Acted (player_table (Client client) input)
-    client_acts client input = (
-      tt,
-      elim (sends_in_turn client input).sends [
-        | inl none ↦ subst (λ (ms : List Mail). Each (λ (mail : Mail). g.Names (bound + g.adds) mail.body) ms) (sym none) tt
-        | inr one ↦ subst (λ (ms : List Mail). Each (λ (mail : Mail). g.Names (bound + g.adds) mail.body) ms) (sym one.4) (g.requests (bound + g.adds) _ _ _ _, tt)
-      ],
-    )
-
     stays : (p : Player) → PlayerGrown g bound p → Acted (p, [])
     stays (Node node) n = (Each-weaker (λ (r : ReplicaState). g.Near bound r) (λ (r : ReplicaState). g.Near (bound + g.adds) r) (λ r b. g.near_more bound r b) node.replicas n, tt)
     stays (Client client) n = (tt, tt)
@@ -168,7 +143,7 @@ module _ (g : Growth) (words : ℕ → ℕ → ℕ × ℕ) (scenario : Scenario)
 
     takes : (who : ℕ) (p : Player) (input : Input Mail OrderLine) → MayTake bases who input → ((mail : Mail) → input ≡ Got mail → g.Names bound mail.body) → IsFixedPlayer bases who p → PlayerGrown g bound p → Acted (player_table p input)
     takes who (Node node) input may names k n = steps_near g bases (fresh words scenario bounded off) node k.2 bound input k.1 (subst (λ (m : ℕ). MayTake bases m input) (sym k.0) may) names n
-    takes who (Client client) input may names k n = client_acts client input
+    takes who (Client client) input may names k n = (tt, each_request (λ body. g.Names (bound + g.adds) body) (g.requests (bound + g.adds)) client input)
 
     acts : (sent : List Mail) (who : ℕ) (p : Player) (event : Event OrderLine) → Each (IsFixedMail bases) sent → Names sent → Brings sent who event → IsFixedPlayer bases who p → PlayerGrown g bound p → Acted (acted player_table p (input_of sent event))
     acts sent who p (Deliver number) s names b k n =

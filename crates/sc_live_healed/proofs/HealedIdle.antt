@@ -14,7 +14,7 @@ use Rattle.sc_node_table.specs.Definitions.{NodeState, ReplicaState, name_of, re
 use Rattle.sc_scenario.specs.declared.scenario.scenarios.Scenario.{Scenario}
 use Rattle.sc_scenario.specs.scenario.Definitions.{IsValid, IsBounded}
 use Rattle.sc_scenario.proofs.ScenarioProofs.Lemmas.{valid_scenarios_are_bounded}
-use Rattle.sc_meaning.specs.sound.Definitions.{Lawful, Player, as_nodes, births, line_of, player_table, schedule, system_of}
+use Rattle.sc_meaning.specs.sound.Definitions.{Lawful, Player, as_nodes, births, line_of, player_table, schedule, system_of, Whole}
 use Rattle.sc_live_orderly.specs.Definitions.{Ticks, Turn, turn_lines, HasTurns}
 use Rattle.sc_live_orderly.proofs.TakenTurns.{turns_taken}
 use Rattle.sc_live_healed.proofs.FixedNodes.{AreFresh, IsOne, name_one}
@@ -34,7 +34,7 @@ use Rattle.sc_live_healed.proofs.SettledTurns.{HasTicked, turns_settle}
 use Rattle.sc_live_healed.proofs.ShorterSchedules.{WholePrefix, whole_prefix}
 use Rattle.sc_live_healed.proofs.UntoldRows.{rows_untold}
 use Rattle.sc_live_healed.proofs.VotesOfTurns.{IsTicked}
-use Rattle.sc_live_healed.specs.Definitions.{lives, HasLivingMajorities, NodeTurn, ClientTurn, client_lines, IsHealed, IsIdle, IsSettledOrStopped, IsIdleLeader, IsIdleStore, IsAtEnd, HealedStoresIdle}
+use Rattle.sc_live_healed.specs.Definitions.{lives, HasLivingMajorities, NodeTurn, ClientTurn, client_lines, IsHealed, IsIdle, IsSettledOrStopped, IsIdleLeader, IsIdleStore, IsAtEnd, StaysIdle}
 
 -- one of some that are named once is found by its name
 found_once : (name : Draw) (replicas : List ReplicaState) (r : ReplicaState) → OneNamed name_of name replicas → Among r replicas → name_of r ≡ name → replica_of name replicas ≡ Some r
@@ -171,8 +171,9 @@ module _ (words : ℕ → ℕ → ℕ × ℕ) (scenario : Scenario) (journal : R
         (subst (λ ls. unsettled system ls part.rows ≡ false) turned part.uncut) in
         idle_by taken.0 taken.1
 
--- Behind the sweep, and behind each turn of a client, each replica that runs at a living node is settled and idle.
-pub healed_stores_stay_idle : HealedStoresIdle
+-- The first half of the law: behind the sweep, and behind each turn of a client, each replica that runs at a living node is settled and idle.
+pub healed_stores_stay_idle : (words : ℕ → ℕ → ℕ × ℕ) (scenario : Scenario) (journal : Rows) (healed : IsHealed scenario) → IsValid scenario → HasLivingMajorities scenario → Lawful as_nodes words scenario journal → Whole as_nodes words scenario journal
+    → unsettled (system_of as_nodes words scenario) (schedule scenario) journal ≡ false → length journal ≤ 2 ^ 28 → StaysIdle words scenario healed journal
 healed_stores_stay_idle words scenario journal healed valid majorities lawful whole uncut few done rest e =
     let system : System Player Mail OrderLine = system_of as_nodes words scenario in
     let first : List (Line OrderLine) = map line_of (lines_to healed.before healed.most healed.sweep done) in

@@ -1,13 +1,13 @@
 -- The walk of a request that a leader holds: each row of mail leaves it held, or its client answered.
-use Rattle.std.proofs.Common.{◌≡◌, ℕ, ◌+◌, ◌<◌, ◌≤◌, ◌&&◌, not, Bool, true, false, true≢false, List, [], ◌∷◌, ◌++◌, length, Option, Some, None, ◌⊎◌, inl, inr, refl, sym, ◌∙◌, ap, subst, arith}
+use Rattle.std.proofs.Common.{◌≡◌, ℕ, ◌+◌, ◌<◌, ◌≤◌, Bool, true, false, true≢false, List, [], ◌∷◌, ◌++◌, length, Option, Some, None, ◌⊎◌, inl, inr, refl, sym, ◌∙◌, ap, subst, arith}
 use Rattle.std.proofs.lemmas.Bool.{cond_both, leb-false}
-use Rattle.sc_base.specs.Definitions.{Among, Each, same_ballot, is_member, client_actor}
-use Rattle.sc_node_table.specs.Values.{Ballot, Draw, Base, Core, Op, Reply, Command, Noop, Call, AnswerBody, Value, Mail, MailBody, Request, Answer, Accept, Learn, Flight, Report}
+use Rattle.sc_base.specs.Definitions.{Among, Each, client_actor}
+use Rattle.sc_node_table.specs.Values.{Ballot, Draw, Base, Core, Op, Reply, Command, Noop, Call, AnswerBody, Value, Mail, MailBody, Request, Answer, Accept, Learn, Flight}
 use Rattle.sc_group_table.specs.machine.Definitions.{Group, applied}
 use Rattle.sc_words.specs.paxos.Definitions.{LeaderState, with_flight_at, without_flight, promise_counted, counted, below, with_voters, after_promise, after_accept}
 use Rattle.sc_node_table.specs.Definitions.{ReplicaState, Place, next, jumped, with_slot, without_request, taken_at, sent, sent_all, ended, at_slot, without_slot, stopped, offered, entered, answer_of, answered_or_put_back, put_back, landed, hinted, forgotten, request_before, queued_number, slots_ahead}
 use Rattle.sc_law_walks.proofs.Queues.{turned_sets}
-use Rattle.sc_law_walks.proofs.Lemmas.{either_way, back_any, entered_next, cleared, entered_place}
+use Rattle.sc_law_walks.proofs.Lemmas.{back_any, entered_me, entered_group, entered_next, cleared, entered_place, promise_flights}
 use Rattle.sc_words.proofs.PaxosProofs.Lemmas.{Each-among}
 use Rattle.sc_live_plain.proofs.RowsProofs.SlotCounts.{at_found, entries_at}
 use Rattle.sc_live_plain.proofs.LeadersProofs.LeadingReplicas.{flights_at}
@@ -15,7 +15,7 @@ use Rattle.sc_live_plain.proofs.RowsProofs.RepeatedMail.{mail_of, among_push, la
 use Rattle.sc_live_healed.specs.Definitions.{IsFixedCommand, IsFixedRequest}
 use Rattle.sc_live_healed.proofs.FixedWalks.{FixedWalk}
 use Rattle.sc_live_healed.proofs.FixedParts.{ready_fixed, never_turned, applied_core}
-use Rattle.sc_live_healed.proofs.EnteredPlaces.{entered_group, learnt_is, counted_is, learning}
+use Rattle.sc_live_healed.proofs.EnteredPlaces.{learnt_is, counted_is, learning}
 use Rattle.sc_live_healed.proofs.TakenRequests.{is_call, call_so, IsAtMost, AreApart, IsHeld, Queued, Flying, Ready, reply_mail, back_held, without_ours}
 use Rattle.sc_live_healed.proofs.ApartSlots.{IsCleared, apart_flown, apart_cleared, apart_voted, apart_decided, counts_by, decides, flown_held, call_flown, voted_held, decided_held}
 use Rattle.sc_live_healed.proofs.HeldRequests.{HasFew, HeldOr, held_on, held_push, held_stops, held_offers, enters_leader, counted_other, learnt_held, learnt_apart, learnt_runs, learnt_mails, back_runs}
@@ -41,10 +41,6 @@ filler_so (Some answer) r mails = refl
 same_backlog : (client seq : ℕ) (op : Op) (r other : ReplicaState) → other.backlog ≡ r.backlog → (put_back (Call client seq op) other).backlog ≡ (put_back (Call client seq op) r).backlog
 unfolding put_back
 same_backlog client seq op r other e = ap (λ (cs : List Command). request_before (queued_number cs client) client seq (Call client seq op) cs) e
-
-pub enters_me : (command : Command) (r : ReplicaState) → (entered command r).me ≡ r.me
-unfolding entered forgotten
-enters_me command r = refl
 
 -- a command is a request or a Noop
 fixed_cases : (base : Base) (P : Command → Type 0) (command : Command) → IsFixedCommand base command → ((client seq : ℕ) (op : Op) → P (Call client seq op)) → P Noop → P command
@@ -94,7 +90,7 @@ module _ (base : Base) (me client seq : ℕ) (Elsewhere : Type 0) (f : FixedWalk
 
     -- the node and the group stay
     me_so : e0.me ≡ me
-    me_so = enters_me command r ∙ (f.frame (r, mails) k.0).me_is
+    me_so = entered_me command r ∙ (f.frame (r, mails) k.0).me_is
 
     name_so : e0.group.core.id ≡ base.core.id
     name_so = ap (λ (g : Group). g.core.id) (entered_group command r) ∙ ap (λ (core : Core). core.id) (applied_core base command r.group fixed) ∙ name_is (r, mails) k.0
@@ -268,8 +264,6 @@ module _ (base : Base) (me client seq : ℕ) (Elsewhere : Type 0) (f : FixedWalk
       )
 
   -- a promise is counted apart from the flights
-  pub polled_same : (from : ℕ) (ballot : Ballot) (reports : List (Report Command)) (l : LeaderState Command) → (promise_counted from ballot reports l).1.flights ≡ l.flights
-  polled_same from ballot reports l = either_way (λ (x : Bool × LeaderState Command). x.1.flights ≡ l.flights) (same_ballot ballot l.ballot && not (is_member l.promisers from)) _ _ refl refl
 
   -- the head of the queue is a request of the group
   pub head_request : (command : Command) (backlog : List Command) (r : ReplicaState) (mails : List Mail) → r.backlog ≡ command ∷ backlog → f.P (r, mails) → IsFixedRequest base command
@@ -338,7 +332,7 @@ module _ (base : Base) (me client seq : ℕ) (Elsewhere : Type 0) (f : FixedWalk
     );
     polled = λ from group ballot reports r mails on h k. (
       f.polled from group ballot reports r mails on h.0 k.0,
-      unchanged r (record r { leader = (promise_counted from ballot reports r.leader).1 }) mails mails refl (polled_same from ballot reports r.leader) refl refl refl (λ on. on) (λ mail a. a) k.1,
+      unchanged r (record r { leader = (promise_counted from ballot reports r.leader).1 }) mails mails refl (promise_flights from ballot reports r.leader) refl refl refl (λ on. on) (λ mail a. a) k.1,
     );
     counts = λ from group ballot slot set count r mails on h e k. (
       f.counts from group ballot slot set count r mails on h.0 e k.0,

@@ -43,7 +43,7 @@ module _ (words : ℕ → ℕ → ℕ × ℕ) (scenario : Scenario) (bounded : I
   turns_end_quiet rows [] after t = subst (λ (rs : Rows). is_quiet (S words scenario bounded off alive) rs ≡ true) t.1 t.0
   turns_end_quiet rows (turn ∷ turns) after t = turns_end_quiet t.0 turns after t.2
 
-  pub turns_leave_idle : (rows : Rows) (turns : List Turn) (after : Rows) → Has rows turns after → ((more later : Rows) → after ≡ (rows ++ more) ++ later → Lets (rows ++ more)) → Lets after
+  turns_leave_idle : (rows : Rows) (turns : List Turn) (after : Rows) → Has rows turns after → ((more later : Rows) → after ≡ (rows ++ more) ++ later → Lets (rows ++ more)) → Lets after
       → IsTicked words scenario bounded off alive are_nodes seat is_of living turns → (node : NodeState) → value player_table seat after ≡ Node node
       → (base : Base) → Among base scenario.groups → LivingMajority lives base.core.members → (r : ReplicaState) → replica_of base.core.id node.replicas ≡ Some r → settled r ≡ true → IsIdle r
   turns_leave_idle rows turns after t lets last ticked node e base a most r found on =

@@ -1,6 +1,5 @@
 -- The lemmas of this crate that others cite, under one name.
 pub use Rattle.sc_live_healed.proofs.FixedWalks.{IsFresh, IsMember, IsSaid, IsFixedPlace, FixedWalk, FixedTickParts}
-pub use Rattle.sc_live_healed.proofs.FixedEntries.{FixedEntry, entry_keeps}
 pub use Rattle.sc_live_healed.proofs.FixedPlaces.{mailed_fixed, ticked_fixed}
 pub use Rattle.sc_live_healed.proofs.FixedBesides.{FixedFacts, FixedStates, FixedTickStates, both_walk, both_ticks}
 pub use Rattle.sc_live_healed.proofs.FixedNodes.{AreFresh, MayTake, IsOne, steps_fixed}

@@ -26,6 +26,7 @@ pub mod IdleReplicas
 pub mod Lemmas
 pub mod FixedBirths
 pub mod FixedClients
+pub mod SeatBirths
 pub mod FixedJournals
 pub mod HarmlessRows
 pub mod UntoldRows
@@ -35,6 +36,7 @@ pub mod VotesInTurns
 pub mod VotesOfTurns
 pub mod IdleNodes
 pub mod FixedBesides
+pub mod UnqueuedEntries
 pub mod MovedReplicas
 pub mod PollAnswers
 pub mod PollRows
@@ -77,6 +79,5 @@ pub mod LoneTurnClients
 pub mod LoneTurnRows
 pub mod LoneTurnStarts
 pub mod AnsweredTurns
-pub mod RemainingTurns
 pub mod CrashedNodes
 pub mod AnsweredStores

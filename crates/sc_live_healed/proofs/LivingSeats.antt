@@ -1,7 +1,7 @@
 -- The actors of a scenario by their numbers: each node is found by its number, what is a node is one of these, and who lives may get mail.
-use Rattle.std.proofs.Common.{◌≡◌, ℕ, zero, suc, ◌+◌, ◌*◌, ◌<◌, ◌≤◌, ◌&&◌, not, nat_le, eqb, Bool, true, false, cond, List, [], ◌∷◌, ◌++◌, map, filter, find, length, Option, Some, None, inl, inr, refl, sym, ◌∙◌, ap, subst, arith}
+use Rattle.std.proofs.Common.{◌≡◌, ℕ, ◌*◌, ◌≤◌, ◌&&◌, not, nat_le, eqb, Bool, true, false, cond, List, [], ◌∷◌, ◌++◌, map, filter, length, Option, Some, None, inl, inr, refl, sym, ◌∙◌, ap, subst, arith}
 use Rattle.std.specs.List.{list_any}
-use Rattle.std.proofs.lemmas.Bool.{cond_both, and_parts, eqb-true, eq-eqb, leb-true, le-leb, true≢false, cases_Bool, ltb-true}
+use Rattle.std.proofs.lemmas.Bool.{cond_both, and_parts, eqb-true, leb-true, le-leb, cases_Bool, ltb-true}
 use Rattle.sc_base.specs.Definitions.{Among, is_majority, is_member, votes_of, most_nodes}
 use Rattle.sc_words.proofs.PaxosProofs.Lemmas.{Each-among}
 use Rattle.sc_base.proofs.Lemmas.{and_both}
@@ -15,24 +15,12 @@ use Rattle.sc_scenario.specs.declared.scenario.scenarios.Asks.{Asks as Requests}
 use Rattle.sc_scenario.specs.scenario.Definitions.{IsBounded}
 use Rattle.sc_meaning.specs.sound.Definitions.{Lawful, Player, as_nodes, births, client_seat, client_seats, node_seat, player_table, route_of, schedule, system_of}
 use Rattle.sc_live_orderly.proofs.Lemmas.{is_born-from}
+use Rattle.sc_paxos_law.proofs.Leading.{counts_within}
+use Rattle.sc_live_plain.proofs.RowsProofs.NodeSeats.{seat_in}
 use Rattle.sc_live_healed.proofs.FixedJournals.{Rows, IsOf}
 use Rattle.sc_live_healed.proofs.HealedLines.{living_spared}
-use Rattle.sc_live_healed.proofs.LivingMajorities.{passes_more}
 use Rattle.sc_live_healed.proofs.UntoldRows.{rows_spare}
 use Rattle.sc_live_healed.specs.Definitions.{lives, HasLivingMajorities, LivingMajority}
-
--- ---- nodes by number
-
-module _ (groups : List Base) (policy : Bool) where
-  seat_in : (count from who : ℕ) (others : List (Seat Player)) → from ≤ who → who < from + count → find (λ (seat : Seat Player). eqb seat.who who) (map (node_seat as_nodes groups policy) (numbers_from from count) ++ others) ≡ Some (node_seat as_nodes groups policy who)
-  seat_in zero from who others low high = absurd (omega (arith, low, high))
-  seat_in (suc count) from who others low high =
-      cond_both (eqb from who) (Some (node_seat as_nodes groups policy from)) _ (λ (o : Option (Seat Player)). o ≡ Some (node_seat as_nodes groups policy who))
-      (λ t. ap (λ n. Some (node_seat as_nodes groups policy n)) (eqb-true from who t))
-      (λ f. seat_in count (from + 1) who others (above from who low (λ e. absurd (true≢false (sym (eq-eqb from who e) ∙ f)))) (omega (arith, high)))
-    where
-      above : (x y : ℕ) → x ≤ y → (x ≡ y → ⊥) → x + 1 ≤ y
-      above x y le ne = omega (arith, le, ne)
 
 -- ---- clients stay clients
 
@@ -134,5 +122,5 @@ module _ (scenario : Scenario) where
   living_majority most base a =
       let one = Each-among (λ (b : Base). is_majority b.core.members (filter (lives scenario) b.core.members) ≡ true) scenario.groups base most a in
       let many = ltb-true (length base.core.members) (2 * votes_of base.core.members (filter (lives scenario) base.core.members)) one in
-      let fewer = passes_more (is_member (filter (lives scenario) base.core.members)) (lives scenario) base.core.members (λ x a k. kept_lives (lives scenario) base.core.members x k) in
+      let fewer = counts_within (is_member (filter (lives scenario) base.core.members)) (lives scenario) base.core.members (λ x a k. kept_lives (lives scenario) base.core.members x k) in
       omega (arith, many, fewer)

@@ -17,9 +17,9 @@ use Rattle.sc_live_orderly.specs.Definitions.{pending_mail, mail_with, TakesLowe
 use Rattle.sc_live_plain.proofs.Lemmas.{some_is}
 use Rattle.sc_live_plain.proofs.PlainProofs.PlainSteps.{to_numbers}
 use Rattle.sc_live_healed.proofs.FixedWalks.{IsMember}
-use Rattle.sc_live_healed.proofs.FixedBirths.{place_of}
 use Rattle.sc_live_healed.proofs.FixedJournals.{Rows, IsOf}
-use Rattle.sc_live_healed.proofs.LivingActors.{same_crashed}
+use Rattle.sc_live_orderly.proofs.PendingMail.{crashed_same as one_crashed}
+use Rattle.sc_law_groups.proofs.WholeProofs.Lemmas.{group_place}
 
 -- ---- mail with copies
 
@@ -68,7 +68,7 @@ module _ (words : ℕ → ℕ → ℕ × ℕ) (scenario : Scenario) (bounded : I
   -- the members of a group are nodes of the scenario
   member_up : (base : Base) → Among base scenario.groups → (node : ℕ) → IsMember base node → IsUpTo scenario.nodes node
   member_up base a node m =
-      let p = place_of scenario bounded base a in
+      let p = group_place scenario bounded base a in
       subst (λ (b : Base). IsMember b node → IsUpTo scenario.nodes node) p.2
       (λ is. (let line = bounded.each p.0 (record { lo = 0; members = [] }) p.1 in Each-among (IsUpTo scenario.nodes) _ node (Each-from_All (IsUpTo scenario.nodes) _ line.members_in) (member-among _ node is))) m
 
@@ -125,7 +125,7 @@ module _ (words : ℕ → ℕ → ℕ × ℕ) (scenario : Scenario) (bounded : I
         ∙ cond-false (eqb row.who other.who) (acted player_table (value player_table other rows) (input_of (mails rows) row.event)).0 (value player_table other rows) (ne_eqb row.who other.who (λ e. apart (sym row_who ∙ e)))
 
     pub crashed_same : (who : ℕ) → has_crashed (rows ++ row ∷ []) who ≡ has_crashed rows who
-    crashed_same who = same_crashed S who rows (row ∷ []) (ap (λ (e : Event OrderLine). is_crash e) event_is, tt)
+    crashed_same who = one_crashed rows row (ap (λ (e : Event OrderLine). is_crash e) event_is) who
 
     pub rest_stays : (x : Mail) → Among x t.others → Among x (pending (rows ++ row ∷ []))
     rest_stays x a = subst (Among x) (sym t.then_) (Among-left x t.others (filter (λ (m : Mail). may_get (numbers_of S.births) rows m.to) row.sent) a)

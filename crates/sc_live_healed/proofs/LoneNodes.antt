@@ -1,12 +1,14 @@
 -- What a node does with one mail while one client asks alone.
 use Rattle.std.proofs.Common.{◌≡◌, ℕ, Bool, true, false, true≢false, cond, List, [], ◌∷◌, Option, Some, None, ◌⊎◌, inl, inr, refl, sym, ◌∙◌, ap, subst}
-use Rattle.std.proofs.lemmas.Bool.{cond_both, cond-true, cond-false, cases_Bool}
+use Rattle.std.proofs.lemmas.Bool.{cond_both, cond-false, cases_Bool}
 use Rattle.sc_base.specs.Definitions.{Among, Each, same_draw}
 use Rattle.sc_base.proofs.Lemmas.{draw_is, same_name}
 use Rattle.sc_words.proofs.PaxosProofs.Lemmas.{Each-among, find_found}
 use Rattle.sc_node_table.specs.Values.{Draw, Op, Base, Core, Command, AnswerBody, Got, Mail, MailBody, Request}
 use Rattle.sc_node_table.specs.Definitions.{NodeState, ReplicaState, Place, name_of, replica_of, with_replica, mailed, node_table, may_come, group_of_mail}
 use Rattle.sc_law_walks.proofs.Lemmas.{either_way}
+use Rattle.sc_meaning.proofs.EntriesProofs.Lemmas.{other_name}
+use Rattle.sc_live_steps.proofs.CalmProofs.Lemmas.{put_found}
 use Rattle.sc_live_healed.specs.Definitions.{IsFixedMail, IsFixedNode, IsFixedReplica, TakesSlots, AllTakeSlots}
 use Rattle.sc_live_healed.proofs.FixedNodes.{AreFresh}
 use Rattle.sc_live_healed.proofs.NodeMail.{TakesMail, PassesMail, mail_taken}
@@ -17,24 +19,13 @@ use Rattle.sc_live_healed.proofs.LoneMail.{apart_of, unready_of, Tells, Finds, H
 
 -- ---- replicas by name
 
-not_same : (a b : Draw) → (a ≡ b → ⊥) → same_draw a b ≡ false
-not_same a b other = elim (cases_Bool (same_draw a b)) [ inl t ↦ absurd (other (draw_is a b t)) | inr f ↦ f ]
-
--- the replica that is put in place is found
-put_found : (group : Draw) (new r : ReplicaState) (replicas : List ReplicaState) → name_of new ≡ group → replica_of group replicas ≡ Some r → replica_of group (with_replica group new replicas) ≡ Some new
-put_found group new r [] same e = cc
-put_found group new r (x ∷ replicas) same e =
-    cond_both (same_draw (name_of x) group) (new ∷ replicas) (x ∷ with_replica group new replicas) (λ (rs : List ReplicaState). replica_of group rs ≡ Some new)
-    (λ _. cond-true (same_draw (name_of new) group) (Some new) (replica_of group replicas) (same_name (name_of new) group same))
-    (λ f. cond-false (same_draw (name_of x) group) (Some x) (replica_of group (with_replica group new replicas)) f ∙ put_found group new r replicas same (sym (cond-false (same_draw (name_of x) group) (Some x) (replica_of group replicas) f) ∙ e))
-
 -- and others are found as before
 put_other : (group other : Draw) (new : ReplicaState) (replicas : List ReplicaState) → name_of new ≡ group → (group ≡ other → ⊥) → replica_of other (with_replica group new replicas) ≡ replica_of other replicas
 put_other group other new [] same apart = refl
 put_other group other new (x ∷ replicas) same apart =
     cond_both (same_draw (name_of x) group) (new ∷ replicas) (x ∷ with_replica group new replicas) (λ (rs : List ReplicaState). replica_of other rs ≡ replica_of other (x ∷ replicas))
-    (λ t. cond-false (same_draw (name_of new) other) (Some new) (replica_of other replicas) (not_same (name_of new) other (λ e. apart (sym same ∙ e)))
-    ∙ sym (cond-false (same_draw (name_of x) other) (Some x) (replica_of other replicas) (not_same (name_of x) other (λ e. apart (sym (draw_is (name_of x) group t) ∙ e)))))
+    (λ t. cond-false (same_draw (name_of new) other) (Some new) (replica_of other replicas) (other_name (name_of new) other (λ e. apart (sym same ∙ e)))
+    ∙ sym (cond-false (same_draw (name_of x) other) (Some x) (replica_of other replicas) (other_name (name_of x) other (λ e. apart (sym (draw_is (name_of x) group t) ∙ e)))))
     (λ _. ap (λ (o : Option ReplicaState). cond (same_draw (name_of x) other) (Some x) o) (put_other group other new replicas same apart))
 
 put_each : (P : ReplicaState → Type 0) (group : Draw) (new : ReplicaState) (replicas : List ReplicaState) → P new → Each P replicas → Each P (with_replica group new replicas)

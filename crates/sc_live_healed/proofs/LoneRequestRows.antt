@@ -15,13 +15,13 @@ use Rattle.sc_law_entries.specs.names.Definitions.{Opt}
 use Rattle.sc_law_entries.proofs.NamesProofs.EachFound.{Each-drop, opt_get, opt_slot, slot_with, slot_without, flight_without, voters_with}
 use Rattle.sc_law_refusal.proofs.HeldCommands as held
 use Rattle.sc_law_walks.proofs.Places.{cleared}
-use Rattle.sc_law_walks.proofs.Lemmas.{either_way, back_any, entered_place, entered_next, entry_is}
+use Rattle.sc_law_walks.proofs.Lemmas.{either_way, back_any, entered_group, entered_running, TableEntry, entry_holds, entered_place, entered_next, entry_is}
 use Rattle.sc_live_plain.proofs.RowsProofs.RepeatedMail.{mail_of, among_push, last_among, others_kept}
 use Rattle.sc_live_healed.specs.Definitions.{IsFixedCommand}
 use Rattle.sc_live_healed.proofs.FixedWalks.{FixedWalk}
-use Rattle.sc_live_healed.proofs.FixedEntries.{FixedEntry, entry_keeps}
+use Rattle.sc_live_healed.proofs.FixedEntries.{unreported, unspoken, none_joined}
 use Rattle.sc_live_healed.proofs.FixedParts.{opt_some, ready_fixed, applied_core}
-use Rattle.sc_live_healed.proofs.EnteredPlaces.{entered_group, counted_is, learning}
+use Rattle.sc_live_healed.proofs.EnteredPlaces.{counted_is, learning}
 use Rattle.sc_live_healed.proofs.TakenRequests.{is_call, call_so, IsAtMost}
 use Rattle.sc_live_healed.proofs.ApartSlots.{counts_by, decides}
 use Rattle.sc_live_healed.proofs.HeldRequestRows.{answers_so}
@@ -117,10 +117,6 @@ module _ (base : Base) (me client first seq : ℕ) (early : Bool) (Elsewhere : T
   )
   hidden_entered command r mails o (inr t) = inr t
 
-  entered_runs : (command : Command) (r : ReplicaState) → (entered command r).running ≡ r.running
-  unfolding entered forgotten
-  entered_runs command r = refl
-
   module _ (counted_ : Bool) (command : Command) (start : ReplicaState) (mine : counted_ ≡ true → Mine command) (teach : counted_ ≡ true → Other command → early ≡ false) where
     abbrev Q : Place → Type 0
     Q place = (place.0.group.core ≡ base.core) × (place.0.running ≡ start.running) × Alone place × (Other command → Hidden place)
@@ -138,14 +134,18 @@ module _ (base : Base) (me client first seq : ℕ) (early : Bool) (Elsewhere : T
           λ o. lone.hidden_same client first seq early Elsewhere r (put_back other r) mails same.5 (q.3 o),
         )
 
-    entry_parts : FixedEntry base counted_ command start Q
-    entry_parts = record {
+    entry_parts : IsFixedCommand base command → start.group.core ≡ base.core → TableEntry counted_ command start (λ place. L place) Q
+    entry_parts fixed same = record {
       Lost = λ other. start.running ≡ true → Mine other;
-      core_is = λ place q. q.0;
+      entered = λ mails k. (ap (λ (g : Group). g.core) (entered_group command start) ∙ applied_core base command start.group fixed ∙ same, entered_running command start, alone_entered command start mails k.0, λ o. hidden_entered command start mails o k.1);
       answers = λ who number op answer r mails t is e q. (let m = subst Mine is (mine t) in
           (q.0, q.1, lone.alone_push client first r mails (client_actor who) (Answer (name_of r) number answer) tt (ap client_actor m.0) q.2, λ o. lone.hidden_push client first seq early Elsewhere r mails (client_actor who) (Answer (name_of r) number answer) tt (q.3 o)));
       returned = λ r mails t q. goes_back command r mails (λ _. mine t) q;
-      teaches = λ to r mails t m q. (q.0, q.1, lone.alone_push client first r mails to (Learn (name_of r) (next start) command) tt tt q.2, λ o. lone.hidden_push client first seq early Elsewhere r mails to (Learn (name_of r) (next start) command) (teach t o, o) (q.3 o));
+      reports = λ result r mails is q. absurd (unreported base counted_ command start fixed same result is);
+      speaks = λ r mails q. unspoken base counted_ command start fixed same Q r mails q;
+      installs = λ to r mails t new q. absurd (none_joined base counted_ command start fixed same r q.0 to new);
+      repolls = λ to r mails t new q. absurd (none_joined base counted_ command start fixed same r q.0 to new);
+      teaches = λ to r mails t a q. (q.0, q.1, lone.alone_push client first r mails to (Learn (name_of r) (next start) command) tt tt q.2, λ o. lone.hidden_push client first seq early Elsewhere r mails to (Learn (name_of r) (next start) command) (teach t o, o) (q.3 o));
       flies = λ other r mails e q. (λ on. opt_some Mine (flying r (next start)) other e (lone.flying_mine client first r (next start) (q.2.leads (q.1 ∙ on))));
       landed = λ place q. (
         q.0,
@@ -160,9 +160,7 @@ module _ (base : Base) (me client first seq : ℕ) (early : Bool) (Elsewhere : T
     }
 
     entry_so : (mails : List Mail) → IsFixedCommand base command → start.group.core ≡ base.core → L (start, mails) → Q (entered_place counted_ command (start, mails))
-    entry_so mails fixed same k =
-        entry_keeps base counted_ command start Q entry_parts fixed same mails
-        (ap (λ (g : Group). g.core) (entered_group command start) ∙ applied_core base command start.group fixed ∙ same, entered_runs command start, alone_entered command start mails k.0, λ o. hidden_entered command start mails o k.1)
+    entry_so mails fixed same k = entry_holds counted_ command start (λ place. L place) Q (entry_parts fixed same) mails k
 
   -- while it is early the client's own request is the first one
   teaches_late : (b : Bool) (command : Command) → early ≡ b → Mine command → IsAtMost client seq command → Other command → early ≡ false

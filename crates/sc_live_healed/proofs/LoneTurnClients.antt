@@ -54,6 +54,10 @@ first_of x y m n e = ap (λ (p : Draw × ℕ). p.0) (some_is e)
 pub second_of : (x y : Draw) (m n : ℕ) → ◌≡◌ {A = Option (Draw × ℕ)} (Some (x, m)) (Some (y, n)) → m ≡ n
 second_of x y m n e = ap (λ (p : Draw × ℕ). p.1) (some_is e)
 
+-- a client is no node
+pub no_node : {n : NodeState} {c : ClientState} → ◌≡◌ {A = Player} (Client c) (Node n) → ⊥
+no_node e = cc
+
 module _ (words : ℕ → ℕ → ℕ × ℕ) (scenario : Scenario) (bounded : IsBounded scenario) (off : scenario.policy ≡ false) (client : ℕ) (seat : Seat Player) (is_of : IsOf scenario seat) (number : seat.who ≡ client_actor client) (first : ℕ)
     (rows : Rows) (row : Row Mail OrderLine) (t : TakesLowest (S words scenario bounded) rows row) (fixed : IsFixedJournal scenario rows) (there : ClientState) (here : value player_table t.seat rows ≡ Client there) where
   abbrev after : Rows
@@ -79,9 +83,6 @@ module _ (words : ℕ → ℕ → ℕ × ℕ) (scenario : Scenario) (bounded : I
 
   abbrev Lone : Mail → Type 0
   Lone mail = lone.IsLoneMail client first mail
-
-  no_node : {n : NodeState} {c : ClientState} → ◌≡◌ {A = Player} (Client c) (Node n) → ⊥
-  no_node e = cc
 
   receiver : Player
   receiver = value player_table t.seat rows

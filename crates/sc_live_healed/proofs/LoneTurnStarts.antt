@@ -1,6 +1,5 @@
 -- The turn of a client begins where no mail is pending and each replica that runs is idle: behind its tick or start nothing but its own request is under way.
-use Rattle.std.proofs.Common.{◌≡◌, ℕ, ◌≤◌, ◌&&◌, not, eqb, Bool, true, false, true≢false, cond, List, [], ◌∷◌, ◌++◌, filter, find, replicate, Option, Some, inl, inr, refl, sym, ◌∙◌, ap, subst, arith}
-use Rattle.std.specs.List.{list_any}
+use Rattle.std.proofs.Common.{◌≡◌, ℕ, ◌≤◌, eqb, Bool, true, false, true≢false, List, [], ◌∷◌, ◌++◌, filter, find, Option, Some, inl, inr, refl, sym, ◌∙◌, ap, subst, arith}
 use Rattle.std.proofs.lemmas.Bool.{cond-true, cond-false, cases_eq, cases_Bool, eq-eqb, ne_eqb}
 use Rattle.sc_base.specs.Definitions.{Among, Each, client_actor}
 use Rattle.sc_node_table.specs.Values.{Seat, Row, Event, Draw, Command, Flight, OrderLine, Input, Mail, Node, Client}
@@ -16,25 +15,19 @@ use Rattle.sc_scenario.specs.declared.scenario.scenarios.Scenario.{Scenario}
 use Rattle.sc_scenario.specs.scenario.Definitions.{IsBounded}
 use Rattle.sc_meaning.specs.sound.Definitions.{Player, as_nodes, births, player_table}
 use Rattle.sc_live_orderly.specs.Definitions.{mail_with}
-use Rattle.sc_live_orderly.proofs.PendingMail.{none_pending}
+use Rattle.sc_live_orderly.proofs.PendingMail.{crashed_same, gets_same, mail_with-agree, none_pending}
 use Rattle.sc_live_orderly.proofs.RemainingMail.{after-row}
 use Rattle.sc_live_plain.specs.Definitions.{IsResting}
 use Rattle.sc_live_plain.proofs.Lemmas.{some_is}
 use Rattle.sc_live_healed.specs.Definitions.{IsFixedMail, IsIdle}
 use Rattle.sc_live_healed.proofs.FixedJournals.{Rows, IsOf, IsFixedJournal}
-use Rattle.sc_live_healed.proofs.LivingActors.{same_crashed}
 use Rattle.sc_live_healed.proofs.AskingJournals.{IsAskingAt}
 use Rattle.sc_live_healed.proofs.AskingClients.{Asks}
 use Rattle.sc_live_healed.proofs.AskingClientRows.{starts, ticks, rests_ticked}
 use Rattle.sc_live_healed.proofs.LoneRequests as lone
 use Rattle.sc_live_healed.proofs.LoneDeliveries.{S, pending, member_gets}
 use Rattle.sc_live_healed.proofs.LoneTurns.{AtNodes, Leads, Where, IsSent, HasCrashed, Stands, Waits, TurnState, WaitsOn, HasAll}
-use Rattle.sc_live_healed.proofs.LoneTurnClients.{first_of, second_of, none_some}
-
-with_agree : {M : Type 0} (p q : M → Bool) → ((m : M) → p m ≡ q m) → (sent : List M) (counts : List ℕ) → mail_with p sent counts ≡ mail_with q sent counts
-with_agree p q agree [] counts = refl
-with_agree p q agree (m ∷ sent) [] = refl
-with_agree p q agree (m ∷ sent) (c ∷ counts) = ap (λ b. cond b (replicate c m) [] ++ mail_with p sent counts) (agree m) ∙ ap (λ xs. cond (q m) (replicate c m) [] ++ xs) (with_agree p q agree sent counts)
+use Rattle.sc_live_healed.proofs.LoneTurnClients.{no_node, first_of, second_of, none_some}
 
 -- an idle leader has nothing under way
 idle_leads : (client first : ℕ) (r : ReplicaState) → IsIdle r → lone.LeadsAlone client first r
@@ -79,9 +72,6 @@ module _ (words : ℕ → ℕ → ℕ × ℕ) (scenario : Scenario) (bounded : I
           value-snoc player_table other rows row
           ∙ cond-false (eqb seat.who other.who) (acted player_table (value player_table other rows) (input_of (mails rows) event)).0 (value player_table other rows) (ne_eqb seat.who other.who apart)
 
-      crashed_same : (who : ℕ) → has_crashed after who ≡ has_crashed rows who
-      crashed_same who = same_crashed (S words scenario bounded) who rows (row ∷ []) (kind, tt)
-
       abbrev may : Mail → Bool
       may mail = may_get (numbers_of (S words scenario bounded).births) after mail.to
 
@@ -91,10 +81,7 @@ module _ (words : ℕ → ℕ → ℕ × ℕ) (scenario : Scenario) (bounded : I
           after-row (S words scenario bounded) may rows row
           ∙ ap (λ (c : List ℕ). mail_with may (mails rows) c ++ filter may row.sent) counts
           ∙ ap (λ (ms : List Mail). ms ++ filter may row.sent)
-          (with_agree may (λ (mail : Mail). may_get (numbers_of (S words scenario bounded).births) rows mail.to) (λ mail. ap (λ b. list_any (λ actor. eqb actor mail.to) (numbers_of (S words scenario bounded).births) && not b) (crashed_same mail.to)) (mails rows) (copies rows) ∙ none_pending (S words scenario bounded) rows quiet)
-
-      no_node : {n : NodeState} {c : ClientState} → ◌≡◌ {A = Player} (Client c) (Node n) → ⊥
-      no_node e = cc
+          (mail_with-agree may (λ (mail : Mail). may_get (numbers_of (S words scenario bounded).births) rows mail.to) (λ mail. gets_same (numbers_of (S words scenario bounded).births) rows row kind mail.to) (mails rows) (copies rows) ∙ none_pending (S words scenario bounded) rows quiet)
 
       nodes_then : (first : ℕ) → AtNodes words scenario bounded off client seat is_of number first after (λ n. Leads words scenario bounded off client seat is_of number first n)
       nodes_then first other of node e alive = elim (cases_eq seat.who other.who) [
@@ -102,7 +89,7 @@ module _ (words : ℕ → ℕ → ℕ × ℕ) (scenario : Scenario) (bounded : I
             let one : seat ≡ other = some_is (sym is_of ∙ ap (λ (who : ℕ). find (λ (x : Seat Player). eqb x.who who) (births as_nodes scenario)) same ∙ of) in
             absurd (no_node (sym now_then ∙ ap (λ (s : Seat Player). value player_table s after) one ∙ e)))
         | inr apart ↦ Each-weaker (λ (r : ReplicaState). r.running ≡ true → IsIdle r) (λ (r : ReplicaState). r.running ≡ true → lone.LeadsAlone client first r) (λ r i on. idle_leads client first r (i on)) node.replicas
-            (idle other of node (sym (value_other other apart) ∙ e) (sym (crashed_same other.who) ∙ alive))
+            (idle other of node (sym (value_other other apart) ∙ e) (sym (crashed_same rows row kind other.who) ∙ alive))
       ]
 
       -- the client waits for this request then
@@ -127,7 +114,7 @@ module _ (words : ℕ → ℕ → ℕ × ℕ) (scenario : Scenario) (bounded : I
                 let stands : Stands words scenario bounded off client seat is_of number seq after seq d.group d.target =
                 Waits true (λ _. refl) (λ other of node e alive off_. absurd (true≢false off_)) (each (λ (mail : Mail). lone.IsUnlearnt client seq seq true ⊥ mail.body) tt) w in
                 WaitsOn step.0 now_then b (record {
-                  lives = crashed_same seat.who ∙ lives;
+                  lives = crashed_same rows row kind seat.who ∙ lives;
                   least = subst (λ n. seq ≤ n) seq_is (omega arith);
                   alone = each (λ (mail : Mail). lone.IsLoneMail client seq mail) ((refl, omega arith), tt);
                   nodes = nodes_then seq;

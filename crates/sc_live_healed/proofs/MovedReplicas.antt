@@ -1,23 +1,22 @@
 -- What a row that is no tick changes of a replica of a group that is not reshaped: its greatest ballot rises, what it asks is within it, it promises nothing but what the mail brings, it begins to lead no ballot, and it loses no promise of its own ballot.
 use Rattle.std.proofs.Common.{◌≡◌, ℕ, ◌+◌, ◌-◌, ◌<◌, ◌≤◌, ◌&&◌, not, Bool, true, false, true≢false, List, [], ◌∷◌, ◌++◌, Option, Some, None, ◌⊎◌, inl, inr, refl, sym, ◌∙◌, ap, subst, arith}
-use Rattle.std.proofs.lemmas.Bool.{cond_both}
 use Rattle.sc_base.specs.Definitions.{Each, Drawer, same_ballot, is_majority, is_member, client_actor}
-use Rattle.sc_words.proofs.PaxosProofs.Lemmas.{Each-append, Each-weaker, not_below_parts}
+use Rattle.sc_words.proofs.PaxosProofs.Lemmas.{Each-append, Each-weaker}
 use Rattle.sc_paxos_law.proofs.Lemmas.{Among-left, among-member, member-among}
-use Rattle.sc_node_table.specs.Values.{Ballot, Command, Noop, Base, AnswerBody, Counted, Mail, MailBody, Answer, Prepare, Promise, Accept, Accepted, Nack, Learn, Ask, Install, Flight, TxPrepare, TxVote, TxOutcome, TxElsewhere, TxWatch, TxWatched, Told, Report}
+use Rattle.sc_node_table.specs.Values.{Ballot, Command, Noop, Base, Counted, Mail, MailBody, Answer, Prepare, Promise, Accept, Accepted, Nack, Learn, Ask, Install, Flight, TxPrepare, TxVote, TxOutcome, TxElsewhere, TxWatch, TxWatched, Told, Report}
 use Rattle.sc_group_table.specs.machine.Definitions.{base_of}
-use Rattle.sc_words.specs.paxos.Definitions.{IsAtLeast, AcceptorState, LeaderState, below, after_promise, after_accept, reports_from, kept_voters, voters_after, promise_counted, counted, vote_at, flight_at}
-use Rattle.sc_node_table.specs.Definitions.{ended, stopped, entered, forgotten, jumped, offered, put_back, answered_all, sent, under_way, hinted, mailed, pumped, tick_row, open_nodes, ReplicaState, Place, name_of, next}
+use Rattle.sc_words.specs.paxos.Definitions.{AcceptorState, LeaderState, below, after_promise, after_accept, reports_from, kept_voters, voters_after, promise_counted, counted, vote_at, flight_at}
+use Rattle.sc_node_table.specs.Definitions.{ended, entered, forgotten, jumped, offered, answered_all, sent, under_way, mailed, pumped, tick_row, open_nodes, ReplicaState, Place, name_of, next}
 use Rattle.sc_law_walks.proofs.Talks.{all_sent, all_answered, all_dismissed, one_answered}
-use Rattle.sc_law_walks.proofs.Lemmas.{either_way, below_round, Talk, counted_ballot, promise_ballot, floor_under, entered_next, entered_place}
+use Rattle.sc_law_walks.proofs.Lemmas.{either_way, below_round, at_least_round, Talk, counted_ballot, promise_ballot, floor_under}
 use Rattle.sc_live_healed.proofs.FixedWalks.{IsFresh, IsFixedPlace, FixedWalk}
-use Rattle.sc_live_healed.proofs.FixedEntries.{FixedEntry, entry_keeps}
-use Rattle.sc_live_healed.proofs.FixedParts.{ready_fixed, applied_core}
+use Rattle.sc_live_healed.proofs.UnqueuedEntries.{Unqueued, KeptEntry, hints, overtakes, entry_keeps}
+use Rattle.sc_live_healed.proofs.FixedParts.{ready_fixed}
 use Rattle.sc_live_healed.proofs.FixedPumps.{pumps, pumps_next}
 use Rattle.sc_live_healed.proofs.FixedRows.{takes_mail}
 use Rattle.sc_live_healed.proofs.FixedTicks.{ticks}
 use Rattle.sc_live_healed.proofs.FixedBesides.{FixedFacts, FixedStates, FixedTickStates, both_walk, both_ticks}
-use Rattle.sc_live_healed.specs.Definitions.{IsFixedBody, IsFixedCommand}
+use Rattle.sc_live_healed.specs.Definitions.{IsFixedBody}
 
 -- a mail that asks for a promise or a vote does so in a round that is not above this one
 abbrev pub AsksWithin : ℕ → MailBody → Type 0
@@ -42,10 +41,6 @@ pub record Moves (Elects : Type 0) (start : ReplicaState) (body : MailBody) (top
 -- what a row leaves of a replica with its mail
 abbrev pub HasMoved : Type 0 → ReplicaState → MailBody → Place → Type 0
 HasMoved Elects start body (r, mails) = Moves Elects start body r.top r.acceptor.promised r.acceptor.floor r.running r.leader.ballot r.leader.is_first r.leader.promisers (next r) mails
-
--- a ballot that is at least another is of no earlier round
-pub at_least_round : (a b : Ballot) → IsAtLeast a b → b.round ≤ a.round
-at_least_round a b e = elim (not_below_parts a b e) [ inl lt ↦ omega (arith, lt) | inr p ↦ omega (arith, p.0) ]
 
 pub within_more : (low high : ℕ) (body : MailBody) → low ≤ high → AsksWithin low body → AsksWithin high body
 within_more low high (Prepare group ballot from_slot) up a = omega (arith, up, a)
@@ -102,14 +97,18 @@ module _ (base : Base) (me : ℕ) (fresh : IsFresh base me) (Elects : Type 0) (s
   offers : (slot : ℕ) (set : List ℕ) (command : Command) (r : ReplicaState) (mails : List Mail) → r.running ≡ true → F (r, mails) → E (r, mails) → E (offered slot set command (r, mails))
   offers slot set command r mails on f k = offers_low slot set command r mails (own_round r mails on f) k
 
-  stops : (hint : Option ℕ) (answer : AnswerBody) (r : ReplicaState) (mails : List Mail) → E (r, mails) → E (ended hint answer (r, mails))
+  besides : Unqueued (λ place. HasMoved Elects start heard_body place)
   unfolding ended
-  stops hint answer r mails k = record {
-    rises = k.rises;
-    asks = all_dismissed r.me (Within r.top.round) (talk r.top.round r.me) (name_of r) hint answer r.backlog (answered_all r.me (name_of r) answer (under_way r) mails) (all_answered r.me (Within r.top.round) (talk r.top.round r.me) (name_of r) answer (under_way r) mails k.asks);
-    promise = k.promise;
-    leads = λ on. absurd (true≢false (sym on));
-    floored = k.floored;
+  besides = record {
+    requeues = λ acts backlog r mails k. k;
+    rehints = λ hint r mails k. k;
+    ends = λ hint answer r mails k. record {
+      rises = k.rises;
+      asks = all_dismissed r.me (Within r.top.round) (talk r.top.round r.me) (name_of r) hint answer r.backlog (answered_all r.me (name_of r) answer (under_way r) mails) (all_answered r.me (Within r.top.round) (talk r.top.round r.me) (name_of r) answer (under_way r) mails k.asks);
+      promise = k.promise;
+      leads = λ on. absurd (true≢false (sym on));
+      floored = k.floored;
+    };
   }
 
   higher : (ballot : Ballot) (r : ReplicaState) (mails : List Mail) → below r.top ballot ≡ true → E (r, mails) → E (record r { top = ballot }, mails)
@@ -124,54 +123,19 @@ module _ (base : Base) (me : ℕ) (fresh : IsFresh base me) (Elects : Type 0) (s
 
   -- ---- entries
 
-  goes_back : (command : Command) (r : ReplicaState) (mails : List Mail) → E (r, mails) → E (put_back command r, mails)
-  unfolding put_back
-  goes_back Noop r mails k = k
-  goes_back _ r mails k = k
-
-  module _ (command : Command) (r : ReplicaState) (fixed : IsFixedCommand base command) where
-    abbrev Q : Place → Type 0
-    Q place = E place × (place.0.group.core ≡ base.core)
-
-    enters_by : (mails : List Mail) → next (entered command r) ≡ next r + 1 → E (r, mails) → E (entered command r, mails)
-    unfolding entered forgotten
-    enters_by mails longer k =
+  entry_moved : (command : Command) (r : ReplicaState) → KeptEntry (λ place. HasMoved Elects start heard_body place) command r
+  unfolding entered forgotten
+  entry_moved command r = record {
+    enters = λ mails longer k. (
         let low = floor_under (next r) (omega arith) in
         let was = k.floored in
-        record { rises = k.rises; asks = k.asks; promise = k.promise; leads = k.leads; floored = omega (arith, longer, low, was) }
-
-    core_after : (entered command r).group.core ≡ r.group.core
-    unfolding entered forgotten
-    core_after = applied_core base command r.group fixed
-
-    enters : (mails : List Mail) → F (r, mails) → E (r, mails) → Q (entered command r, mails)
-    enters mails f k = (enters_by mails (entered_next command r) k, core_after ∙ f.fixed.group)
-
-    back_core : (other : Command) (x : ReplicaState) → x.group.core ≡ base.core → (put_back other x).group.core ≡ base.core
-    unfolding put_back
-    back_core Noop x e = e
-    back_core _ x e = e
-
-    entry_of : (counted : Bool) → FixedEntry base counted command r Q
-    entry_of counted = record {
-      Lost = λ other. Unit {0};
-      core_is = λ place k. k.1;
-      answers = λ client seq op answer x mails t is e k. (says x (client_actor client) (Answer (name_of x) seq answer) mails tt k.0, k.1);
-      returned = λ x mails t k. (goes_back command x mails k.0, back_core command x k.1);
-      teaches = λ to x mails t m k. (says x to (Learn (name_of x) (next r) command) mails tt k.0, k.1);
-      flies = λ other x mails e k. tt;
-      landed = λ place k. k;
-      back = λ other x mails l k. (goes_back other x mails k.0, back_core other x k.1);
-    }
-
-  pub enters_moved : (counted : Bool) (command : Command) (r : ReplicaState) (mails : List Mail) → IsFixedCommand base command → F (r, mails) → E (r, mails) → E (entered_place counted command (r, mails))
-  enters_moved counted command r mails fixed f k =
-      (entry_keeps base counted command r (Q command r fixed) (entry_of command r fixed counted) fixed f.fixed.group mails (enters command r fixed mails f k)).0
+        record { rises = k.rises; asks = k.asks; promise = k.promise; leads = k.leads; floored = omega (arith, longer, low, was) });
+    answers = λ client seq answer x mails k. says x (client_actor client) (Answer (name_of x) seq answer) mails tt k;
+    teaches = λ to x mails k. says x to (Learn (name_of x) (next r) command) mails tt k;
+    clears = λ place k. k;
+  }
 
   -- ---- votes and promises
-
-  hints : (ballot : Ballot) (r : ReplicaState) (mails : List Mail) → E (r, mails) → E (hinted ballot r, mails)
-  hints ballot r mails k = cond_both r.running r (record r { hint = Some ballot.node }) (λ (x : ReplicaState). E (x, mails)) (λ _. k) (λ _. k)
 
   -- a vote leaves ballot and promises
   same_promisers : (from : ℕ) (ballot : Ballot) (slot : ℕ) (set : List ℕ) (leader : LeaderState Command) → ((counted from ballot slot set leader).1.is_first ≡ leader.is_first) × ((counted from ballot slot set leader).1.promisers ≡ leader.promisers)
@@ -232,22 +196,22 @@ module _ (base : Base) (me : ℕ) (fresh : IsFresh base me) (Elects : Type 0) (s
     offers_value = λ slot set command r mails on low near none e of f k. offers slot set command r mails on f k;
     offers_noop = λ slot set r mails on low near none gap of f k. offers slot set Noop r mails on f k;
     offers_call = λ slot set command backlog r mails on above near none e of f k. (let low = own_round r mails on f in offers_low slot set command (record r { backlog = backlog }) mails low k);
-    counted_entry = λ command r mails on e f k. enters_moved true command r mails (ready_fixed base r.ready (next r) command e f.fixed.ready) f k;
-    learnt_entry = λ from group command r mails h f k. enters_moved false command r mails h.0.2 f k;
+    counted_entry = λ command r mails on e f k. entry_keeps (λ place. HasMoved Elects start heard_body place) besides base true command r (ready_fixed base r.ready (next r) command e f.fixed.ready) f.fixed.group (entry_moved command r) mails k;
+    learnt_entry = λ from group command r mails h f k. entry_keeps (λ place. HasMoved Elects start heard_body place) besides base false command r h.0.2 f.fixed.group (entry_moved command r) mails k;
     seen = λ ballot r mails s t goes f k. higher ballot r mails t k;
-    overtaken = λ ballot r mails s on t f k. cond_both (below r.top ballot) (record r { top = ballot }) r (λ (x : ReplicaState). E (stopped (Some ballot.node) (x, mails))) (λ up. stops (Some ballot.node) _ (record r { top = ballot }) mails (higher ballot r mails up k)) (λ _. stops (Some ballot.node) _ r mails k);
+    overtaken = λ ballot r mails s on t f k. overtakes (λ place. HasMoved Elects start heard_body place) besides ballot r mails (λ up. higher ballot r mails up k) k;
     polled = λ from group ballot reports r mails on h f k. polls from ballot reports r mails k;
     counts = λ from group ballot slot set count r mails on h e f k. votes from ballot slot set r mails k;
     chosen = λ from group ballot slot set command r mails on h e f k. votes from ballot slot set r mails k;
-    promised = λ from group ballot from_slot r mails h top goes t f k. hints ballot (record r { acceptor = after_promise ballot r.acceptor }) _
+    promised = λ from group ballot from_slot r mails h top goes t f k. hints (λ place. HasMoved Elects start heard_body place) besides ballot (record r { acceptor = after_promise ballot r.acceptor }) _
         (promises ballot (after_promise ballot r.acceptor) r _ (subst (λ (body : MailBody). Brings body ballot) h.1 refl) refl (says r from (Promise (name_of r) ballot (reports_from from_slot r.acceptor.accepted)) mails tt k));
-    accepted = λ from group report r mails h top goes t f k. hints report.ballot (record r { acceptor = after_accept report r.acceptor }) _
+    accepted = λ from group report r mails h top goes t f k. hints (λ place. HasMoved Elects start heard_body place) besides report.ballot (record r { acceptor = after_accept report r.acceptor }) _
         (promises report.ballot (after_accept report r.acceptor) r _ (subst (λ (body : MailBody). Brings body report.ballot) h.1 refl) refl (says r from (Accepted (name_of r) report.ballot report.slot) mails tt k));
     nacks = λ to r mails m f k. says r to (Nack (name_of r) r.acceptor.promised) mails tt k;
     installs = λ to r mails m f k. says r to (Install (name_of r) (next r - 1) (base_of r.group) r.sets) mails tt k;
     recalls = λ to from_slot slot group command r mails h m e f k. says r to (Learn (name_of r) slot command) mails tt k;
     wants = λ to slot group command r mails h m low f k. says r to (Ask (name_of r) (next r)) mails tt k;
-    stops = λ from r mails m on f k. stops (Some from) _ r mails k;
+    stops = λ from r mails m on f k. besides.ends (Some from) _ r mails k;
     jumps = λ from group slot sent sets r mails h later off f k. jumps slot sent sets from r mails later k;
     refuses = λ client seq op answer r mails e f k. says r (client_actor client) (Answer (name_of r) seq answer) mails tt k;
     requested = λ from group client seq op r mails h e none f k. k;

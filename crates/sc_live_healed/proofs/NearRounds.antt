@@ -1,24 +1,22 @@
 -- No round that a replica of a group that is not reshaped has seen or names in a row is above those of the mail that it takes, but for its election at a tick, which is in the next round.
-use Rattle.std.proofs.Common.{◌≡◌, ℕ, ◌+◌, ◌-◌, ◌≤◌, Bool, false, true, List, [], ◌∷◌, Option, Some, ◌∙◌, arith}
-use Rattle.std.proofs.lemmas.Bool.{cond_both}
+use Rattle.std.proofs.Common.{◌≡◌, ℕ, ◌+◌, ◌-◌, ◌≤◌, false, true, List, [], ◌∷◌, Some, arith}
 use Rattle.sc_base.specs.Definitions.{Each, Drawer, client_actor}
 use Rattle.sc_words.proofs.PaxosProofs.Lemmas.{Each-append, Each-weaker}
-use Rattle.sc_node_table.specs.Values.{Ballot, Command, Noop, Base, AnswerBody, Mail, MailBody, Answer, Prepare, Promise, Accept, Accepted, Nack, Learn, Ask, Install, TxPrepare, TxVote, TxOutcome, TxElsewhere, TxWatch, TxWatched, Told}
+use Rattle.sc_node_table.specs.Values.{Command, Noop, Base, Mail, MailBody, Answer, Prepare, Promise, Accept, Accepted, Nack, Learn, Ask, Install, TxPrepare, TxVote, TxOutcome, TxElsewhere, TxWatch, TxWatched, Told}
 use Rattle.sc_group_table.specs.machine.Definitions.{base_of}
-use Rattle.sc_words.specs.paxos.Definitions.{below, reports_from, after_promise, after_accept}
-use Rattle.sc_node_table.specs.Definitions.{ended, stopped, entered, forgotten, jumped, offered, put_back, answered_all, sent, under_way, hinted, mailed, tick_row, open_nodes, ReplicaState, Place, name_of, next}
+use Rattle.sc_words.specs.paxos.Definitions.{reports_from, after_promise, after_accept}
+use Rattle.sc_node_table.specs.Definitions.{ended, entered, forgotten, jumped, offered, answered_all, sent, under_way, mailed, tick_row, open_nodes, ReplicaState, Place, name_of, next}
 use Rattle.sc_law_walks.proofs.Talks.{all_sent, all_answered, all_dismissed, one_answered}
-use Rattle.sc_law_walks.proofs.Lemmas.{Talk, entered_place, elected_place}
+use Rattle.sc_law_walks.proofs.Lemmas.{Talk, at_least_round, elected_place}
 use Rattle.sc_live_healed.proofs.FixedWalks.{IsFresh, IsFixedPlace, FixedWalk, FixedAskParts}
-use Rattle.sc_live_healed.proofs.FixedEntries.{FixedEntry, entry_keeps}
-use Rattle.sc_live_healed.proofs.FixedParts.{ready_fixed, applied_core}
+use Rattle.sc_live_healed.proofs.UnqueuedEntries.{Unqueued, KeptEntry, hints, overtakes, entry_keeps}
+use Rattle.sc_live_healed.proofs.FixedParts.{ready_fixed}
 use Rattle.sc_live_healed.proofs.FixedPlaces.{fixed_ticks}
 use Rattle.sc_live_healed.proofs.FixedRows.{takes_mail}
 use Rattle.sc_live_healed.proofs.FixedTicks.{ticks_once}
 use Rattle.sc_live_healed.proofs.FixedBesides.{FixedFacts, FixedStates, both_walk}
-use Rattle.sc_live_healed.proofs.MovedReplicas.{at_least_round}
 use Rattle.sc_live_healed.proofs.GrowingJournals.{Growth}
-use Rattle.sc_live_healed.specs.Definitions.{IsFixedBody, IsFixedCommand}
+use Rattle.sc_live_healed.specs.Definitions.{IsFixedBody}
 
 -- a mail names no ballot of a round above this one
 abbrev pub NamesRound : ℕ → MailBody → Type 0
@@ -80,49 +78,22 @@ module _ (base : Base) (me : ℕ) (fresh : IsFresh base me) (bound : ℕ) where
   unfolding offered
   offers slot set command r mails low k = (k.0, all_sent r.me (Within bound) (Accept (name_of r) r.leader.ballot slot command) (λ to ms m. pushed bound r.me to (Accept (name_of r) r.leader.ballot slot command) ms low m) set mails k.1)
 
-  stops : (hint : Option ℕ) (answer : AnswerBody) (r : ReplicaState) (mails : List Mail) → E (r, mails) → E (ended hint answer (r, mails))
+  besides : Unqueued (λ place. StaysWithin bound place)
   unfolding ended
-  stops hint answer r mails k =
-      (k.0, all_dismissed r.me (Within bound) (talk bound r.me) (name_of r) hint answer r.backlog (answered_all r.me (name_of r) answer (under_way r) mails) (all_answered r.me (Within bound) (talk bound r.me) (name_of r) answer (under_way r) mails k.1))
+  besides = record {
+    requeues = λ acts backlog r mails k. k;
+    rehints = λ hint r mails k. k;
+    ends = λ hint answer r mails k. (k.0, all_dismissed r.me (Within bound) (talk bound r.me) (name_of r) hint answer r.backlog (answered_all r.me (name_of r) answer (under_way r) mails) (all_answered r.me (Within bound) (talk bound r.me) (name_of r) answer (under_way r) mails k.1));
+  }
 
-  -- ---- entries
-
-  goes_back : (command : Command) (r : ReplicaState) (mails : List Mail) → E (r, mails) → E (put_back command r, mails)
-  unfolding put_back
-  goes_back Noop r mails k = k
-  goes_back _ r mails k = k
-
-  module _ (command : Command) (r : ReplicaState) (fixed : IsFixedCommand base command) where
-    abbrev Q : Place → Type 0
-    Q place = E place × (place.0.group.core ≡ base.core)
-
-    enters : (mails : List Mail) → F (r, mails) → E (r, mails) → Q (entered command r, mails)
-    unfolding entered forgotten
-    enters mails f k = (k, applied_core base command r.group fixed ∙ f.fixed.group)
-
-    back_core : (other : Command) (x : ReplicaState) → x.group.core ≡ base.core → (put_back other x).group.core ≡ base.core
-    unfolding put_back
-    back_core Noop x e = e
-    back_core _ x e = e
-
-    entry_of : (counted : Bool) → FixedEntry base counted command r Q
-    entry_of counted = record {
-      Lost = λ other. Unit {0};
-      core_is = λ place k. k.1;
-      answers = λ client seq op answer x mails t is e k. (says x (client_actor client) (Answer (name_of x) seq answer) mails tt k.0, k.1);
-      returned = λ x mails t k. (goes_back command x mails k.0, back_core command x k.1);
-      teaches = λ to x mails t m k. (says x to (Learn (name_of x) (next r) command) mails tt k.0, k.1);
-      flies = λ other x mails e k. tt;
-      landed = λ place k. k;
-      back = λ other x mails l k. (goes_back other x mails k.0, back_core other x k.1);
-    }
-
-  enters_within : (counted : Bool) (command : Command) (r : ReplicaState) (mails : List Mail) → IsFixedCommand base command → F (r, mails) → E (r, mails) → E (entered_place counted command (r, mails))
-  enters_within counted command r mails fixed f k =
-      (entry_keeps base counted command r (Q command r fixed) (entry_of command r fixed counted) fixed f.fixed.group mails (enters command r fixed mails f k)).0
-
-  hints : (ballot : Ballot) (r : ReplicaState) (mails : List Mail) → E (r, mails) → E (hinted ballot r, mails)
-  hints ballot r mails k = cond_both r.running r (record r { hint = Some ballot.node }) (λ (x : ReplicaState). E (x, mails)) (λ _. k) (λ _. k)
+  entry_within : (command : Command) (r : ReplicaState) → KeptEntry (λ place. StaysWithin bound place) command r
+  unfolding entered forgotten
+  entry_within command r = record {
+    enters = λ mails longer k. k;
+    answers = λ client seq answer x mails k. says x (client_actor client) (Answer (name_of x) seq answer) mails tt k;
+    teaches = λ to x mails k. says x to (Learn (name_of x) (next r) command) mails tt k;
+    clears = λ place k. k;
+  }
 
   jumps : (slot : ℕ) (sent : Base) (sets : List (List ℕ)) (from : ℕ) (r : ReplicaState) (mails : List Mail) → E (r, mails) → E (record (jumped slot sent sets r) { hint = Some from }, mails)
   unfolding jumped forgotten
@@ -139,20 +110,20 @@ module _ (base : Base) (me : ℕ) (fresh : IsFresh base me) (bound : ℕ) where
     offers_value = λ slot set command r mails on low near none e of f k. offers slot set command r mails (own_round r mails on f k) k;
     offers_noop = λ slot set r mails on low near none gap of f k. offers slot set Noop r mails (own_round r mails on f k) k;
     offers_call = λ slot set command backlog r mails on above near none e of f k. (let low = own_round r mails on f k in offers slot set command (record r { backlog = backlog }) mails low k);
-    counted_entry = λ command r mails on e f k. enters_within true command r mails (ready_fixed base r.ready (next r) command e f.fixed.ready) f k;
-    learnt_entry = λ from group command r mails h f k. enters_within false command r mails h.0.2 f k;
+    counted_entry = λ command r mails on e f k. entry_keeps (λ place. StaysWithin bound place) besides base true command r (ready_fixed base r.ready (next r) command e f.fixed.ready) f.fixed.group (entry_within command r) mails k;
+    learnt_entry = λ from group command r mails h f k. entry_keeps (λ place. StaysWithin bound place) besides base false command r h.0.2 f.fixed.group (entry_within command r) mails k;
     seen = λ ballot r mails s t goes f k. (s.1, k.1);
-    overtaken = λ ballot r mails s on t f k. cond_both (below r.top ballot) (record r { top = ballot }) r (λ (x : ReplicaState). E (stopped (Some ballot.node) (x, mails))) (λ up. stops (Some ballot.node) _ (record r { top = ballot }) mails (s.1, k.1)) (λ _. stops (Some ballot.node) _ r mails k);
+    overtaken = λ ballot r mails s on t f k. overtakes (λ place. StaysWithin bound place) besides ballot r mails (λ up. (s.1, k.1)) k;
     polled = λ from group ballot reports r mails on h f k. k;
     counts = λ from group ballot slot set count r mails on h e f k. k;
     chosen = λ from group ballot slot set command r mails on h e f k. k;
-    promised = λ from group ballot from_slot r mails h top goes t f k. hints ballot (record r { acceptor = after_promise ballot r.acceptor }) _ (says r from (Promise (name_of r) ballot (reports_from from_slot r.acceptor.accepted)) mails tt k);
-    accepted = λ from group report r mails h top goes t f k. hints report.ballot (record r { acceptor = after_accept report r.acceptor }) _ (says r from (Accepted (name_of r) report.ballot report.slot) mails tt k);
+    promised = λ from group ballot from_slot r mails h top goes t f k. hints (λ place. StaysWithin bound place) besides ballot (record r { acceptor = after_promise ballot r.acceptor }) _ (says r from (Promise (name_of r) ballot (reports_from from_slot r.acceptor.accepted)) mails tt k);
+    accepted = λ from group report r mails h top goes t f k. hints (λ place. StaysWithin bound place) besides report.ballot (record r { acceptor = after_accept report r.acceptor }) _ (says r from (Accepted (name_of r) report.ballot report.slot) mails tt k);
     nacks = λ to r mails m f k. says r to (Nack (name_of r) r.acceptor.promised) mails (let own = at_least_round r.top r.acceptor.promised f.ballots.promised in let seen = k.0 in omega (arith, own, seen)) k;
     installs = λ to r mails m f k. says r to (Install (name_of r) (next r - 1) (base_of r.group) r.sets) mails tt k;
     recalls = λ to from_slot slot group command r mails h m e f k. says r to (Learn (name_of r) slot command) mails tt k;
     wants = λ to slot group command r mails h m low f k. says r to (Ask (name_of r) (next r)) mails tt k;
-    stops = λ from r mails m on f k. stops (Some from) _ r mails k;
+    stops = λ from r mails m on f k. besides.ends (Some from) _ r mails k;
     jumps = λ from group slot sent sets r mails h later off f k. jumps slot sent sets from r mails k;
     refuses = λ client seq op answer r mails e f k. says r (client_actor client) (Answer (name_of r) seq answer) mails tt k;
     requested = λ from group client seq op r mails h e none f k. k;
@@ -168,8 +139,8 @@ module _ (base : Base) (me : ℕ) (fresh : IsFresh base me) (bound : ℕ) where
 
   asks : FixedAskParts base me (λ place. IsFixedPlace base me place × StaysWithin bound place)
   asks = record {
-    reasks = λ to slot command r mails m on e k. ((fixed_ticks base me fresh).reasks to slot command r mails m on e k.0, says r to (Accept (name_of r) r.leader.ballot slot command) mails (own_round r mails on k.0 k.1) k.1);
-    relearns = λ to command r mails m on e k. ((fixed_ticks base me fresh).relearns to command r mails m on e k.0, says r to (Learn (name_of r) (next r - 1) command) mails tt k.1);
+    reasks = λ to slot command r mails m on e k. ((fixed_ticks base me fresh).asks.reasks to slot command r mails m on e k.0, says r to (Accept (name_of r) r.leader.ballot slot command) mails (own_round r mails on k.0 k.1) k.1);
+    relearns = λ to command r mails m on e k. ((fixed_ticks base me fresh).asks.relearns to command r mails m on e k.0, says r to (Learn (name_of r) (next r - 1) command) mails tt k.1);
   }
 
   elects : (r : ReplicaState) (mails : List Mail) → E (r, mails) → StaysWithin (bound + 1) (elected_place (r, mails))

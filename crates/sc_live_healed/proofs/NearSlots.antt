@@ -1,25 +1,24 @@
 -- No slot that a replica of a group that is not reshaped has executed, holds or names in a row is far above those of the mail that it takes.
-use Rattle.std.specs.Prelude.{nat_lt, slice_get}
 use Rattle.std.specs.Option.{option_map}
-use Rattle.std.proofs.Common.{◌≡◌, ℕ, zero, suc, ◌+◌, ◌-◌, ◌<◌, ◌≤◌, ◌&&◌, not, eqb, Bool, true, false, List, [], ◌∷◌, length, Option, Some, None, refl, ◌∙◌, ap, arith}
-use Rattle.std.proofs.lemmas.Bool.{cond_both, eqb-true, ltb-true}
+use Rattle.std.proofs.Common.{◌≡◌, ℕ, ◌+◌, ◌-◌, ◌<◌, ◌≤◌, ◌&&◌, not, eqb, Bool, true, false, List, [], ◌∷◌, length, Option, Some, None, refl, ap, arith}
+use Rattle.std.proofs.lemmas.Bool.{eqb-true}
 use Rattle.sc_base.specs.Definitions.{Each, Drawer, same_ballot, is_majority, is_member, client_actor}
 use Rattle.sc_words.proofs.PaxosProofs.Lemmas.{Each-append, Each-among, Each-push, find_found}
-use Rattle.sc_node_table.specs.Values.{Ballot, Command, Noop, Base, AnswerBody, Counted, Mail, MailBody, Answer, Prepare, Promise, Accept, Accepted, Nack, Learn, Ask, Install, Flight, TxPrepare, TxVote, TxOutcome, TxElsewhere, TxWatch, TxWatched, Told, Report}
+use Rattle.sc_node_table.specs.Values.{Ballot, Command, Noop, Base, Counted, Mail, MailBody, Answer, Prepare, Promise, Accept, Accepted, Nack, Learn, Ask, Install, Flight, TxPrepare, TxVote, TxOutcome, TxElsewhere, TxWatch, TxWatched, Told}
 use Rattle.sc_group_table.specs.machine.Definitions.{base_of}
-use Rattle.sc_words.specs.paxos.Definitions.{below, LeaderState, LogState, installed, entry_at, after_promise, after_accept, reports_from, kept_voters, voters_after, promise_counted, counted, vote_at, flight_at, without_flight}
-use Rattle.sc_node_table.specs.Definitions.{ended, stopped, entered, forgotten, floor_of, jumped, offered, put_back, answered_all, sent, under_way, hinted, mailed, tick_row, open_nodes, without_slot, ReplicaState, Place, name_of, next, slots_ahead}
+use Rattle.sc_words.specs.paxos.Definitions.{LeaderState, LogState, installed, after_promise, after_accept, reports_from, kept_voters, voters_after, counted, vote_at, flight_at, without_flight}
+use Rattle.sc_node_table.specs.Definitions.{ended, entered, forgotten, floor_of, jumped, offered, answered_all, sent, under_way, mailed, tick_row, open_nodes, without_slot, ReplicaState, Place, name_of, next, slots_ahead}
 use Rattle.sc_law_walks.proofs.Talks.{all_sent, all_answered, all_dismissed, one_answered}
-use Rattle.sc_law_walks.proofs.Lemmas.{either_way, Talk, floor_under, cut_next, cleared, entered_next, entered_place}
+use Rattle.sc_law_walks.proofs.Lemmas.{either_way, Talk, floor_under, entry_low, cut_next}
 use Rattle.sc_live_plain.proofs.Lemmas.{at_found, out_each, with_each}
 use Rattle.sc_live_plain.proofs.LeadersProofs.Flights.{voted_each}
 use Rattle.sc_live_healed.proofs.FixedWalks.{IsFresh, IsFixedPlace}
-use Rattle.sc_live_healed.proofs.FixedEntries.{FixedEntry, entry_keeps}
-use Rattle.sc_live_healed.proofs.FixedParts.{ready_fixed, applied_core}
+use Rattle.sc_live_healed.proofs.UnqueuedEntries.{Unqueued, KeptEntry, hints, overtakes, entry_keeps}
+use Rattle.sc_live_healed.proofs.FixedParts.{ready_fixed}
 use Rattle.sc_live_healed.proofs.FixedRows.{takes_mail}
 use Rattle.sc_live_healed.proofs.FixedTicks.{ticks}
 use Rattle.sc_live_healed.proofs.FixedBesides.{FixedFacts, FixedStates, FixedTickStates, both_walk, both_ticks}
-use Rattle.sc_live_healed.specs.Definitions.{IsFixedBody, IsFixedCommand}
+use Rattle.sc_live_healed.specs.Definitions.{IsFixedBody}
 
 -- a mail names no slot from this one on that was learnt, and none that is not open then
 abbrev pub NamesNear : ℕ → MailBody → Type 0
@@ -48,17 +47,6 @@ pub record IsNear (bound next_slot floor : ℕ) (entries : List (ℕ × Command)
 -- of a replica with its mails
 abbrev pub StaysNear : ℕ → Place → Type 0
 StaysNear bound (r, mails) = IsNear bound (next r) r.acceptor.floor r.ready r.leader.flights mails
-
--- an entry of a log is below the next slot
-entry_low : (slot : ℕ) (log : LogState Command) (command : Command) → entry_at slot log ≡ Some command → slot < log.base + length log.entries + 1
-entry_low slot log command e =
-    cond_both (nat_lt log.base slot) (slice_get log.entries (slot - log.base - 1)) None (λ (o : Option Command). o ≡ Some command → slot < log.base + length log.entries + 1)
-    (λ t k. (let up = ltb-true log.base slot t in let low = get_low log.entries (slot - log.base - 1) command k in omega (arith, up, low))) (λ f k. cc) e
-  where
-    get_low : (xs : List Command) (k : ℕ) (x : Command) → slice_get xs k ≡ Some x → k < length xs
-    get_low [] k x e = cc
-    get_low (y ∷ xs) zero x e = omega arith
-    get_low (y ∷ xs) (suc k) x e = (let low = get_low xs k x e in omega (arith, low))
 
 module _ (bound : ℕ) where
   abbrev Within : List Mail → Type 0
@@ -106,70 +94,36 @@ module _ (base : Base) (me : ℕ) (fresh : IsFresh base me) (bound : ℕ) where
   open_low : (slot : ℕ) (r : ReplicaState) (mails : List Mail) → slot < next r + length r.sets → F (r, mails) → E (r, mails) → slot < bound + slots_ahead
   open_low slot r mails near f k = (let many = ap length f.fixed.sets in let low = k.reached in omega (arith, near, many, low))
 
-  stops : (hint : Option ℕ) (answer : AnswerBody) (r : ReplicaState) (mails : List Mail) → E (r, mails) → E (ended hint answer (r, mails))
+  besides : Unqueued (λ place. StaysNear bound place)
   unfolding ended
-  stops hint answer r mails k = record {
-    reached = k.reached;
-    floored = k.floored;
-    ready = tt;
-    flights = tt;
-    says = all_dismissed r.me (Within bound) (talk bound r.me) (name_of r) hint answer r.backlog (answered_all r.me (name_of r) answer (under_way r) mails) (all_answered r.me (Within bound) (talk bound r.me) (name_of r) answer (under_way r) mails k.says);
+  besides = record {
+    requeues = λ acts backlog r mails k. k;
+    rehints = λ hint r mails k. k;
+    ends = λ hint answer r mails k. record {
+      reached = k.reached;
+      floored = k.floored;
+      ready = tt;
+      flights = tt;
+      says = all_dismissed r.me (Within bound) (talk bound r.me) (name_of r) hint answer r.backlog (answered_all r.me (name_of r) answer (under_way r) mails) (all_answered r.me (Within bound) (talk bound r.me) (name_of r) answer (under_way r) mails k.says);
+    };
   }
 
   -- ---- entries
 
-  goes_back : (command : Command) (r : ReplicaState) (mails : List Mail) → E (r, mails) → E (put_back command r, mails)
-  unfolding put_back
-  goes_back Noop r mails k = k
-  goes_back _ r mails k = k
-
-  module _ (command : Command) (r : ReplicaState) (fixed : IsFixedCommand base command) (low : next r < bound) where
-    abbrev Q : Place → Type 0
-    Q place = E place × (place.0.group.core ≡ base.core)
-
-    enters_by : (mails : List Mail) → next (entered command r) ≡ next r + 1 → E (r, mails) → E (entered command r, mails)
-    unfolding entered forgotten
-    enters_by mails longer k = (let cut = floor_under (next r) (omega arith) in let was = k.floored in record { reached = omega (arith, longer, low); floored = omega (arith, longer, cut, was); ready = k.ready; flights = k.flights; says = k.says })
-
-    core_after : (entered command r).group.core ≡ r.group.core
-    unfolding entered forgotten
-    core_after = applied_core base command r.group fixed
-
-    enters : (mails : List Mail) → F (r, mails) → E (r, mails) → Q (entered command r, mails)
-    enters mails f k = (enters_by mails (entered_next command r) k, core_after ∙ f.fixed.group)
-
-    back_core : (other : Command) (x : ReplicaState) → x.group.core ≡ base.core → (put_back other x).group.core ≡ base.core
-    unfolding put_back
-    back_core Noop x e = e
-    back_core _ x e = e
-
-    clears : (place : Place) → Q place → Q (cleared (next r) place)
-    clears (x, mails) k = (
-      record {
-        reached = k.0.reached;
-        floored = k.0.floored;
-        ready = out_each (λ (entry : ℕ × Command). entry.0) (λ s es. without_slot es s) (λ s. refl) (λ s y es. refl) (λ (entry : ℕ × Command). entry.0 < bound) (next r) x.ready k.0.ready;
-        flights = out_each (λ (f : Flight Command). f.slot) (λ s fs. without_flight s fs) (λ s. refl) (λ s f fs. refl) (λ (flight : Flight Command). flight.slot < bound + slots_ahead) (next r) x.leader.flights k.0.flights;
-        says = k.0.says;
-      },
-      k.1,
-    )
-
-    entry_of : (counted : Bool) → FixedEntry base counted command r Q
-    entry_of counted = record {
-      Lost = λ other. Unit {0};
-      core_is = λ place k. k.1;
-      answers = λ client seq op answer x mails t is e k. (says x (client_actor client) (Answer (name_of x) seq answer) mails tt k.0, k.1);
-      returned = λ x mails t k. (goes_back command x mails k.0, back_core command x k.1);
-      teaches = λ to x mails t m k. (says x to (Learn (name_of x) (next r) command) mails low k.0, k.1);
-      flies = λ other x mails e k. tt;
-      landed = clears;
-      back = λ other x mails l k. (goes_back other x mails k.0, back_core other x k.1);
-    }
-
-  pub enters_near : (counted : Bool) (command : Command) (r : ReplicaState) (mails : List Mail) → IsFixedCommand base command → next r < bound → F (r, mails) → E (r, mails) → E (entered_place counted command (r, mails))
-  enters_near counted command r mails fixed low f k =
-      (entry_keeps base counted command r (Q command r fixed low) (entry_of command r fixed low counted) fixed f.fixed.group mails (enters command r fixed low mails f k)).0
+  entry_near : (command : Command) (r : ReplicaState) → next r < bound → KeptEntry (λ place. StaysNear bound place) command r
+  unfolding entered forgotten
+  entry_near command r low = record {
+    enters = λ mails longer k. (let cut = floor_under (next r) (omega arith) in let was = k.floored in record { reached = omega (arith, longer, low); floored = omega (arith, longer, cut, was); ready = k.ready; flights = k.flights; says = k.says });
+    answers = λ client seq answer x mails k. says x (client_actor client) (Answer (name_of x) seq answer) mails tt k;
+    teaches = λ to x mails k. says x to (Learn (name_of x) (next r) command) mails low k;
+    clears = λ place k. record {
+      reached = k.reached;
+      floored = k.floored;
+      ready = out_each (λ (entry : ℕ × Command). entry.0) (λ s es. without_slot es s) (λ s. refl) (λ s y es. refl) (λ (entry : ℕ × Command). entry.0 < bound) (next r) place.0.ready k.ready;
+      flights = out_each (λ (f : Flight Command). f.slot) (λ s fs. without_flight s fs) (λ s. refl) (λ s f fs. refl) (λ (flight : Flight Command). flight.slot < bound + slots_ahead) (next r) place.0.leader.flights k.flights;
+      says = k.says;
+    };
+  }
 
   -- ---- votes and promises
 
@@ -186,12 +140,6 @@ module _ (base : Base) (me : ℕ) (fresh : IsFresh base me) (bound : ℕ) where
           either_way (λ (x : Counted Command × LeaderState Command). Low x.1.flights) (is_majority set (kept_voters (voters_after set from flight.voters))) _ _
           (out_each (λ (f : Flight Command). f.slot) (λ s fs. without_flight s fs) (λ s. refl) (λ s f fs. refl) (λ (x : Flight Command). x.slot < bound + slots_ahead) slot leader.flights k)
           (voted_each slot (voters_after set from flight.voters) (λ (x : Flight Command). x.slot < bound + slots_ahead) leader.flights k (λ x e low. low))
-
-  polls : (from : ℕ) (ballot : Ballot) (reports : List (Report Command)) (r : ReplicaState) (mails : List Mail) → E (r, mails) → E (record r { leader = (promise_counted from ballot reports r.leader).1 }, mails)
-  polls from ballot reports r mails k = either_way (λ (x : Bool × LeaderState Command). E (record r { leader = x.1 }, mails)) (same_ballot ballot r.leader.ballot && not (is_member r.leader.promisers from)) _ _ k k
-
-  hints : (ballot : Ballot) (r : ReplicaState) (mails : List Mail) → E (r, mails) → E (hinted ballot r, mails)
-  hints ballot r mails k = cond_both r.running r (record r { hint = Some ballot.node }) (λ (x : ReplicaState). E (x, mails)) (λ _. k) (λ _. k)
 
   jumps_by : (slot : ℕ) (sent : Base) (sets : List (List ℕ)) (from : ℕ) (r : ReplicaState) (mails : List Mail) → slot < bound → next r ≤ slot → E (r, mails) → E (record (jumped slot sent sets r) { hint = Some from }, mails)
   unfolding jumped forgotten
@@ -210,20 +158,20 @@ module _ (base : Base) (me : ℕ) (fresh : IsFresh base me) (bound : ℕ) where
     offers_value = λ slot set command r mails on above near none e of f k. offers slot set command r mails (open_low slot r mails near f k) k;
     offers_noop = λ slot set r mails on above near none gap of f k. offers slot set Noop r mails (open_low slot r mails near f k) k;
     offers_call = λ slot set command backlog r mails on above near none e of f k. (let low = open_low slot r mails near f k in offers slot set command (record r { backlog = backlog }) mails low k);
-    counted_entry = λ command r mails on e f k. enters_near true command r mails (ready_fixed base r.ready (next r) command e f.fixed.ready) (Each-among (λ (entry : ℕ × Command). entry.0 < bound) r.ready (next r, command) k.ready (at_found r.ready (next r) command e).1) f k;
-    learnt_entry = λ from group command r mails h f k. enters_near false command r mails h.0.2 h.1 f k;
+    counted_entry = λ command r mails on e f k. entry_keeps (λ place. StaysNear bound place) besides base true command r (ready_fixed base r.ready (next r) command e f.fixed.ready) f.fixed.group (entry_near command r (Each-among (λ (entry : ℕ × Command). entry.0 < bound) r.ready (next r, command) k.ready (at_found r.ready (next r) command e).1)) mails k;
+    learnt_entry = λ from group command r mails h f k. entry_keeps (λ place. StaysNear bound place) besides base false command r h.0.2 f.fixed.group (entry_near command r h.1) mails k;
     seen = λ ballot r mails s t goes f k. k;
-    overtaken = λ ballot r mails s on t f k. cond_both (below r.top ballot) (record r { top = ballot }) r (λ (x : ReplicaState). E (stopped (Some ballot.node) (x, mails))) (λ up. stops (Some ballot.node) _ (record r { top = ballot }) mails k) (λ _. stops (Some ballot.node) _ r mails k);
-    polled = λ from group ballot reports r mails on h f k. polls from ballot reports r mails k;
+    overtaken = λ ballot r mails s on t f k. overtakes (λ place. StaysNear bound place) besides ballot r mails (λ up. k) k;
+    polled = λ from group ballot reports r mails on h f k. either_way (λ (x : Bool × LeaderState Command). E (record r { leader = x.1 }, mails)) (same_ballot ballot r.leader.ballot && not (is_member r.leader.promisers from)) _ _ k k;
     counts = λ from group ballot slot set count r mails on h e f k. record { reached = k.reached; floored = k.floored; ready = k.ready; flights = votes_low from ballot slot set r.leader k.flights; says = k.says };
     chosen = λ from group ballot slot set command r mails on h e f k. record { reached = k.reached; floored = k.floored; ready = with_each slot command (λ (entry : ℕ × Command). entry.0 < bound) r.ready h.1 k.ready; flights = votes_low from ballot slot set r.leader k.flights; says = k.says };
-    promised = λ from group ballot from_slot r mails h top goes t f k. hints ballot (record r { acceptor = after_promise ballot r.acceptor }) _ (says r from (Promise (name_of r) ballot (reports_from from_slot r.acceptor.accepted)) mails tt k);
-    accepted = λ from group report r mails h top goes t f k. hints report.ballot (record r { acceptor = after_accept report r.acceptor }) _ (says r from (Accepted (name_of r) report.ballot report.slot) mails h.1 k);
+    promised = λ from group ballot from_slot r mails h top goes t f k. hints (λ place. StaysNear bound place) besides ballot (record r { acceptor = after_promise ballot r.acceptor }) _ (says r from (Promise (name_of r) ballot (reports_from from_slot r.acceptor.accepted)) mails tt k);
+    accepted = λ from group report r mails h top goes t f k. hints (λ place. StaysNear bound place) besides report.ballot (record r { acceptor = after_accept report r.acceptor }) _ (says r from (Accepted (name_of r) report.ballot report.slot) mails h.1 k);
     nacks = λ to r mails m f k. says r to (Nack (name_of r) r.acceptor.promised) mails tt k;
     installs = λ to r mails m f k. says r to (Install (name_of r) (next r - 1) (base_of r.group) r.sets) mails (let low = k.reached in omega (arith, low)) k;
     recalls = λ to from_slot slot group command r mails h m e f k. says r to (Learn (name_of r) slot command) mails (let under = entry_low slot r.log command e in let low = k.reached in omega (arith, under, low)) k;
     wants = λ to slot group command r mails h m low f k. says r to (Ask (name_of r) (next r)) mails tt k;
-    stops = λ from r mails m on f k. stops (Some from) _ r mails k;
+    stops = λ from r mails m on f k. besides.ends (Some from) _ r mails k;
     jumps = λ from group slot sent sets r mails h later off f k. jumps_by slot sent sets from r mails h.1 later k;
     refuses = λ client seq op answer r mails e f k. says r (client_actor client) (Answer (name_of r) seq answer) mails tt k;
     requested = λ from group client seq op r mails h e none f k. k;

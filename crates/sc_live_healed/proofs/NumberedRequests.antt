@@ -16,12 +16,11 @@ use Rattle.sc_law_entries.proofs.NamesProofs.EachFound.{Each-drop, opt_get, opt_
 use Rattle.sc_group_table.proofs.MachineProofs.Parts.{group_again}
 use Rattle.sc_law_refusal.proofs.HeldCommands as held
 use Rattle.sc_law_walks.proofs.Talks.{all_sent, one_answered, all_answered, all_dismissed}
-use Rattle.sc_law_walks.proofs.Lemmas.{Talk, either_way, back_any, entered_place, entry_is}
+use Rattle.sc_law_walks.proofs.Lemmas.{Talk, either_way, back_any, entered_group, TableEntry, entry_holds, entered_place, entry_is}
 use Rattle.sc_live_healed.specs.Definitions.{IsFixedCommand}
-use Rattle.sc_live_healed.proofs.FixedEntries.{FixedEntry, entry_keeps}
+use Rattle.sc_live_healed.proofs.FixedEntries.{unreported, unspoken, none_joined}
 use Rattle.sc_live_healed.proofs.FixedParts.{opt_some, ready_fixed, applied_core}
 use Rattle.sc_live_healed.proofs.FixedBesides.{FixedFacts, FixedStates}
-use Rattle.sc_live_healed.proofs.EnteredPlaces.{entered_group}
 use Rattle.sc_live_healed.proofs.TakenRequests.{IsAtMost}
 
 module _ (client bound : ℕ) where
@@ -161,13 +160,17 @@ module _ (client bound : ℕ) where
     abbrev Q : Place → Type 0
     Q place = (place.0.group.core ≡ base.core) × IsFewPlace place
 
-    entry_parts : (counted_ : Bool) (command : Command) (start : ReplicaState) → C command → FixedEntry base counted_ command start Q
-    entry_parts counted_ command start c = record {
+    entry_parts : (counted_ : Bool) (command : Command) (start : ReplicaState) → IsFixedCommand base command → start.group.core ≡ base.core → C command → TableEntry counted_ command start (λ place. IsFewPlace place) Q
+    entry_parts counted_ command start f same c = record {
       Lost = λ other. C other;
-      core_is = λ place q. q.0;
+      entered = λ mails k. (ap (λ (g : Group). g.core) (entered_group command start) ∙ applied_core base command start.group f ∙ same, entered_few base command start mails f c k);
       answers = λ who seq op answer r mails t is e q. (q.0, said_few r mails (client_actor who) (Answer (name_of r) seq answer) tt q.1);
       returned = λ r mails t q. (back_any (λ x. x.group.core ≡ base.core) (λ x acts backlog p. p) command r q.0, back_few command r mails c q.1);
-      teaches = λ to r mails t m q. (q.0, said_few r mails to (Learn (name_of r) (next start) command) c q.1);
+      reports = λ result r mails is q. absurd (unreported base counted_ command start f same result is);
+      speaks = λ r mails q. unspoken base counted_ command start f same Q r mails q;
+      teaches = λ to r mails t a q. (q.0, said_few r mails to (Learn (name_of r) (next start) command) c q.1);
+      installs = λ to r mails t new q. absurd (none_joined base counted_ command start f same r q.0 to new);
+      repolls = λ to r mails t new q. absurd (none_joined base counted_ command start f same r q.0 to new);
       flies = λ other r mails e q. opt_some C (flying r (next start)) other e (held.flying_held C r (next start) q.1.held);
       landed = λ place q. (
         q.0,
@@ -184,7 +187,7 @@ module _ (client bound : ℕ) where
 
     enters_few : (counted_ : Bool) (command : Command) (r : ReplicaState) (mails : List Mail) → IsFixedCommand base command → C command → r.group.core ≡ base.core → IsFewPlace (r, mails) → IsFewPlace (entered_place counted_ command (r, mails))
     enters_few counted_ command r mails f c same k =
-        (entry_keeps base counted_ command r Q (entry_parts counted_ command r c) f same mails (ap (λ (g : Group). g.core) (entered_group command r) ∙ applied_core base command r.group f ∙ same, entered_few base command r mails f c k)).1
+        (entry_holds counted_ command r (λ place. IsFewPlace place) Q (entry_parts counted_ command r f same c) mails k).1
 
     head_few : (command : Command) (backlog : List Command) (r : ReplicaState) → r.backlog ≡ command ∷ backlog → held.Held C r → C command × Each C backlog
     head_few command backlog r e h = subst (Each C) e h.0

@@ -1,29 +1,22 @@
 -- What the pump leaves of a replica that runs, where its group is not reshaped: all open slots are taken, or nothing is queued and each report is of a slot that is taken.
-use Rattle.std.proofs.Common.{◌≡◌, ℕ, zero, suc, ◌+◌, ◌<◌, ◌≤◌, ◌&&◌, eqb, Bool, true, false, List, [], ◌∷◌, replicate, Option, Some, None, inl, inr, refl, sym, ◌∙◌, ap, subst, arith}
+use Rattle.std.proofs.Common.{◌≡◌, ℕ, zero, suc, ◌+◌, ◌<◌, ◌≤◌, ◌&&◌, Bool, true, false, List, [], ◌∷◌, replicate, Option, Some, None, inl, inr, refl, sym, ◌∙◌, ap, subst, arith}
 use Rattle.std.specs.Prelude.{is_some, nat_le, nat_lt}
-use Rattle.std.specs.List.{list_any}
 use Rattle.std.specs.Option.{option_map}
-use Rattle.std.proofs.lemmas.Bool.{cond_both, cond-false, cases_lt, ltb-false, and_parts, and_from, both_ways, le-leb, leb-true, or_parts, cases_eq}
+use Rattle.std.proofs.lemmas.Bool.{cond_both, cases_lt, ltb-false, and_parts, and_from, both_ways, le-leb, leb-true, or_parts, cases_eq}
 use Rattle.sc_base.specs.Definitions.{Among, Each}
 use Rattle.sc_node_table.specs.Values.{Ballot, Op, Base, Command, Noop, Call, Core, Free, Mail, MailBody, Accept, Must, Gap, Flight, Report}
 use Rattle.sc_words.specs.declared.paxos.answers.Must.TheVariants.{Value, Free as Open}
 use Rattle.sc_words.specs.ideal.Definitions.{key_of, holds_key}
 use Rattle.sc_words.specs.paxos.Definitions.{must, must_without, choice, names_above}
-use Rattle.sc_words.proofs.PaxosProofs.Lemmas.{Each-push, Each-among, Each-from, choice_among, choice_best}
-use Rattle.sc_node_table.specs.Definitions.{sent_all, is_act, next_queued, from_backlog, from_acts, from_queues, found_by, found_for, offered, pumped_from, pumped, ReplicaState, Place, name_of, next, first_set, settled, may_offer, taken_at, under_way, open_slots, is_idle, last_slot, slots_ahead}
-use Rattle.sc_live_plain.specs.Definitions.{takers}
-use Rattle.sc_live_plain.proofs.Lemmas.{count-push, range_more, takes, takes_not, all_kept, all_reached, call_found, none_found, by_found, by_nothing, mail_of, in_range, range_yes, range_behind, one_if, one_yes, one_no}
+use Rattle.sc_words.proofs.PaxosProofs.Lemmas.{Each-push, Each-weaker, Each-among, Each-from, choice_among, choice_best}
+use Rattle.sc_node_table.specs.Definitions.{sent_all, next_queued, from_backlog, found_by, found_for, offered, pumped_from, pumped, ReplicaState, Place, name_of, next, first_set, settled, may_offer, taken_at, is_idle, last_slot, slots_ahead}
+use Rattle.sc_live_plain.proofs.Lemmas.{requests_only, offer_taken, takes, takes_not, all_kept, all_reached, call_found, none_found, by_found, by_nothing, mail_of, in_range, range_yes, range_behind, one_yes, one_no}
 use Rattle.sc_live_steps.proofs.FollowingProofs.LeastMembers.{none_decided}
+use Rattle.sc_law_groups.proofs.GroupProofs.Offering.{must_value}
 use Rattle.sc_live_healed.specs.Definitions.{IsFixedCommand, IsFixedRequest, IsUndecided, HasOfferedAll}
-use Rattle.sc_live_healed.proofs.ServingReplicas.{IsServing, IsUnderWay, IsAsked, grown, no_acts}
+use Rattle.sc_live_healed.proofs.ServingReplicas.{IsServing, IsUnderWay, IsAsked, grown, fixed_acts}
 
 -- ---- what a leader must propose
-
--- a report of a value that must be proposed
-must_reported : (above : Bool) (o : Option (Report Command)) (command : Command) → must_without above (option_map (λ (report : Report Command). report.value) o) ≡ Value command → (best : Report Command) × (o ≡ Some best) × (best.value ≡ command)
-must_reported above (Some best) command e = (best, refl, cc)
-must_reported true None command e = cc
-must_reported false None command e = cc
 
 -- nothing is reported where anything may be proposed
 must_open : (above : Bool) (o : Option (Report Command)) → must_without above (option_map (λ (report : Report Command). report.value) o) ≡ Open → (above ≡ false) × (o ≡ None)
@@ -54,15 +47,10 @@ module _ (base : Base) (me : ℕ) (ballot : Ballot) (Held : Flight Command → T
   -- ---- what is found in the queue
 
   module _ (slot taken : ℕ) (r : ReplicaState) (mails : List Mail) (k : S taken (r, mails)) where
-    from_queue : from_queues (r, mails) ≡ from_backlog (r, mails)
-    unfolding from_queues
-    from_queue =
-        cond-false (list_any is_act (under_way r)) (None, (r, mails)) (from_acts r.acts (r, mails)) (no_acts base me ballot Held taken r mails k (open_slots r))
-        ∙ ap (λ acts. from_acts acts (r, mails)) k.acts
-
     queue_found : must slot r.leader ≡ Open → found_for slot (r, mails) ≡ from_backlog (r, mails)
     unfolding found_for
-    queue_found open_ = ap (λ (what : Must Command). found_by what (r, mails)) open_ ∙ from_queue
+    queue_found open_ = ap (λ (what : Must Command). found_by what (r, mails)) open_
+        ∙ requests_only (IsFixedCommand base) (fixed_acts base) r (Each-weaker (IsUnderWay base me ballot Held mails) (λ (flight : Flight Command). IsFixedCommand base flight.value) (λ flight u. u.value) r.leader.flights k.flights) k.ready mails k.acts
 
     find_call : must slot r.leader ≡ Open → (client seq : ℕ) (op : Op) (rest : List Command) → r.backlog ≡ Call client seq op ∷ rest → IsFixedRequest base (Call client seq op)
         → found_for slot (r, mails) ≡ (Some (Call client seq op), (record r { backlog = rest }, mails))
@@ -101,15 +89,6 @@ module _ (base : Base) (me : ℕ) (ballot : Ballot) (Held : Flight Command → T
     abbrev after : Place
     after = offered slot base.core.members command (r, mails)
 
-    taken_once : (s : ℕ) → takers after.0 s ≡ one_if (in_range (next r) (taken + 1) s)
-    unfolding offered
-    taken_once s =
-        let push = count-push (λ (f : Flight Command). eqb f.slot s) r.leader.flights (record { slot = slot; value = command; voters = None }) in
-        let before = k.slots.once s in
-        let more = range_more (next r) taken s in
-        let same : one_if (eqb slot s) ≡ one_if (eqb (next r + taken) s) = ap (λ n. one_if (eqb n s)) at in
-        omega (arith, push, before, more, same)
-
     asked : IsAsked base me ballot (sent_all r.me base.core.members (Accept (name_of r) r.leader.ballot slot command) mails) (record { slot = slot; value = command; voters = None })
     asked member a =
         inr (
@@ -141,7 +120,7 @@ module _ (base : Base) (me : ℕ) (ballot : Ballot) (Held : Flight Command → T
               (record { value = fixed; undecided = none_voted; from = inr asked });
           ready = k.ready;
           reports = k.reports;
-          slots = record { most = omega (arith, few); once = taken_once };
+          slots = record { most = omega (arith, few); once = offer_taken slot taken base.core.members command r mails at k.slots.once };
           room = inr (omega (arith, few, low));
         }
 
@@ -218,7 +197,7 @@ module _ (base : Base) (me : ℕ) (ballot : Ballot) (Held : Flight Command → T
     turn : (what : Must Command) → must slot r.leader ≡ what → Turn
     unfolding Turn
     turn (Value command) e =
-        let best = must_reported (names_above slot r.leader.reports) (choice slot r.leader.reports) command e in
+        let best = must_value (names_above slot r.leader.reports) (choice slot r.leader.reports) command e in
         let there = choice_among slot r.leader.reports best.0 best.1 in
         let fixed : IsFixedCommand base command = subst (IsFixedCommand base) best.2 (Each-among (λ (x : Report Command). IsFixedCommand base x.value) r.leader.reports best.0 k.reports there.0) in
         by_found (IsPumped (r, mails)) slot base.core.members sets (found_for slot (r, mails)) command (r, mails) (find_value slot taken r mails k command e) (turned command r.backlog fixed k.backlog)

@@ -1,22 +1,20 @@
 -- A node's own tick, seen by a group: its replica ticks, and what is pending of the group behind the row is what this replica says.
-use Rattle.std.proofs.Common.{◌≡◌, ℕ, ◌&&◌, ◌||◌, not, eqb, Bool, true, false, cond, List, [], ◌∷◌, ◌++◌, replicate, filter, Option, Some, None, ◌⊎◌, inl, inr, refl, sym, ◌∙◌, ap, subst}
-use Rattle.std.specs.List.{list_any}
+use Rattle.std.proofs.Common.{◌≡◌, ℕ, eqb, Bool, true, false, List, [], ◌∷◌, ◌++◌, filter, Option, Some, None, ◌⊎◌, inl, inr, refl, sym, ◌∙◌, ap, subst}
 use Rattle.std.proofs.lemmas.Bool.{cond-true, eq-eqb}
-use Rattle.std.proofs.lemmas.List.Folds.{list_any-append}
 use Rattle.sc_base.specs.Definitions.{Among, Each, Drawer, same_draw}
 use Rattle.sc_base.proofs.Lemmas.{draw_is}
 use Rattle.sc_words.proofs.PaxosProofs.Lemmas.{Each-among, find_found}
 use Rattle.sc_node_table.specs.Values.{Seat, Row, Base, OrderLine, Mail, Node}
 use Rattle.sc_actor.specs.declared.rows.Event.TheVariants.{Tick as TickEvent}
 use Rattle.sc_actor.specs.declared.rows.Input.TheVariants.{Tick}
-use Rattle.sc_actor.specs.Definitions.{mails, copies, acted, value, may_get, has_crashed, is_crash, numbers_of, row_of, is_quiet, System}
+use Rattle.sc_actor.specs.Definitions.{mails, copies, acted, value, may_get, numbers_of, row_of, is_quiet, System}
 use Rattle.sc_actor.proofs.Lemmas.{value-snoc}
 use Rattle.sc_node_table.specs.Definitions.{NodeState, ReplicaState, name_of, replica_of, group_of_mail, ticked, tick_row, on_tick, is_node}
 use Rattle.sc_scenario.specs.declared.scenario.scenarios.Scenario.{Scenario}
 use Rattle.sc_scenario.specs.scenario.Definitions.{IsBounded}
 use Rattle.sc_meaning.specs.sound.Definitions.{Player, as_nodes, player_table, system_of}
-use Rattle.sc_live_orderly.specs.Definitions.{mail_with, pending_mail}
-use Rattle.sc_live_orderly.proofs.PendingMail.{none_pending}
+use Rattle.sc_live_orderly.specs.Definitions.{pending_mail}
+use Rattle.sc_live_orderly.proofs.PendingMail.{gets_same, mail_with-agree, none_pending}
 use Rattle.sc_live_orderly.proofs.RemainingMail.{after-row}
 use Rattle.sc_live_healed.proofs.FixedWalks.{IsFixedPlace, IsMember}
 use Rattle.sc_live_healed.proofs.FixedNodes.{AreFresh, IsOne, into, name_one}
@@ -28,13 +26,6 @@ use Rattle.sc_live_healed.proofs.PlayerRows.{View, HasOne}
 use Rattle.sc_live_healed.proofs.FreshBallots.{HasFreshBallots, seen_at}
 use Rattle.sc_live_healed.proofs.DeliveredViews.{view}
 
--- tests that agree leave the same mail
-tests_agree : (p q : Mail → Bool) → ((m : Mail) → p m ≡ q m) → (sent : List Mail) (counts : List ℕ) → mail_with p sent counts ≡ mail_with q sent counts
-tests_agree p q agree [] counts = refl
-tests_agree p q agree (m ∷ sent) [] = refl
-tests_agree p q agree (m ∷ sent) (c ∷ counts) =
-    ap (λ b. cond b (replicate c m) [] ++ mail_with p sent counts) (agree m) ∙ ap (λ xs. cond (q m) (replicate c m) [] ++ xs) (tests_agree p q agree sent counts)
-
 module _ (words : ℕ → ℕ → ℕ × ℕ) (scenario : Scenario) (bounded : IsBounded scenario) (off : scenario.policy ≡ false) (base : Base) (among : Among base scenario.groups) where
   abbrev s : System Player Mail OrderLine
   s = system_of as_nodes words scenario
@@ -44,15 +35,7 @@ module _ (words : ℕ → ℕ → ℕ × ℕ) (scenario : Scenario) (bounded : I
 
   -- a tick of an actor crashes nobody
   pub ticks_get : (rows : Rows) (seat : Seat Player) (who : ℕ) → may_get (numbers_of s.births) (rows ++ row_of player_table seat rows TickEvent ∷ []) who ≡ may_get (numbers_of s.births) rows who
-  ticks_get rows seat who =
-      ap (λ (b : Bool). list_any (λ actor. eqb actor who) (numbers_of s.births) && not b)
-      (list_any-append (λ (r : Row Mail OrderLine). eqb r.who who && is_crash r.event) rows (row_of player_table seat rows TickEvent ∷ []) ∙ by (eqb seat.who who) (has_crashed rows who))
-    where
-      by : (a b : Bool) → (b || ((a && false) || false)) ≡ b
-      by true true = refl
-      by true false = refl
-      by false true = refl
-      by false false = refl
+  ticks_get rows seat who = gets_same (numbers_of s.births) rows (row_of player_table seat rows TickEvent) refl who
 
   -- what is pending behind a tick where nothing was pending
   pub pending_ticked : (rows : Rows) (seat : Seat Player) → is_quiet s rows ≡ true → pending_mail s (rows ++ row_of player_table seat rows TickEvent ∷ []) ≡ filter (λ (m : Mail). may_get (numbers_of s.births) (rows ++ row_of player_table seat rows TickEvent ∷ []) m.to) (row_of player_table seat rows TickEvent).sent
@@ -60,7 +43,7 @@ module _ (words : ℕ → ℕ → ℕ × ℕ) (scenario : Scenario) (bounded : I
       let row : Row Mail OrderLine = row_of player_table seat rows TickEvent in
       let test : Mail → Bool = λ (m : Mail). may_get (numbers_of s.births) (rows ++ row ∷ []) m.to in
       let was : Mail → Bool = λ (m : Mail). may_get (numbers_of s.births) rows m.to in
-      after-row s test rows row ∙ ap (λ (ms : List Mail). ms ++ filter test row.sent) (tests_agree test was (λ m. ticks_get rows seat m.to) (mails rows) (copies rows) ∙ none_pending s rows quiet)
+      after-row s test rows row ∙ ap (λ (ms : List Mail). ms ++ filter test row.sent) (mail_with-agree test was (λ m. ticks_get rows seat m.to) (mails rows) (copies rows) ∙ none_pending s rows quiet)
 
   module _ (seat : Seat Player) (is_of : IsOf scenario seat) (node_is : is_node seat.who ≡ true) where
     -- The replica of the group ticks in the row.

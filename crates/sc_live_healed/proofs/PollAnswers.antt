@@ -12,6 +12,7 @@ use Rattle.sc_words.specs.declared.paxos.answers.PrepareAnswer.TheVariants as Pr
 use Rattle.sc_words.specs.paxos.Definitions.{AcceptorState, LeaderState, below, may_promise, prepared, after_promise, reports_from, promise_counted}
 use Rattle.sc_node_table.specs.Definitions.{ended, stopped, saw, install_to, install_row, took_over, looked_up, looked, jumped, forgotten, sent, promise_to, promised, prepare_row, promise_row, nack_row, pumped, leads, mailed, settled, first_set, last_slot, members, name_of, next, ReplicaState, Place}
 use Rattle.sc_law_walks.proofs.Lemmas.{either_way}
+use Rattle.sc_base.proofs.AscendingLemmas.{and_both}
 use Rattle.sc_live_healed.proofs.FixedWalks.{IsFresh, IsFixedPlace}
 use Rattle.sc_live_healed.proofs.FixedChanges.{polls}
 use Rattle.sc_live_healed.proofs.MovedReplicas.{HasMoved, mailed_moves, pumped_moves}
@@ -191,14 +192,9 @@ module _ (base : Base) (me : ℕ) (fresh : IsFresh base me) where
       let counted : ReplicaState = record r { leader = (promise_counted from ballot reports r.leader).1 } in
       let f1 : F (counted, []) = polls base me fresh from ballot reports r [] on h.3 f in
       let pumped1 = pumped_moves base me fresh ⊥ counted 0 (Ask base.core.id 0) low f1 in
-      let leads1 : leads ballot r ≡ true = by r.running (same_ballot ballot r.leader.ballot) on (ap (λ (b : Ballot). same_ballot ballot b) same ∙ ballot_itself ballot) in
+      let leads1 : leads ballot r ≡ true = and_both r.running (same_ballot ballot r.leader.ballot) on (ap (λ (b : Ballot). same_ballot ballot b) same ∙ ballot_itself ballot) in
       subst (λ (p : Place). (p.0.running ≡ true → is_member p.0.leader.promisers from ≡ true) × (next p.0 ≡ next r)) (sym (cond-true (leads ballot r) (pumped (counted, [])) (r, []) leads1))
       ((λ on2. elim (pumped1.1.leads on2) [ inl e ↦ absurd e | inr l ↦ l.3 from (counted_in from ballot reports r.leader same) ]), pumped1.2)
-    where
-      by : (a b : Bool) → a ≡ true → b ≡ true → (a && b) ≡ true
-      by true true e f = refl
-      by false b e f = absurd (cc)
-      by true false e f = absurd (cc)
 
   -- an answer to the poll is counted, or the replica that polls stops; slots have room
   pub answers_count : (from : ℕ) (ballot : Ballot) (from_slot : ℕ) (body : MailBody) (r : ReplicaState) → r.acceptor.floor < next r → r.running ≡ true → r.leader.ballot ≡ ballot → next r ≡ from_slot

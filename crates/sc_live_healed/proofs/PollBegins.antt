@@ -1,13 +1,14 @@
 -- A poll begins: a tick of a replica that is not settled elects it with its next ballot, and asks each member for its promise.
-use Rattle.std.proofs.Common.{◌≡◌, ℕ, zero, suc, ◌+◌, ◌-◌, ◌^◌, ◌<◌, ◌≤◌, ◌||◌, not, nat_le, eqb, true, false, List, [], ◌∷◌, replicate, None, inl, inr, ◌∙◌, ap, arith}
+use Rattle.std.proofs.Common.{◌≡◌, ℕ, ◌+◌, ◌-◌, ◌^◌, ◌||◌, not, nat_le, eqb, true, false, List, [], ◌∷◌, replicate, None, inl, inr, ◌∙◌, ap, arith}
 use Rattle.std.specs.Prelude.{is_some}
-use Rattle.std.proofs.lemmas.Bool.{cond-true, cond-false, and_parts, cases_lt, leb-true, or_left}
+use Rattle.std.proofs.lemmas.Bool.{cond-true, cond-false, and_parts, leb-true, or_left}
 use Rattle.sc_base.specs.Definitions.{Among, Drawer, is_member, most_nodes}
 use Rattle.sc_words.proofs.PaxosProofs.Lemmas.{Among-filter}
 use Rattle.sc_paxos_law.proofs.Lemmas.{Among-left, Among-right}
 use Rattle.sc_node_table.specs.Values.{Ballot, Base, Core, Mail, MailBody, Prepare}
 use Rattle.sc_node_table.specs.Definitions.{elected, sent, sent_all, open_nodes, nodes_to, numbers_from, is_in_some, is_node, settled, members, name_of, next, slots_ahead, tick_row, ReplicaState}
 use Rattle.sc_law_walks.proofs.Lemmas.{elected_place}
+use Rattle.sc_live_plain.proofs.Lemmas.{to_numbers}
 use Rattle.sc_live_healed.proofs.FixedWalks.{IsFresh, IsMember, IsFixedPlace}
 
 -- the ballot with which a replica is elected next
@@ -45,13 +46,6 @@ all_among me body to (node ∷ nodes) mails (inl same) =
     (Among-right (record { from = me; to = to; body = body }) mails (record { from = me; to = node; body = body } ∷ []) (inl (ap (λ (n : ℕ). record { from = me; to = n; body = body }) same)))
 all_among me body to (node ∷ nodes) mails (inr a) = all_among me body to nodes (sent me node body mails) a
 
-number_among : (from more n : ℕ) → from ≤ n → n < from + more → Among n (numbers_from from more)
-number_among from zero n low high = absurd (omega (arith, low, high))
-number_among from (suc more) n low high = elim (cases_lt from n) [
-  | inl under ↦ inr (number_among (from + 1) more n (omega (arith, under)) (omega (arith, high)))
-  | inr over_ ↦ inl (omega (arith, low, over_))
-]
-
 -- the replica that is elected asks each member
 pub members_are_asked : (base : Base) (me : ℕ) (r : ReplicaState) (mails : List Mail) → IsFixedPlace base me (r, []) → (m : ℕ) → IsMember base m → is_node m ≡ true → Among (record { from = r.me; to = m; body = Prepare (name_of r) (next_ballot r) (next r) }) (elected_place (r, mails)).1
 unfolding nodes_to
@@ -60,7 +54,7 @@ members_are_asked base me r mails f m member node =
     let low = leb-true 1 m bounds.0 in
     let high = leb-true m most_nodes bounds.1 in
     all_among r.me (Prepare (name_of r) (next_ballot r) (next r)) m (open_nodes r.sets) mails
-    (Among-filter (λ (n : ℕ). is_in_some r.sets n) (numbers_from 1 most_nodes) m (number_among 1 most_nodes m low (omega (arith, high))) (in_some f.fixed.sets))
+    (Among-filter (λ (n : ℕ). is_in_some r.sets n) (numbers_from 1 most_nodes) m (to_numbers 1 most_nodes m low (omega (arith, high))) (in_some f.fixed.sets))
   where
     in_some : r.sets ≡ replicate slots_ahead base.core.members → is_in_some r.sets m ≡ true
     in_some e = ap (λ (sets : List (List ℕ)). is_in_some sets m) e ∙ or_left (is_member base.core.members m) _ member

@@ -6,8 +6,8 @@ use Rattle.sc_words.proofs.PaxosProofs.Lemmas.{Each-among, Each-append, Each-fil
 use Rattle.sc_paxos_law.proofs.Lemmas.{Among-left, Among-right, among-member}
 use Rattle.sc_node_table.specs.Values.{Ballot, Draw, Base, Core, Mail, MailBody, Prepare, Promise, Nack, Install, Request}
 use Rattle.sc_node_table.specs.Definitions.{group_of_mail, last_slot, mailed, prepare_row, next, ReplicaState, Place}
+use Rattle.sc_paxos_law.proofs.Leading.{counts_within}
 use Rattle.sc_live_healed.proofs.FixedWalks.{IsFresh, IsMember, IsSaid, IsFixedPlace}
-use Rattle.sc_live_healed.proofs.LivingMajorities.{passes_more}
 use Rattle.sc_live_healed.proofs.MovedReplicas.{HasMoved, mailed_moves}
 use Rattle.sc_live_healed.proofs.PollAnswers.{Answered, polls_are_answered, answers_count, majorities_settle}
 use Rattle.sc_live_healed.proofs.PollRows.{IsAnswerMail, asked_says, asked_next, refused_next, state_next, promised_next, requested_next}
@@ -304,5 +304,5 @@ module _ (base : Base) (alive : ℕ → Bool) where
     -- After both rounds who polls is settled, where more than half of the members may get mail.
     pub polls_end_settled : (c : Replicas) (r : ReplicaState) → IsFresh base n → SecondRound c [] → c n ≡ Some r → IsFixedPlace base n (r, []) → r.leader.ballot ≡ ballot → length base.core.members < 2 * count_by alive base.core.members → IsSettledOrStopped r
     polls_end_settled c r fresh k e f same most on =
-        let counted = passes_more alive (is_member r.leader.promisers) base.core.members (λ m a lives. elim (k.each m (among-member base.core.members m a) lives r e (on, same)) [ inl yes_ ↦ yes_ | inr q ↦ absurd q.1 ]) in
+        let counted = counts_within alive (is_member r.leader.promisers) base.core.members (λ m a lives. elim (k.each m (among-member base.core.members m a) lives r e (on, same)) [ inl yes_ ↦ yes_ | inr q ↦ absurd q.1 ]) in
         majorities_settle base n fresh r f (lt-ltb (length base.core.members) (2 * votes_of base.core.members r.leader.promisers) (omega (arith, counted, most))) on

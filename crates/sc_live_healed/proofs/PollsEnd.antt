@@ -1,20 +1,18 @@
 -- Polls end: in the quiet prefix after the turn of a node that was elected in it, the node's replica is settled or does not run, where more than half of the members may get mail.
-use Rattle.std.proofs.Common.{◌≡◌, ℕ, zero, suc, ◌*◌, ◌<◌, ◌≤◌, ◌&&◌, ◌||◌, not, eqb, Bool, true, false, cond, List, [], ◌∷◌, ◌++◌, count_by, length, filter, find, Option, Some, None, ◌⊎◌, inl, inr, refl, sym, ◌∙◌, ap, subst, append_assoc, append-nil}
-use Rattle.std.specs.List.{list_any}
-use Rattle.std.proofs.lemmas.List.Folds.{list_any-append}
+use Rattle.std.proofs.Common.{◌≡◌, ℕ, zero, suc, ◌*◌, ◌<◌, ◌≤◌, eqb, Bool, true, cond, List, [], ◌∷◌, ◌++◌, count_by, length, filter, find, Option, Some, None, ◌⊎◌, inl, inr, refl, sym, ◌∙◌, ap, subst, append_assoc, append-nil}
 use Rattle.sc_base.specs.Definitions.{Among, Each, same_draw}
 use Rattle.sc_base.proofs.Lemmas.{draw_is}
 use Rattle.sc_words.proofs.PaxosProofs.Lemmas.{Each-among, find_found}
 use Rattle.sc_paxos_law.proofs.Lemmas.{place_among}
 use Rattle.sc_node_table.specs.Values.{Ballot, Draw, Seat, Row, Event, Deliver, Base, OrderLine, Mail, MailBody, Install, Node, Client}
-use Rattle.sc_actor.specs.Definitions.{mails, numbered, numbers_of, has_crashed, is_crash, lowest, value}
+use Rattle.sc_actor.specs.Definitions.{mails, numbered, numbers_of, is_crash, lowest, value}
 use Rattle.sc_actor.proofs.Lemmas.{find-who}
 use Rattle.sc_node_table.specs.Definitions.{ReplicaState, Place, name_of, last_slot, mailed, next}
 use Rattle.sc_scenario.specs.declared.scenario.scenarios.Scenario.{Scenario}
 use Rattle.sc_scenario.specs.scenario.Definitions.{IsBounded}
 use Rattle.sc_meaning.specs.sound.Definitions.{Player, as_nodes, births, player_table}
 use Rattle.sc_live_orderly.specs.Turns.{pending_mail, AreDelivered, TakesLowest}
-use Rattle.sc_live_orderly.proofs.PendingMail.{takes_lowest, none_pending}
+use Rattle.sc_live_orderly.proofs.PendingMail.{gets_same, takes_lowest, none_pending}
 use Rattle.sc_live_healed.proofs.FixedWalks.{IsMember, IsFixedPlace}
 use Rattle.sc_live_healed.proofs.FixedNodes.{AreFresh, IsOne, into, name_one}
 use Rattle.sc_live_healed.proofs.FixedBirths.{groups_fresh}
@@ -180,16 +178,7 @@ module _ (words : ℕ → ℕ → ℕ × ℕ) (scenario : Scenario) (bounded : I
 
     -- nobody crashes in a delivery
     lives_on : (rows : Rows) (row : Row Mail OrderLine) (number : ℕ) → row.event ≡ Deliver number → (who : ℕ) → lives_in (rows ++ row ∷ []) who ≡ lives_in rows who
-    lives_on rows row number event who =
-        ap (λ (b : Bool). list_any (λ actor. eqb actor who) (numbers_of (s words scenario bounded base among).births) && not b)
-        (list_any-append (λ (r : Row Mail OrderLine). eqb r.who who && is_crash r.event) rows (row ∷ [])
-        ∙ (ap (λ (e : Event OrderLine). has_crashed rows who || ((eqb row.who who && is_crash e) || false)) event ∙ by (eqb row.who who) (has_crashed rows who)))
-      where
-        by : (a b : Bool) → (b || ((a && false) || false)) ≡ b
-        by true true = refl
-        by true false = refl
-        by false true = refl
-        by false false = refl
+    lives_on rows row number event who = gets_same (numbers_of (s words scenario bounded base among).births) rows row (ap (λ (e : Event OrderLine). is_crash e) event) who
 
     delivers_at : (rows : Rows) (row : Row Mail OrderLine) → IsFixedJournal scenario rows → ((who : ℕ) → lives_in rows who ≡ a0 who) → Each (λ (m : Mail). FitsSlots m.body) (mails rows) → lowest (s words scenario bounded base among) rows ≡ Some row
         → (mail : Mail) × (others : List Mail) × Delivers rows row mail others × ((who : ℕ) → lives_in (rows ++ row ∷ []) who ≡ a0 who)

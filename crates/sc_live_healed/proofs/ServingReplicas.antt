@@ -1,15 +1,11 @@
 -- What holds of a replica that runs, in the midst of a row: which slots are taken, and by what.
-use Rattle.std.proofs.Common.{◌≡◌, ℕ, ◌+◌, ◌≤◌, ◌||◌, true, false, List, [], ◌∷◌, ◌++◌, replicate, Option, Some, None, ◌⊎◌, inl, inr, refl, ap}
-use Rattle.std.specs.List.{list_any}
-use Rattle.std.specs.Option.{option_map}
-use Rattle.std.proofs.lemmas.Bool.{or_parts, or_from}
+use Rattle.std.proofs.Common.{◌≡◌, ℕ, ◌+◌, ◌≤◌, true, false, List, [], replicate, ◌⊎◌, inl, inr, refl, ap}
 use Rattle.sc_base.specs.Definitions.{Among, Each}
 use Rattle.sc_node_table.specs.Values.{Ballot, Base, Command, Noop, Call, Mail, Accept, Flight, Report}
-use Rattle.sc_words.specs.paxos.Definitions.{flight_at}
-use Rattle.sc_words.proofs.PaxosProofs.Lemmas.{Each-among, Each-weaker, find_found}
-use Rattle.sc_node_table.specs.Definitions.{is_act, ReplicaState, Place, next, either, taken_at, listed, taken_from, at_slot, slots_ahead, last_slot}
+use Rattle.sc_words.proofs.PaxosProofs.Lemmas.{Each-weaker}
+use Rattle.sc_node_table.specs.Definitions.{is_act, ReplicaState, Place, next, slots_ahead, last_slot}
 use Rattle.sc_live_plain.specs.Definitions.{AreTaken}
-use Rattle.sc_live_plain.proofs.Lemmas.{mail_of, at_found}
+use Rattle.sc_live_plain.proofs.Lemmas.{mail_of}
 use Rattle.sc_live_healed.specs.Definitions.{IsFixedCommand, IsFixedRequest, IsUndecided, HasVoted}
 
 -- what stands in one list of mails stands in the other
@@ -76,25 +72,3 @@ module _ (base : Base) (me : ℕ) (ballot : Ballot) (Held : Flight Command → T
     slots = k.slots;
     room = k.room;
   }
-
-  module _ (taken : ℕ) (r : ReplicaState) (mails : List Mail) (k : S taken (r, mails)) where
-    one_fixed : (slot : ℕ) (o : Option (Flight Command)) (p : Option Command) → flight_at slot r.leader.flights ≡ o → at_slot r.ready slot ≡ p
-        → list_any is_act (listed (either (option_map (λ (flight : Flight Command). flight.value) o) p)) ≡ false
-    one_fixed slot (Some flight) p e f =
-        let found = find_found (λ (x : Flight Command). _) r.leader.flights flight e in
-        let u = Each-among (IsUnderWay base me ballot Held mails) r.leader.flights flight k.flights found.0 in
-        ap (λ b. b || false) (fixed_acts base flight.value u.value)
-    one_fixed slot None (Some command) e f =
-        let found = at_found r.ready slot command f in
-        let fixed = Each-among (λ (entry : ℕ × Command). IsFixedCommand base entry.1) r.ready (slot, command) k.ready found.1 in
-        ap (λ b. b || false) (fixed_acts base command fixed)
-    one_fixed slot None None e f = refl
-
-    any_append : (xs ys : List Command) → list_any is_act xs ≡ false → list_any is_act ys ≡ false → list_any is_act (xs ++ ys) ≡ false
-    any_append [] ys e f = f
-    any_append (x ∷ xs) ys e f = (let parts = or_parts (is_act x) (list_any is_act xs) e in or_from (is_act x) (list_any is_act (xs ++ ys)) parts.0 (any_append xs ys parts.1 f))
-
-    -- nothing but requests and Noops is under way
-    pub no_acts : (slots : List ℕ) → list_any is_act (taken_from r slots) ≡ false
-    no_acts [] = refl
-    no_acts (slot ∷ slots) = any_append (listed (taken_at r slot)) (taken_from r slots) (one_fixed slot (flight_at slot r.leader.flights) (at_slot r.ready slot) refl refl) (no_acts slots)

@@ -19,12 +19,12 @@ use Rattle.sc_scenario.specs.scenario.Definitions.{IsBounded}
 use Rattle.sc_meaning.specs.sound.Definitions.{Lawful, Player, as_nodes, player_table, schedule, system_of}
 use Rattle.sc_live_orderly.specs.Definitions.{Kick, Ticks, Starts, Turn, kick_line, pending_mail, AreDelivered, IsTurn, HasTurns}
 use Rattle.sc_live_orderly.specs.Turns.{as_list}
+use Rattle.sc_paxos_law.proofs.Leading.{counts_within}
 use Rattle.sc_live_healed.proofs.FixedWalks.{IsFresh, IsMember}
 use Rattle.sc_live_healed.proofs.FixedNodes.{AreFresh}
 use Rattle.sc_live_healed.proofs.FixedBirths.{groups_fresh}
 use Rattle.sc_live_healed.proofs.FixedJournals.{Rows, IsOf, IsFixedJournal, AreUntold, untold_prefix}
 use Rattle.sc_live_healed.proofs.LivingActors.{acts_row, seats_stay_nodes, turns_get, turns_kind}
-use Rattle.sc_live_healed.proofs.LivingMajorities.{passes_more}
 use Rattle.sc_live_healed.proofs.NearSlots.{NamesNear, StaysNear}
 use Rattle.sc_live_healed.proofs.NearJournals.{IsNearJournal, PlayerNear, journal_near}
 use Rattle.sc_live_healed.proofs.NearRounds.{rounds_grow}
@@ -107,7 +107,7 @@ module _ (words : ℕ → ℕ → ℕ × ℕ) (scenario : Scenario) (bounded : I
       MayGet rows = (who : ℕ) → lives who ≡ true → gets rows who ≡ true
 
       enough : (rows : Rows) → MayGet rows → length base.core.members < 2 * count_by (gets rows) base.core.members
-      enough rows may = (let more = passes_more lives (gets rows) base.core.members (λ x a l. may x l) in omega (arith, more, most))
+      enough rows may = (let more = counts_within lives (gets rows) base.core.members (λ x a l. may x l) in omega (arith, more, most))
 
       -- ---- the deliveries of a turn
 

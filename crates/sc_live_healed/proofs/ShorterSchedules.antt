@@ -1,6 +1,7 @@
 -- A whole journal of a schedule has a prefix that is a whole journal of the first lines alone, in which no line was cut off where none was in the journal.
-use Rattle.std.proofs.Common.{◌≡◌, ℕ, ◌+◌, List, [], ◌∷◌, ◌++◌, Bool, true, false, ◌||◌, refl, sym, ◌∙◌, ap, subst, append_assoc}
+use Rattle.std.proofs.Common.{◌≡◌, ℕ, ◌+◌, List, [], ◌∷◌, ◌++◌, Bool, false, ◌||◌, refl, sym, ◌∙◌, ap, subst, append_assoc, inl, inr}
 use Rattle.std.specs.List.{flat_map}
+use Rattle.std.proofs.lemmas.Bool.{cases_Bool}
 use Rattle.sc_actor.specs.declared.rows.Row.{Row}
 use Rattle.sc_actor.specs.declared.schedules.Line.{Line}
 use Rattle.sc_actor.specs.Definitions.{System, Task, IsLawful, IsWhole, is_over, cuts, skips, rest_of_task, tasks_of, unsettled}
@@ -30,23 +31,21 @@ module _ {A M O : Type 0} (s : System A M O) (first others : List (Line O)) (jou
 
   at_end : Later []
   at_end rows [] k c e long short = record { rows = rows; more = []; k = k; c = c; journal_is = e; long = long; short = short }
-  at_end rows (task ∷ tasks) k c e long short = by (is_over s rows task) refl (at_end rows tasks (k + skips task) (c || cuts s rows task) e)
-    where
-      by : (b : Bool) → is_over s rows task ≡ b → (Stands s all rows (tasks ++ back) (k + skips task) (c || cuts s rows task) → Stands s first rows tasks (k + skips task) (c || cuts s rows task) → Passed) → Passed
-      by true over go = go (Stands-over s all rows task (tasks ++ back) k c long over) (Stands-over s first rows task tasks k c short over)
-      by false open_ go = absurd (more_rows s all journal lawful whole rows task (tasks ++ back) k c e long open_)
+  at_end rows (task ∷ tasks) k c e long short = elim (cases_Bool (is_over s rows task)) [
+    | inl over ↦ at_end rows tasks (k + skips task) (c || cuts s rows task) e (Stands-over s all rows task (tasks ++ back) k c long over) (Stands-over s first rows task tasks k c short over)
+    | inr open_ ↦ absurd (more_rows s all journal lawful whole rows task (tasks ++ back) k c e long open_)
+  ]
 
-  at_row : (row : Row M O) (more : List (Row M O)) → Later more → Later (row ∷ more)
-  at_row row more again rows [] k c e long short = record { rows = rows; more = row ∷ more; k = k; c = c; journal_is = e; long = long; short = short }
-  at_row row more again rows (task ∷ tasks) k c e long short = by (is_over s rows task) refl (at_row row more again rows tasks (k + skips task) (c || cuts s rows task) e)
-    where
-      by : (b : Bool) → is_over s rows task ≡ b → (Stands s all rows (tasks ++ back) (k + skips task) (c || cuts s rows task) → Stands s first rows tasks (k + skips task) (c || cuts s rows task) → Passed) → Passed
-      by true over go = go (Stands-over s all rows task (tasks ++ back) k c long over) (Stands-over s first rows task tasks k c short over)
-      by false open_ go =
-          let allowed = next_row s all journal lawful whole rows row more task (tasks ++ back) k c e long open_ in
+  module _ (row : Row M O) (more : List (Row M O)) (again : Later more) where
+    at_row : Later (row ∷ more)
+    at_row rows [] k c e long short = record { rows = rows; more = row ∷ more; k = k; c = c; journal_is = e; long = long; short = short }
+    at_row rows (task ∷ tasks) k c e long short = elim (cases_Bool (is_over s rows task)) [
+      | inl over ↦ at_row rows tasks (k + skips task) (c || cuts s rows task) e (Stands-over s all rows task (tasks ++ back) k c long over) (Stands-over s first rows task tasks k c short over)
+      | inr open_ ↦ (let allowed = next_row s all journal lawful whole rows row more task (tasks ++ back) k c e long open_ in
           again (rows ++ row ∷ []) (rest_of_task task ++ tasks) k c (e ∙ sym (append_assoc rows (row ∷ []) more))
           (subst (λ ts. Stands s all (rows ++ row ∷ []) ts k c) (sym (append_assoc (rest_of_task task) tasks back)) (Stands-row s all rows task (tasks ++ back) k c row long open_ allowed))
-          (Stands-row s first rows task tasks k c row short open_ allowed)
+          (Stands-row s first rows task tasks k c row short open_ allowed))
+    ]
 
   passes : (more : List (Row M O)) → Later more
   passes [] = at_end

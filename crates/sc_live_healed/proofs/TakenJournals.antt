@@ -8,15 +8,14 @@ use Rattle.sc_actor.specs.declared.rows.Event.TheVariants.{Tick as TickEvent, Go
 use Rattle.sc_actor.specs.declared.rows.Input.TheVariants.{Tick, Go}
 use Rattle.sc_actor.specs.Definitions.{mails, acted, input_of, value, IsStep}
 use Rattle.sc_actor.proofs.Lemmas.{lawful-induction, value-snoc}
-use Rattle.sc_node_table.specs.Definitions.{ReplicaState, born_replica, born_replicas, slots_ahead, numbers_from}
-use Rattle.sc_words.proofs.PaxosProofs.Lemmas.{Each-among, Each-append, find_found}
+use Rattle.sc_node_table.specs.Definitions.{ReplicaState, born_replica, born_replicas, slots_ahead}
 use Rattle.sc_scenario.specs.declared.scenario.scenarios.Scenario.{Scenario}
-use Rattle.sc_scenario.specs.declared.scenario.scenarios.Asks.{Asks as Requests}
 use Rattle.sc_scenario.specs.scenario.Definitions.{IsBounded}
-use Rattle.sc_meaning.specs.sound.Definitions.{Lawful, Player, as_nodes, births, client_seat, client_seats, node_seat, player_table, route_of, schedule, system_of}
+use Rattle.sc_meaning.specs.sound.Definitions.{Lawful, Player, as_nodes, player_table, schedule, system_of}
 use Rattle.sc_live_orderly.specs.Definitions.{is_told}
+use Rattle.sc_law_groups.proofs.WholeProofs.Lemmas.{group_place}
+use Rattle.sc_live_healed.proofs.SeatBirths.{seat_born}
 use Rattle.sc_live_healed.proofs.FixedNodes.{AreFresh}
-use Rattle.sc_live_healed.proofs.FixedBirths.{place_of}
 use Rattle.sc_live_healed.proofs.FixedJournals.{Rows, IsFixedPlayer, IsOf, IsFixedJournal, Brings, fresh, given, first_fixed, brings, next_fixed, AreUntold, untold_parts}
 use Rattle.sc_live_healed.proofs.NodeSlots.{AreRosters, steps_take}
 use Rattle.sc_live_healed.proofs.MailedSlots.{born_takes}
@@ -25,7 +24,7 @@ use Rattle.sc_live_healed.specs.Definitions.{IsFixedReplica, IsFixedMail, TakesS
 -- the groups of a bounded scenario have one to nine members
 pub groups_rosters : (scenario : Scenario) → IsBounded scenario → AreRosters scenario.groups
 groups_rosters scenario bounded base a =
-    let p = place_of scenario bounded base a in
+    let p = group_place scenario bounded base a in
     subst (λ (b : Base). IsRoster b.core.members) p.2 (bounded.each p.0 (record { lo = 0; members = [] }) p.1).roster
 
 -- a node's replicas take their slots
@@ -60,25 +59,10 @@ module _ (words : ℕ → ℕ → ℕ × ℕ) (scenario : Scenario) (bounded : I
   abbrev IsBornSeat : Seat Player → Type 0
   IsBornSeat seat = PlayerTakes bases seat.actor
 
-  nodes_born : (numbers : List ℕ) → Each IsBornSeat (map (node_seat as_nodes bases scenario.policy) numbers)
-  nodes_born [] = tt
-  nodes_born (n ∷ numbers) = (born_all n bases (λ base a. a), nodes_born numbers)
-
-  clients_born : (some : List Base) (clients : List Requests) → Each IsBornSeat (client_seats some clients)
-  clients_born [] clients = tt
-  clients_born (base ∷ some) clients = by clients
-    where
-      by : (cs : List Requests) → Each IsBornSeat (map (client_seat (route_of base)) cs)
-      by [] = tt
-      by (c ∷ cs) = (tt, by cs)
-
-  seats_born : Each IsBornSeat (births as_nodes scenario)
-  seats_born = Each-append IsBornSeat (map (node_seat as_nodes bases scenario.policy) (numbers_from 1 scenario.nodes)) (client_seats bases scenario.clients) (nodes_born (numbers_from 1 scenario.nodes)) (clients_born bases scenario.clients)
-
   first_taken : IsTakenJournal scenario []
   first_taken = record {
     fixed = first_fixed words scenario bounded off;
-    takes = λ seat e. Each-among IsBornSeat (births as_nodes scenario) seat seats_born (find_found (λ (other : Seat Player). eqb other.who seat.who) (births as_nodes scenario) seat e).0;
+    takes = seat_born IsBornSeat scenario (λ n. born_all n bases (λ base a. a)) (λ base a c. tt);
   }
 
   -- ---- one row more

@@ -1,18 +1,19 @@
 -- Where a request stands at a leader: queued, in flight or ready; and what parts of a row do with it. No slot has two commands in flight or ready, and each that has one is open.
-use Rattle.std.proofs.Common.{◌≡◌, ℕ, zero, suc, ◌+◌, ◌<◌, ◌≤◌, ◌&&◌, eqb, ltb, Bool, true, false, true≢false, List, [], ◌∷◌, ◌++◌, length, Option, Some, None, ◌⊎◌, inl, inr, refl, sym, ◌∙◌, ap, subst, arith}
+use Rattle.std.proofs.Common.{◌≡◌, ℕ, ◌+◌, ◌<◌, ◌≤◌, ◌&&◌, eqb, ltb, Bool, true, false, true≢false, List, [], ◌∷◌, ◌++◌, length, Option, Some, None, ◌⊎◌, inl, inr, refl, sym, ◌∙◌, ap, subst, arith}
 use Rattle.std.specs.Option.{option_map}
-use Rattle.std.proofs.lemmas.Bool.{cond_both, cond-true, cond-false, cases_eq, ltb-true, ltb-false, eqb-true, eq-eqb, and_parts, and_from}
+use Rattle.std.proofs.lemmas.Bool.{cond_both, cond-true, cond-false, ltb-true, ltb-false, eqb-true, eq-eqb, and_parts, and_from}
 use Rattle.sc_base.specs.Definitions.{Among, Each, client_actor}
 use Rattle.sc_node_table.specs.Values.{Draw, Op, Command, Noop, Call, Join, Leave, Split, Begin, Prepared, RecordVote, GiveUp, Finish, Watched, RecordWatch, AnswerBody, Mail, Answer, Flight}
 use Rattle.sc_words.specs.paxos.Definitions.{flight_at}
 use Rattle.sc_words.proofs.PaxosProofs.Lemmas.{Each-among}
-use Rattle.sc_node_table.specs.Definitions.{ReplicaState, next, taken_at, taken_from, open_slots, under_way, numbers_from, at_slot, either, listed, answered, answered_all, dismissed, dismissed_all, queued_number, without_request, is_request_of, put_back, request_before}
+use Rattle.sc_node_table.specs.Definitions.{ReplicaState, next, taken_at, taken_from, open_slots, under_way, at_slot, either, listed, answered, answered_all, dismissed, dismissed_all, queued_number, without_request, is_request_of, put_back, request_before}
 use Rattle.sc_law_walks.proofs.Lemmas.{grows}
 use Rattle.sc_law_walks.proofs.Talks.{all_answered, all_dismissed}
 use Rattle.sc_live_plain.specs.Definitions.{takers}
 use Rattle.sc_live_plain.proofs.RowsProofs.SlotCounts.{count-cons, one_yes, one_no, entries_at, find_none}
 use Rattle.sc_live_plain.proofs.LeadersProofs.LeadingReplicas.{flights_at}
 use Rattle.sc_live_plain.proofs.RowsProofs.RepeatedMail.{mail_of, among_push, last_among}
+use Rattle.sc_live_plain.proofs.Lemmas.{to_numbers}
 
 -- ---- whose request a command is
 
@@ -108,11 +109,6 @@ module _ (client seq : ℕ) where
       ap (λ (o : Option (Flight Command)). either (option_map (λ (x : Flight Command). x.value) o) (at_slot r.ready e.0)) (find_none (λ (f : Flight Command). eqb f.slot e.0) r.leader.flights none)
       ∙ entry_found r.ready e a low
 
-  -- a slot among the open ones
-  in_numbers : (from count slot : ℕ) → from ≤ slot → slot < from + count → Among slot (numbers_from from count)
-  in_numbers from zero slot low up = absurd (omega (arith, low, up))
-  in_numbers from (suc count) slot low up = elim (cases_eq from slot) [ inl same ↦ inl same | inr other ↦ inr (in_numbers (from + 1) count slot (omega (arith, low, other)) (omega (arith, up))) ]
-
   in_listed : {X : Type 0} (xs ys : List X) (x : X) → Among x xs ⊎ Among x ys → Among x (xs ++ ys)
   in_listed [] ys x (inl a) = absurd a
   in_listed [] ys x (inr a) = a
@@ -128,7 +124,7 @@ module _ (client seq : ℕ) where
 
   -- what is in flight or ready is under way
   pub under_way_so : (r : ReplicaState) (slot : ℕ) (command : Command) → AreApart r → 1 ≤ takers r slot → taken_at r slot ≡ Some command → Among command (under_way r)
-  under_way_so r slot command p some e = (let o = p.open_ slot some in taken_among r (open_slots r) slot command (in_numbers (next r) (length r.sets) slot o.0 o.1) e)
+  under_way_so r slot command p some e = (let o = p.open_ slot some in taken_among r (open_slots r) slot command (to_numbers (next r) (length r.sets) slot o.0 o.1) e)
 
   -- ---- whoever stops answers all
 

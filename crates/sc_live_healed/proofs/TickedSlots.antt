@@ -11,10 +11,10 @@ use Rattle.sc_words.proofs.PaxosProofs.Lemmas.{Each-among, Each-from, Each-weake
 use Rattle.sc_node_table.specs.Definitions.{elected, sent_all, wishing, pumped, waited_in, reminders, reminded, ReplicaState, Place, name_of, next, members, settled, may_offer, first_set, flying, taken_at, listed, taken_from, under_way, is_idle, numbers_from, slots_ahead, asked_again, last_entry_sent, uncounted, tick_row}
 use Rattle.sc_live_plain.proofs.Lemmas.{find_some, one_if_most, flights_at, range_before, takes, all_kept, all_reached, only_flight, mail_of, in_range, range_behind, one_no}
 use Rattle.sc_live_steps.proofs.FollowingProofs.LeastMembers.{none_decided}
+use Rattle.sc_live_plain.proofs.Lemmas.{flight_stands}
 use Rattle.sc_live_healed.specs.Definitions.{IsFixedCommand, IsFixedReplica, IsUndecided, TakesSlots}
 use Rattle.sc_live_healed.proofs.ServingReplicas.{Grows, IsAsked, IsServing, IsUnderWay}
 use Rattle.sc_live_healed.proofs.ReadySlots.{HasServed, served_takes, pump_serves}
-use Rattle.sc_live_healed.proofs.VotedSlots.{flight_stands}
 use Rattle.sc_live_healed.proofs.MailedSlots.{empty_takes}
 
 -- ---- what is asked again

@@ -1,5 +1,6 @@
 -- A lawful journal of lines that give no order has no row that gives one, and one of lines that do not crash an actor has no row that does.
-use Rattle.std.proofs.Common.{◌≡◌, ℕ, List, [], ◌∷◌, Bool, false, true, ◌&&◌, ◌||◌, eqb, refl}
+use Rattle.std.proofs.Common.{◌≡◌, ℕ, List, [], ◌∷◌, Bool, false, true, ◌&&◌, eqb, refl}
+use Rattle.std.proofs.lemmas.Bool.{or_from}
 use Rattle.sc_base.specs.Definitions.{Each}
 use Rattle.sc_actor.specs.declared.rows.Row.{Row}
 use Rattle.sc_actor.specs.declared.schedules.Line.{Line}
@@ -84,10 +85,6 @@ pub rows_spare : {A M O : Type 0} (s : System A M O) (who : ℕ) (lines : List (
 unfolding crashes_of
 rows_spare s who lines journal u lawful = no_row journal (rows_harmless s (crashes_of who) lines journal (spares_harmless who lines u) lawful)
   where
-    or_so : (a b : Bool) → a ≡ false → b ≡ false → (a || b) ≡ false
-    or_so false b e f = f
-    or_so true b e f = absurd (cc)
-
     no_row : {M O : Type 0} (rows : List (Row M O)) → Each (λ (row : Row M O). (eqb row.who who && is_crash row.event) ≡ false) rows → has_crashed rows who ≡ false
     no_row [] k = refl
-    no_row (row ∷ rows) k = or_so (eqb row.who who && is_crash row.event) (has_crashed rows who) k.0 (no_row rows k.1)
+    no_row (row ∷ rows) k = or_from (eqb row.who who && is_crash row.event) (has_crashed rows who) k.0 (no_row rows k.1)

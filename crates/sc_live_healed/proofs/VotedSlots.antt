@@ -9,21 +9,13 @@ use Rattle.sc_words.specs.paxos.Definitions.{LeaderState, flight_at, without_fli
 use Rattle.sc_words.proofs.PaxosProofs.Lemmas.{find_found, Each-among, Each-from}
 use Rattle.sc_node_table.specs.Definitions.{has_room, executed, ReplicaState, Place, Executed, childless, next, set_at, last_slot, with_slot, slots_ahead, leads, readied, vote_tallied, voted, accepted_row}
 use Rattle.sc_live_plain.specs.Definitions.{takers}
-use Rattle.sc_live_plain.proofs.Lemmas.{count-cons, find_some, entries_at, out_here, out_other, with_count, one_if_most, flights_at, range_before, voted_count, vote_kept, numbered_get, numbered_past, in_range, range_behind, one_yes, one_no, with_each}
+use Rattle.sc_live_plain.proofs.Lemmas.{count-cons, find_some, entries_at, out_here, out_other, with_count, one_if_most, flights_at, range_before, voted_count, vote_kept, numbered_get, closed_set, flight_stands, in_range, range_behind, one_yes, one_no, with_each}
 use Rattle.sc_live_healed.specs.Definitions.{IsFixedCommand, IsFixedReplica, IsUndecided, TakesSlots, IsCarried}
 use Rattle.sc_live_healed.proofs.ServingReplicas.{IsServing, IsUnderWay}
 use Rattle.sc_live_healed.proofs.ReadySlots.{HasServed, executed_serves}
 
 abbrev Flights : Type 0
 Flights = List (Flight Command)
-
--- one in flight stands at its slot
-pub flight_stands : (slot : ℕ) (fs : Flights) (g : Flight Command) → Among g fs → g.slot ≡ slot → 1 ≤ flights_at slot fs
-flight_stands slot [] g a at = absurd a
-flight_stands slot (x ∷ fs) g (inl is) at =
-    let c = count-cons (λ (y : Flight Command). eqb y.slot slot) x fs in
-    let here = one_yes (eqb x.slot slot) (eq-eqb x.slot slot (ap (λ (y : Flight Command). y.slot) is ∙ at)) in omega (arith, c, here)
-flight_stands slot (x ∷ fs) g (inr a) at = (let c = count-cons (λ (y : Flight Command). eqb y.slot slot) x fs in let more = flight_stands slot fs g a at in omega (arith, c, more))
 
 module _ (P : Flight Command → Type 0) (slot : ℕ) where
   -- the others, where one flight stands at a slot
@@ -124,26 +116,26 @@ module _ (base : Base) (free : base.core.lock ≡ Free) (stands : base.core.gone
         ]
 
     module _ (flight : Flight Command) (e : flight_at slot r.leader.flights ≡ Some flight) where
-      found : Among flight r.leader.flights × (eqb flight.slot slot ≡ true)
-      found = find_found (λ (f : Flight Command). eqb f.slot slot) r.leader.flights flight e
-
       at : flight.slot ≡ slot
-      at = eqb-true flight.slot slot found.1
+      at = eqb-true flight.slot slot (find_found (λ (f : Flight Command). eqb f.slot slot) r.leader.flights flight e).1
+
+      among : Among flight r.leader.flights
+      among = (find_found (λ (f : Flight Command). eqb f.slot slot) r.leader.flights flight e).0
 
       voters : Option (List ℕ)
       voters = voters_after base.core.members from flight.voters
 
       was_undecided : IsUndecided base flight
-      was_undecided = Each-among (IsUndecided base) r.leader.flights flight takes.undecided found.0
+      was_undecided = Each-among (IsUndecided base) r.leader.flights flight takes.undecided among
 
       value_fixed : IsFixedCommand base flight.value
-      value_fixed = Each-among (λ (x : Flight Command). IsFixedCommand base x.value) r.leader.flights flight fixed.flights found.0
+      value_fixed = Each-among (λ (x : Flight Command). IsFixedCommand base x.value) r.leader.flights flight fixed.flights among
 
       few_flights : flights_at slot r.leader.flights ≤ 1
       few_flights = (let most = one_at slot in omega (arith, most))
 
       one_flight : 1 ≤ flights_at slot r.leader.flights
-      one_flight = flight_stands slot r.leader.flights flight found.0 at
+      one_flight = flight_stands slot r.leader.flights flight among at
 
       no_entry : entries_at slot r.ready ≡ 0
       no_entry = (let most = one_at slot in let one = one_flight in omega (arith, most, one))
@@ -163,7 +155,7 @@ module _ (base : Base) (free : base.core.lock ≡ Free) (stands : base.core.gone
             undecided = record { voters = vote.few; undecided = no_ };
             from = inl (record {
               was = flight;
-              among = found.0;
+              among = among;
               same_slot = at ∙ sym here;
               kept = λ node h. vote.kept node h;
               counts = λ b s. vote.own;
@@ -240,14 +232,8 @@ module _ (base : Base) (free : base.core.lock ≡ Free) (stands : base.core.gone
         cond-false (nat_lt slot (next r)) None (slice_get r.sets (slot - next r)) (le-ltb slot (next r) low)
         ∙ ap (λ (l : List (List ℕ)). slice_get l (slot - next r)) fixed.sets ∙ numbered_get (λ n. base.core.members) slots_ahead (next r) (slot - next r) (omega (arith, low, high))
 
-    voted_closed : (slot < next r) ⊎ (next r + slots_ahead ≤ slot) → set_at slot r ≡ None
-    voted_closed (inl low) = cond-true (nat_lt slot (next r)) None (slice_get r.sets (slot - next r)) (lt-ltb slot (next r) low)
-    voted_closed (inr high) =
-        cond-false (nat_lt slot (next r)) None (slice_get r.sets (slot - next r)) (le-ltb slot (next r) (omega (arith, high)))
-        ∙ ap (λ (l : List (List ℕ)). slice_get l (slot - next r)) fixed.sets ∙ numbered_past (λ n. base.core.members) slots_ahead (next r) (slot - next r) (omega (arith, high))
-
     counted_out : (slot < next r) ⊎ (next r + slots_ahead ≤ slot) → EAfter (voted from seen slot (set_at slot r) (r, mails))
-    counted_out out = subst (λ (o : Option (List ℕ)). EAfter (voted from seen slot o (r, mails))) (sym (voted_closed out)) (same_served (closed out))
+    counted_out out = subst (λ (o : Option (List ℕ)). EAfter (voted from seen slot o (r, mails))) (sym (closed_set (λ n. base.core.members) slot r fixed.sets out)) (same_served (closed out))
 
     counted_in : same_ballot seen r.leader.ballot ≡ true → next r ≤ slot → slot < next r + slots_ahead → EAfter (voted from seen slot (set_at slot r) (r, mails))
     counted_in b low high =

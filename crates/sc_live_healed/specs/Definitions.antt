@@ -5,5 +5,5 @@ pub use Rattle.sc_live_healed.specs.VotesUnderWay.{HasVoted, Counts, IsCarried, 
 pub use Rattle.sc_live_healed.specs.IdleReplicas.{LivingMajority, IsIdle}
 pub use Rattle.sc_live_healed.specs.Polls.{IsSettledOrStopped, AnswersPoll, IsAnswerKind}
 pub use Rattle.sc_live_healed.specs.HealedSchedules.{crashes, is_order, lives, HasLivingMajorities, NodeTurn, ClientTurn, node_lines, client_line, client_lines, IsHealed}
-pub use Rattle.sc_live_healed.specs.HealedStores.{IsIdleLeader, IsIdleStore, HasReplies, AskedACrashedNode, IsKicked, IsAtEnd, StaysIdle, AnswersTurns, AnswersAll, Heals, HealedStoresIdle, HealedStoresAnswer}
+pub use Rattle.sc_live_healed.specs.HealedStores.{IsIdleLeader, IsIdleStore, HasReplies, AskedACrashedNode, IsKicked, IsAtEnd, StaysIdle, AnswersTurns, AnswersAll, Heals, HealedStoresAnswer}
 pub use Rattle.sc_live_healed.specs.AskingClients.{IsAskingOn, IsAskingClient}

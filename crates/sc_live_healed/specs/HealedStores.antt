@@ -82,14 +82,6 @@ pub record Heals (words : ℕ → ℕ → ℕ × ℕ) (scenario : Scenario) (hea
   pub answers : AnswersTurns words scenario healed journal
   pub all : AnswersAll words scenario healed journal
 
--- In each whole lawful journal of a valid scenario whose lines heal, with living majorities, in which no line was cut off and of at most 2^28 rows, behind the sweep and behind each turn of a client each replica that runs at a living node is settled and idle.
-abbrev pub HealedStoresIdle : Type 0
-HealedStoresIdle =
-    (words : ℕ → ℕ → ℕ × ℕ) (scenario : Scenario) (journal : List (Row Mail OrderLine)) (healed : IsHealed scenario)
-    → IsValid scenario → HasLivingMajorities scenario → Lawful as_nodes words scenario journal → Whole as_nodes words scenario journal
-    → unsettled (system_of as_nodes words scenario) (schedule scenario) journal ≡ false → length journal ≤ 2 ^ 28
-    → StaysIdle words scenario healed journal
-
 -- Each whole lawful journal of a valid scenario whose lines heal, with living majorities, in which no line was cut off and of at most 2^28 rows, heals the store.
 abbrev pub HealedStoresAnswer : Type 0
 HealedStoresAnswer =

@@ -14,11 +14,26 @@ use Rattle.sc_live_orderly.proofs.MailCopies.{foremost, less_at}
 use Rattle.sc_live_orderly.specs.Turns.{pending_mail, TakesLowest}
 
 -- tests that agree pass the same mail
-mail_with-agree : {M : Type 0} (p q : M → Bool) → ((m : M) → p m ≡ q m) → (sent : List M) (counts : List ℕ) → mail_with p sent counts ≡ mail_with q sent counts
+pub mail_with-agree : {M : Type 0} (p q : M → Bool) → ((m : M) → p m ≡ q m) → (sent : List M) (counts : List ℕ) → mail_with p sent counts ≡ mail_with q sent counts
 mail_with-agree p q agree [] counts = refl
 mail_with-agree p q agree (m ∷ sent) [] = refl
 mail_with-agree p q agree (m ∷ sent) (c ∷ counts) =
     ap (λ b. cond b (replicate c m) [] ++ mail_with p sent counts) (agree m) ∙ ap (λ xs. cond (q m) (replicate c m) [] ++ xs) (mail_with-agree p q agree sent counts)
+
+-- a row that is no crash leaves who has crashed ..
+pub crashed_same : {M O : Type 0} (rows : List (Row M O)) (row : Row M O) → is_crash row.event ≡ false → (who : ℕ) → has_crashed (rows ++ row ∷ []) who ≡ has_crashed rows who
+crashed_same {M} {O} rows row kind who =
+    list_any-append (λ (r : Row M O). eqb r.who who && is_crash r.event) rows (row ∷ []) ∙ (ap (λ b. has_crashed rows who || ((eqb row.who who && b) || false)) kind ∙ by (eqb row.who who) (has_crashed rows who))
+  where
+    by : (a b : Bool) → (b || ((a && false) || false)) ≡ b
+    by true true = refl
+    by true false = refl
+    by false true = refl
+    by false false = refl
+
+-- .. and who may get mail
+pub gets_same : {M O : Type 0} (actors : List ℕ) (rows : List (Row M O)) (row : Row M O) → is_crash row.event ≡ false → (who : ℕ) → may_get actors (rows ++ row ∷ []) who ≡ may_get actors rows who
+gets_same actors rows row kind who = ap (λ b. list_any (λ actor. eqb actor who) actors && not b) (crashed_same rows row kind who)
 
 module _ {A M O : Type 0} (s : System A M O) (rows : List (Row M O)) where
   -- whether a mail may be pending
@@ -26,19 +41,8 @@ module _ {A M O : Type 0} (s : System A M O) (rows : List (Row M O)) where
   may mail = may_get (numbers_of s.births) rows (s.receiver mail)
 
   module _ (row : Row M O) (number : ℕ) (event : row.event ≡ Deliver number) where
-    no_crash : (who : ℕ) → has_crashed (rows ++ row ∷ []) who ≡ has_crashed rows who
-    no_crash who =
-        list_any-append (λ (r : Row M O). eqb r.who who && is_crash r.event) rows (row ∷ [])
-        ∙ (ap (λ (e : Event O). has_crashed rows who || ((eqb row.who who && is_crash e) || false)) event ∙ by (eqb row.who who) (has_crashed rows who))
-      where
-        by : (a b : Bool) → (b || ((a && false) || false)) ≡ b
-        by true true = refl
-        by true false = refl
-        by false true = refl
-        by false false = refl
-
     may_agree : (mail : M) → may_get (numbers_of s.births) (rows ++ row ∷ []) (s.receiver mail) ≡ may mail
-    may_agree mail = ap (λ b. list_any (λ actor. eqb actor (s.receiver mail)) (numbers_of s.births) && not b) (no_crash (s.receiver mail))
+    may_agree mail = gets_same (numbers_of s.births) rows row (ap (λ (e : Event O). is_crash e) event) (s.receiver mail)
 
     filter-agree : (sent : List M) → filter (λ mail. may_get (numbers_of s.births) (rows ++ row ∷ []) (s.receiver mail)) sent ≡ filter may sent
     filter-agree [] = refl

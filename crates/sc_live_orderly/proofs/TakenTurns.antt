@@ -78,7 +78,7 @@ module _ {A M O : Type 0} (s : System A M O) (all : List (Line O)) (journal : Li
   quiet_after rows (row ∷ more) d = ap (λ xs. is_quiet s xs) (sym (append_assoc rows (row ∷ []) more)) ∙ quiet_after (rows ++ row ∷ []) more d.1
 
   -- the tasks of turns
-  abbrev turn_tasks : List Turn → List (Task O)
+  abbrev pub turn_tasks : List Turn → List (Task O)
   turn_tasks turns = flat_map (tasks_of s.words) (flat_map (turn_lines {O = O}) turns)
 
   -- a turn's line, by what the walk asks of it
@@ -118,7 +118,7 @@ module _ {A M O : Type 0} (s : System A M O) (all : List (Line O)) (journal : Li
             after_first rows more (Some row) k c quiet (ap (λ l. line_row s rows l) same ∙ allowed) (e ∙ sym (append_assoc rows (row ∷ []) more))
             (Stands-row s all rows (Once line) (Settles turn.most ∷ turn_tasks turns) k c row stands open_ allowed)
 
-  turns_from : (turns : List Turn) (rows more : List (Row M O)) (k : ℕ) (c : Bool) → is_quiet s rows ≡ true → journal ≡ rows ++ more → Stands s all rows (turn_tasks turns) k c → HasTurns s rows turns journal
+  pub turns_from : (turns : List Turn) (rows more : List (Row M O)) (k : ℕ) (c : Bool) → is_quiet s rows ≡ true → journal ≡ rows ++ more → Stands s all rows (turn_tasks turns) k c → HasTurns s rows turns journal
   turns_from [] rows [] k c quiet e stands = (quiet, sym (append-nil rows) ∙ sym e)
   turns_from [] rows (row ∷ more) k c quiet e stands =
       let first = lawful-prefix s all (rows ++ row ∷ []) more (subst (λ xs. IsLawful s all xs) (e ∙ sym (append_assoc rows (row ∷ []) more)) lawful) in

@@ -13,3 +13,4 @@ pub mod AcceptAndLearnRows
 pub mod Replicas
 pub mod ReplicaRows
 pub mod NodeRows
+pub mod NodeSeats

@@ -29,7 +29,7 @@ elected_by {V} members older slot value leader votes nodes reports made most obe
 }
 
 -- over the members a test that passes at least as many counts at least as many
-counts_within : (p q : ℕ → Bool) (xs : List ℕ) → ((x : ℕ) → Among x xs → p x ≡ true → q x ≡ true) → count_by p xs ≤ count_by q xs
+pub counts_within : (p q : ℕ → Bool) (xs : List ℕ) → ((x : ℕ) → Among x xs → p x ≡ true → q x ≡ true) → count_by p xs ≤ count_by q xs
 counts_within p q [] f = omega arith
 counts_within p q (x ∷ xs) f =
     let rest = counts_within p q xs (λ y a. f y (inr a)) in

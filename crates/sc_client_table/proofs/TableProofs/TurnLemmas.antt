@@ -1,6 +1,7 @@
 -- A client sends in turn.
-use Rattle.std.proofs.Common.{◌≡◌, ℕ, ◌+◌, Bool, true, false, cond, leb, [], ◌∷◌, ◌++◌, length, Option, Some, None, ◌⊎◌, inl, inr, refl, ap}
+use Rattle.std.proofs.Common.{◌≡◌, ℕ, ◌+◌, Bool, true, false, cond, leb, [], ◌∷◌, ◌++◌, length, Option, Some, None, ◌⊎◌, inl, inr, refl, sym, ap, subst}
 use Rattle.std.proofs.lemmas.Bool.{eqb-true}
+use Rattle.sc_base.specs.Definitions.{Each}
 use Rattle.sc_base.specs.declared.names.Draw.{Draw}
 use Rattle.sc_base.specs.declared.ops.Op.{Op}
 use Rattle.sc_base.specs.declared.ops.Reply.{Reply}
@@ -9,11 +10,11 @@ use Rattle.sc_actor.specs.declared.rows.Input.TheVariants.{Got, Tick, Go, Told}
 use Rattle.sc_words.specs.declared.commands.orders.OrderLine.{OrderLine}
 use Rattle.sc_mail.specs.declared.bodies.Mail.{Mail}
 use Rattle.sc_mail.specs.declared.bodies.MailBody.{MailBody}
-use Rattle.sc_mail.specs.declared.bodies.MailBody.TheVariants.{Answer}
+use Rattle.sc_mail.specs.declared.bodies.MailBody.TheVariants.{Answer, Request}
 use Rattle.sc_mail.specs.declared.bodies.AnswerBody.{AnswerBody}
 use Rattle.sc_mail.specs.declared.bodies.AnswerBody.TheVariants.{Value, NotLeader, NotMine, Gone, Stale}
 use Rattle.sc_client_table.specs.lookup.Definitions.{KnownGroups, target_in, preferring, passed_on, learnt_from_not_mine, learnt_from_gone}
-use Rattle.sc_client_table.specs.table.Definitions.{Client, waiting_request, ClientStep, asked_of, sent_to, sent_where, chosen_for, request_sent, started, turned_on, client_ticked, waits_for, was_asked, redirected, answer_taken, got, SendsWaiting, InTurn, SendsInTurn}
+use Rattle.sc_client_table.specs.table.Definitions.{Client, table, waiting_request, ClientStep, asked_of, sent_to, sent_where, chosen_for, request_sent, started, turned_on, client_ticked, waits_for, was_asked, redirected, answer_taken, got, SendsWaiting, InTurn, SendsInTurn}
 
 -- a step that sends at most the waiting request, and otherwise only learns
 record Sent (client : Client) (step : ClientStep) : Type 0 where
@@ -109,7 +110,7 @@ answers client mail group seq (NotMine arc succ) body waited = waits client (Got
 answers client mail group seq (Gone into) body waited = waits client (Got mail) (answer_taken mail.from group seq (Gone into) client) (where_asked (was_asked client.asked mail.from group) group (Gone into) client)
 answers client mail group seq (Stale last) body waited = waits client (Got mail) (answer_taken mail.from group seq (Stale last) client) (where_asked (was_asked client.asked mail.from group) group (Stale last) client)
 
-waited_for : (waiting : Option ℕ) (seq : ℕ) → waits_for waiting seq ≡ true → waiting ≡ Some seq
+pub waited_for : (waiting : Option ℕ) (seq : ℕ) → waits_for waiting seq ≡ true → waiting ≡ Some seq
 waited_for None seq e = absurd (cc)
 waited_for (Some number) seq e = ap Some (eqb-true number seq e)
 
@@ -128,3 +129,10 @@ sends_in_turn client (Got mail) = gets client mail mail.body refl
 sends_in_turn client Tick = ticks client client.waiting client.asked
 sends_in_turn client Go = begins client
 sends_in_turn client (Told line) = waits client (Told line) (client, []) (silent client)
+
+-- what holds of each request holds of all that a client sends
+pub each_request : (P : MailBody → Type 0) → ((group : Draw) (client seq : ℕ) (op : Op) → P (Request group client seq op)) → (client : Client) (input : Input Mail OrderLine) → Each (λ (mail : Mail). P mail.body) (table client input).1
+each_request P of client input = elim (sends_in_turn client input).sends [
+  | inl none ↦ subst (Each (λ (mail : Mail). P mail.body)) (sym none) tt
+  | inr one ↦ subst (Each (λ (mail : Mail). P mail.body)) (sym one.4) (of _ _ _ _, tt)
+]

@@ -70,9 +70,9 @@ module _ (K : Draw → Type 0) where
         returned = λ r mails t f. (back_names K command r c f.0, f.1);
         reports = λ result r mails a f. (f.0, reported_names K r.me (order_number command) result mails (subst (λ (o : Option OrderResult). Opt (ResultNames K) o) a (order_result_names command effect e)) f.1);
         speaks = λ r mails f. (f.0, spoken_names K counted r.me r.group (before_of start.group.core) effect command mails f.0.core (before_names K start.group.core s.core) e c f.1);
-        teaches = λ to r mails t f. (f.0, sent_names K r.me to (Learn (name_of r) (next start) command) mails (f.0.core.id, c) f.1);
-        installs = λ to r mails t f. (f.0, sent_names K r.me to (Install (name_of r) (next r - 1) (base_of r.group) r.sets) mails (f.0.core.id, f.0.core) f.1);
-        repolls = λ to r mails t f. (f.0, sent_names K r.me to (Prepare (name_of r) r.leader.ballot (next r)) mails f.0.core.id f.1);
+        teaches = λ to r mails t a f. (f.0, sent_names K r.me to (Learn (name_of r) (next start) command) mails (f.0.core.id, c) f.1);
+        installs = λ to r mails t new f. (f.0, sent_names K r.me to (Install (name_of r) (next r - 1) (base_of r.group) r.sets) mails (f.0.core.id, f.0.core) f.1);
+        repolls = λ to r mails t new f. (f.0, sent_names K r.me to (Prepare (name_of r) r.leader.ballot (next r)) mails f.0.core.id f.1);
         flies = λ other r mails fly f. subst (λ (o : Option Command). Cmd K o) fly (flying_names K r (next start) f.0);
         landed = λ place f. (cleared_names (next start) place.0 f.0, f.1);
         back = λ other r mails l f. (back_names K other r l f.0, f.1);

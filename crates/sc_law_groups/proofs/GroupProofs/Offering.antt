@@ -53,7 +53,7 @@ taken_is r slot (inr (c, a)) = either_second (flying r slot) (at_slot r.ready sl
 
 -- ---- what must be offered
 
-must_value : (above : Bool) (o : Option (Report Command)) (c : Command) → must_without above (option_map (λ (report : Report Command). report.value) o) ≡ Value c
+pub must_value : (above : Bool) (o : Option (Report Command)) (c : Command) → must_without above (option_map (λ (report : Report Command). report.value) o) ≡ Value c
     → (best : Report Command) × (o ≡ Some best) × (best.value ≡ c)
 must_value above (Some best) c e = (best, refl, cc)
 must_value true None c e = cc

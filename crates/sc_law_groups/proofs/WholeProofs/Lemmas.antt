@@ -17,5 +17,6 @@ pub use Rattle.sc_law_groups.proofs.WholeProofs.LawfulSoundness.{lawful_journals
 pub use Rattle.sc_law_groups.proofs.WholeProofs.Speaking.{stands_heard, stands_offer, stands_watch}
 pub use Rattle.sc_law_groups.proofs.WholeProofs.Starts.{bases_from, first_and_others}
 pub use Rattle.sc_law_groups.proofs.WholeProofs.JournalsInTurn.{newborn_is_new, Holds}
+pub use Rattle.sc_law_groups.proofs.WholeProofs.LineGroups.{of_up_to, in_up_to, group_place, right_in}
 pub use Rattle.sc_law_groups.proofs.WholeProofs.WholeLaws.{lawful_journals_are_sound, valid_journals_are_sound, valid_entries_are_logs}
 pub use Rattle.sc_law_groups.proofs.WholeProofs.StartLaws.{valid_scenarios_begin_well}

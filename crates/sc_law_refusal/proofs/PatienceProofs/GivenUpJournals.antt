@@ -10,7 +10,7 @@ use Rattle.sc_actor.specs.declared.rows.Input.TheVariants.{Tick, Go, Told}
 use Rattle.sc_actor.specs.Definitions.{mails, numbered, acted, input_of, value, IsStep}
 use Rattle.sc_actor.proofs.Lemmas.{lawful-induction, value-snoc, mails-snoc}
 use Rattle.sc_client_table.specs.table.Definitions.{Client as ClientState}
-use Rattle.sc_client_table.proofs.TableProofs.TurnLemmas.{sends_in_turn}
+use Rattle.sc_client_table.proofs.TableProofs.TurnLemmas.{each_request}
 use Rattle.sc_node_table.specs.Definitions.{NodeState, ReplicaState, name_of, node_table, born_replica, slots_ahead, settled, one_tick_more, patience}
 use Rattle.sc_words.proofs.PaxosProofs.Lemmas.{Each-among, Each-append, Each-from, find_found}
 use Rattle.sc_scenario.specs.declared.scenario.scenarios.Scenario.{Scenario}
@@ -103,13 +103,7 @@ module _ (ahead : Ahead) (open_slots : ahead.slots ≡ slots_ahead) (words : ℕ
       before = value player_table seat rows
 
       client_acts : (client : ClientState) (input : Input Mail OrderLine) → Acted (player_table (Client client) input)
-      client_acts client input = (
-        tt,
-        elim (sends_in_turn client input).sends [
-          | inl none ↦ subst (λ (ms : List Mail). Mails ms) (sym none) tt
-          | inr one ↦ subst (λ (ms : List Mail). Mails ms) (sym one.4) (tt, tt)
-        ],
-      )
+      client_acts client input = (tt, each_request (λ body. MailGives F body) (λ group client_ seq op. tt) client input)
 
       got : (p : Player) (o : Option Mail) → Opt (λ (mail : Mail). MailGives F mail.body) o → PlayerGives seat.who p → Acted (acted player_table p (option_map Got o))
       got p None m k = (k, tt)

@@ -128,9 +128,9 @@ module _ (ahead : Ahead) (base : Base) (h : Steps) (lawful : IsLawfulHistory (ru
     returned = λ r mails c k. (k.0, back_stands k.0 command r (waits c) k.1, k.2);
     reports = λ result r mails e k. (k.0, k.1, reported r.me (MayTell k.0) (order_number command) result mails (λ _. inl (entry_decides command start logged t (order_number command) result (order_ends start.group command result e))) k.2);
     speaks = λ r mails k. (k.0, k.1, spoken_tells k.0 counted command start r mails (entry_decides command start logged t) k.2);
-    teaches = λ to r mails c k. (k.0, k.1, puts r.me (MayTell k.0) to _ mails tt k.2);
-    installs = λ to r mails c k. (k.0, k.1, puts r.me (MayTell k.0) to _ mails tt k.2);
-    repolls = λ to r mails c k. (k.0, k.1, puts r.me (MayTell k.0) to _ mails tt k.2);
+    teaches = λ to r mails c a k. (k.0, k.1, puts r.me (MayTell k.0) to _ mails tt k.2);
+    installs = λ to r mails c new k. (k.0, k.1, puts r.me (MayTell k.0) to _ mails tt k.2);
+    repolls = λ to r mails c new k. (k.0, k.1, puts r.me (MayTell k.0) to _ mails tt k.2);
     flies = λ other r mails e k. subst (λ (o : Option Command). Opt P o) e (flying_held P r (next start) k.1.1);
     landed = λ place k. (k.0, cleared_stands k.0 place.0 k.1, k.2);
     back = λ other r mails l k. (k.0, back_stands k.0 other r l k.1, k.2);

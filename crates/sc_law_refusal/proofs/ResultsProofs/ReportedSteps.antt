@@ -1,8 +1,8 @@
 -- What a replica reports of orders in any row of its table.
-use Rattle.std.proofs.Common.{◌≡◌, ℕ, ◌≤◌, eqb, nat_lt, ◌&&◌, Bool, true, false, true≢false, refl, sym, ◌∙◌, ap, arith, subst, List, [], ◌∷◌, ◌++◌, Option, Some, None, inl, inr}
+use Rattle.std.proofs.Common.{◌≡◌, ℕ, ◌≤◌, eqb, ◌&&◌, Bool, true, false, true≢false, refl, sym, ◌∙◌, ap, arith, subst, List, [], ◌∷◌, ◌++◌, Option, Some, None, inl, inr}
 use Rattle.std.specs.Option.{option_map}
 use Rattle.std.specs.FinMap.{entries}
-use Rattle.std.proofs.lemmas.Bool.{cond_both, and_parts, eqb-true, eq-eqb}
+use Rattle.std.proofs.lemmas.Bool.{cond_both, and_parts, eqb-true}
 use Rattle.sc_base.specs.Definitions.{Among, Drawer, next_name, same_ballot}
 use Rattle.sc_base.proofs.Lemmas.{ballot_is}
 use Rattle.sc_node_table.specs.Values.{Ballot, Draw, Command, Base, Order, OrderLine, OrderRefusal, OrderResult, Refused, Counted, Chosen, NotYet, Mail, MailBody, Request, Answer, Prepare, Promise, Accept, Accepted, Nack, Learn, Ask, Install, TxPrepare, TxVote, TxOutcome, TxElsewhere, TxWatch, TxWatched, Told}
@@ -15,7 +15,6 @@ use Rattle.sc_law_entries.proofs.NamesProofs.EachFound.{slot_with}
 use Rattle.sc_node_table.specs.Definitions.{ReplicaState, Place, Executed, childless, name_of, next, at_slot, with_slot, set_at, has_room, leads, voted, vote_tallied, readied, accepted_row, executed, forgotten, ordered_command, ordered_row, queued_or_refused, untaken, result_sent, wished_line, policy_line, is_at_rest, waited_in, tick_row, mailed, made_by, named, installed_replica}
 use Rattle.sc_meaning.specs.sound.Definitions.{Ahead}
 use Rattle.sc_law_groups.proofs.GroupProofs.Lemmas.{IsLearnt, Steps, rule, first, birth, IsReplica, IsState}
-use Rattle.sc_law_walks.proofs.Ways.{either_way}
 use Rattle.sc_law_walks.proofs.Lemmas.{counted_ballot}
 use Rattle.sc_law_walks.proofs.TableParts.{execution, pumps}
 use Rattle.sc_law_walks.proofs.TableRows as rows
@@ -25,17 +24,6 @@ use Rattle.sc_law_refusal.proofs.ResultsProofs.Reports.{puts}
 use Rattle.sc_law_refusal.proofs.HeldCommands.{Flights, Reports, Held, last_held, counted_held, chosen_held}
 use Rattle.sc_law_refusal.proofs.ResultsProofs.LoggedReplicas.{is_logged, readies_more, makes, vote_chooses}
 use Rattle.sc_law_refusal.proofs.ResultsProofs.ReportedRows.{tell_so, Waits, IsBack, HasStopped, Brings, MayTell, ReportsSo, with_leader, with_backlog, reported_walk, reported_ticks}
-
--- what is put at a slot is there
-first_there : (slot : ℕ) (command : Command) (es : List (ℕ × Command)) → at_slot ((slot, command) ∷ es) slot ≡ Some command
-first_there slot command es = cond_both (eqb slot slot) (Some command) (at_slot es slot) (λ (o : Option Command). o ≡ Some command) (λ _. refl) (λ f. absurd (true≢false (sym (eq-eqb slot slot refl) ∙ f)))
-
-slot_there : (es : List (ℕ × Command)) (slot : ℕ) (command : Command) → at_slot (with_slot es slot command) slot ≡ Some command
-slot_there [] slot command = first_there slot command []
-slot_there (e ∷ es) slot command =
-    cond_both (eqb e.0 slot) _ _ (λ (xs : List (ℕ × Command)). at_slot xs slot ≡ Some command) (λ _. first_there slot command es)
-    (λ f. either_way (λ (xs : List (ℕ × Command)). at_slot xs slot ≡ Some command) (nat_lt slot e.0) _ _ (first_there slot command (e ∷ es))
-    (cond_both (eqb e.0 slot) (Some e.1) (at_slot (with_slot es slot command) slot) (λ (o : Option Command). o ≡ Some command) (λ t. absurd (true≢false (sym t ∙ f))) (λ _. slot_there es slot command)))
 
 -- an order of a policy has no number that is reported
 wished_number : (o : Option Order) (line : OrderLine) → option_map policy_line o ≡ Some line → line.number ≡ 0
@@ -75,7 +63,7 @@ module _ (ahead : Ahead) (base : Base) (h : Steps) (lawful : IsLawfulHistory (ru
       cond_both (eqb slot (next r) && has_room r) (executed true command (after, mails)) (childless (after, mails)) (λ (step : Executed). Goes step.0)
       (λ e. (let is_next = eqb-true slot (next r) (and_parts (eqb slot (next r)) (has_room r) e).0 in
       (execution (reported_walk ahead base h lawful made Fact decided W round) true command (after, mails)
-      (on, subst (λ s. at_slot (with_slot r.ready slot command) s ≡ Some command) is_next (slot_there r.ready slot command), subst (λ s. IsLearnt (rule ahead base) h s command) is_next t) more).0)) (λ _. more)
+      (on, subst (λ s. at_slot (with_slot r.ready slot command) s ≡ Some command) is_next (rows.put_there r.ready slot command), subst (λ s. IsLearnt (rule ahead base) h s command) is_next t) more).0)) (λ _. more)
 
   tallied_keeps : (slot : ℕ) (p : Counted Command × LeaderState Command) (r : ReplicaState) (mails : List Mail) → r.running ≡ true → ((command : Command) → p.0 ≡ Chosen command → IsLearnt (rule ahead base) h slot command × P command)
       → p.1.ballot ≡ r.leader.ballot → Flights P p.1.flights × Reports P p.1.reports → Goes (r, mails) → Goes (vote_tallied slot p (r, mails)).0

@@ -8,12 +8,8 @@ use Rattle.sc_words.specs.paxos.Definitions.{IsAtLeast}
 use Rattle.sc_words.proofs.PaxosProofs.Lemmas.{at_least_itself, at_least_trans, not_below_parts}
 use Rattle.sc_live_steps.specs.following.Definitions.{Mark, Asks, Votes, Tells, Installs, Prepares, Promises, next_by, promise_by, reached, pledged, IsFit, AreFit, Course, Sets, members_at, IsOpen, Tellers, hinted, IsCount, IsOffer, reported_of, told_from}
 use Rattle.sc_live_steps.proofs.FollowingProofs.Lemmas.{count-hinted, reached-append, count-reached, count-pledged}
+pub use Rattle.sc_law_walks.proofs.Lemmas.{at_least_round as round_most}
 pub use Rattle.sc_live_steps.proofs.FollowingProofs.LearningMembers.{fit_behind}
-
--- ---- rounds
-
-pub round_most : (a b : Ballot) → IsAtLeast a b → b.round ≤ a.round
-round_most a b least = elim (not_below_parts a b least) [ inl lt ↦ omega (arith, lt) | inr same ↦ (let e = same.0 in omega (arith, e)) ]
 
 -- ---- marks that change nothing
 

@@ -26,7 +26,8 @@ use Rattle.sc_live_answers.specs.Definitions.{WasMember, WereMembers, AreAllFree
 use Rattle.sc_live_answers.proofs.LinksProofs.LinkOutcomes.{Good, IsLinkedSo}
 use Rattle.sc_live_answers.proofs.LinksProofs.LinkEntries.{groups_then, Come, all_linked, moved}
 use Rattle.sc_live_steps.proofs.OrdersProofs.Lemmas.{right_none}
-pub use Rattle.sc_live_journals.proofs.RowsProofs.ScenarioGroups.{of_up_to}
+pub use Rattle.sc_law_groups.proofs.WholeProofs.LineGroups.{of_up_to}
+use Rattle.sc_law_groups.proofs.WholeProofs.LineGroups.{in_up_to, right_in}
 
 -- ---- two prefixes of a list
 
@@ -56,22 +57,6 @@ two_prefixes (x ∷ prefix) more (y ∷ first) rest e =
 take_prefix : {X : Type 0} (xs ys : List X) → take (length xs) (xs ++ ys) ≡ xs
 take_prefix [] ys = refl
 take_prefix (x ∷ xs) ys = ap (λ l. x ∷ l) (take_prefix xs ys)
-
--- ---- the groups of a scenario
-
-in_up_to : (lines : List GroupLine) (n k : ℕ) → k < n → Among (base_at lines k) (bases_up_to lines n)
-in_up_to lines zero k low = absurd (omega (arith, low))
-in_up_to lines (suc n) k low = elim (cases_lt k n) [
-  | inl under ↦ Among-left (base_at lines k) (bases_up_to lines n) (base_at lines n ∷ []) (in_up_to lines n k under)
-  | inr over ↦ (let same : k ≡ n = omega (arith, low, over) in Among-right (base_at lines k) (bases_up_to lines n) (base_at lines n ∷ []) (inl (ap (base_at lines) (sym same))))
-]
-
-right_in : (lines : List GroupLine) (k : ℕ) → k < length lines → place_right lines k < length lines
-right_in lines k low =
-    cond_both (eqb (k + 1) (length lines)) 0 (k + 1) (λ n. n < length lines) (λ _. omega (arith, low)) (λ f. elim (cases_lt (k + 1) (length lines)) [
-      | inl lt ↦ lt
-      | inr ge ↦ (let same : k + 1 ≡ length lines = omega (arith, low, ge) in absurd (both_ways (eqb (k + 1) (length lines)) f (eq-eqb (k + 1) (length lines) same)))
-    ])
 
 module _ (bounded : ValidScenariosAreBounded) (begin : ValidScenariosBeginWell) (allowed : TakenOrdersAreAllowed) (wishes : TakenWishesAreAllowed) (positions : WishesAreAtPositions) (free : OtherNamesAreFree) where
   module _ (words : ℕ → ℕ → ℕ × ℕ) (scenario : Scenario) (rows : Rows) (valid : IsValid scenario) (lawful : Lawful as_nodes words scenario rows) where

@@ -16,8 +16,9 @@ use Rattle.sc_meaning.specs.sound.Definitions.{route_of}
 use Rattle.sc_live_steps.specs.calm.Definitions.{View, IsNewest, IsAtRest, IsBelow, IsLinked, StandsQuiet, RisesAt, IsAnswered, IsQuiet}
 use Rattle.sc_live_steps.proofs.CalmProofs.Lemmas.{begin_at_rest, first_leads}
 use Rattle.sc_live_plain.specs.Definitions.{replicas_after, IsQuietJournal, IsOfNodes, IsKept, frame_at_rest, Frame, IsFrame, frame_of, IsBegun, Requests, IsPlainGroup}
-use Rattle.sc_live_plain.proofs.Lemmas.{born_plain, born_found, frames_of, stage, of_groups, IsBefore, parts_of, map_among, round}
+use Rattle.sc_live_plain.proofs.Lemmas.{born_plain, born_found, frames_of, stage, IsBefore, parts_of, map_among, round}
 use Rattle.sc_live_journals.proofs.RowsProofs.ScenarioGroups.{named_once}
+use Rattle.sc_law_groups.proofs.WholeProofs.Lemmas.{group_place}
 use Rattle.sc_live_answers.specs.Definitions.{QuietJournalsBegin}
 
 -- the replicas of a node are those of the groups of which it is a member
@@ -171,7 +172,7 @@ module _ (words : ℕ → ℕ → ℕ × ℕ) (scenario : Scenario) (bounded : I
   noted : (begun : Requests) (lead r : ReplicaState) (group : Draw) (node : ℕ) → at group node ≡ Some r → lead.group.core ≡ r.group.core → IsPlainGroup begun (frame_at_rest lead) r.group
   noted begun leader r group node e core =
       let b = at_is group node r e in
-      let k = of_groups scenario bounded b.base b.among in
+      let k = group_place scenario bounded b.base b.among in
       let p = born_plain begun node b.base (ap (λ (x : Base). x.pairs) (sym k.2)) (ap (λ (x : Base). x.clients) (sym k.2)) in
       let same : group_of b.base ≡ r.group = ap (λ (x : ReplicaState). x.group) (sym b.is) in
       let plain : IsPlainGroup begun (frame_of b.base) r.group = subst (IsPlainGroup begun (frame_of b.base)) same p.group in

@@ -26,23 +26,13 @@ use Rattle.sc_live_answers.specs.Definitions.{AreAtNodes, IsPrefixOf, IsOfGroup,
 use Rattle.sc_live_answers.proofs.ReplicasProofs.ReplicaNodes.{at_nodes}
 use Rattle.sc_live_answers.proofs.LinksProofs.LinkLogs.{sources, well, turn, found}
 pub use Rattle.sc_law_entries.proofs.NamesProofs.Fresh.{IsClient, replay_client}
+pub use Rattle.sc_live_plain.proofs.RowsProofs.NodeSeats.{seat_in}
 
 no_replica : (name : Draw) (player : Player) → IsClient player → replica_of name (view_replicas player) ≡ None
 no_replica name (Node node) is = absurd is
 no_replica name (Client client) is = refl
 
 -- ---- seats
-
-module _ (groups : List Base) (policy : Bool) where
-  pub seat_in : (count from who : ℕ) (others : List (Seat Player)) → from ≤ who → who < from + count → find (λ (seat : Seat Player). eqb seat.who who) (map (node_seat as_nodes groups policy) (numbers_from from count) ++ others) ≡ Some (node_seat as_nodes groups policy who)
-  seat_in zero from who others low high = absurd (omega (arith, low, high))
-  seat_in (suc count) from who others low high =
-      cond_both (eqb from who) (Some (node_seat as_nodes groups policy from)) _ (λ (o : Option (Seat Player)). o ≡ Some (node_seat as_nodes groups policy who))
-      (λ t. ap (λ n. Some (node_seat as_nodes groups policy n)) (eqb-true from who t))
-      (λ f. seat_in count (from + 1) who others (above from who low (λ e. both_ways (eqb from who) f (eq-eqb from who e))) (omega (arith, high)))
-    where
-      above : (x y : ℕ) → x ≤ y → (x ≡ y → ⊥) → x + 1 ≤ y
-      above x y le ne = omega (arith, le, ne)
 
 pub client_among : (groups : List Base) (clients : List Asks) (seat : Seat Player) → Among seat (client_seats groups clients) → IsClient seat.actor
 client_among [] clients seat a = absurd a

@@ -21,10 +21,7 @@ use Rattle.sc_live_journals.proofs.GroupsProofs.Lemmas.{kept_leaders_rest, scena
 use Rattle.sc_live_answers.specs.Definitions.{state_at, ReplicasRunLogs, replicas_at, IsQuietGroup, SawNoMore, QuietGroupsStand, IsTakenIn, QuietGroupsAreGone}
 use Rattle.sc_live_answers.proofs.QuietProofs.QuietGroupReplicas.{opens_same, set_slot, at, over, all, now, view, even, place, has_one, newest_next, members_have, states, kept, room, same_state, ran}
 use Rattle.sc_live_answers.proofs.QuietProofs.QuietPrefixGroupLogs.{none_taken}
-
-some_of : {X : Type 0} (o : Option X) → is_some o ≡ true → (x : X) × (o ≡ Some x)
-some_of (Some x) e = (x, refl)
-some_of None e = cc
+use Rattle.sc_law_walks.proofs.Lemmas.{some_there}
 
 module _ (run : ReplicasRunLogs) (by : Tellers) (words : ℕ → ℕ → ℕ × ℕ) (scenario : Scenario) (journal prefix : Rows) (base : Base) (course : Course) (q : IsQuietGroup by words scenario journal prefix base course) where
   abbrev sets : Sets
@@ -181,7 +178,7 @@ module _ (run : ReplicasRunLogs) (by : Tellers) (words : ℕ → ℕ → ℕ × 
     last_state = (ran by words scenario journal prefix base course q run one last.0 last.1).1 ∙ ap (state_at as_nodes base journal) last_next
 
     went : (into : Route) × (last.0.group.core.gone ≡ Some into)
-    went = some_of last.0.group.core.gone last_gone
+    went = some_there last.0.group.core.gone last_gone
 
     member_now : (node : ℕ) → is_member (members last.0) node ≡ true → is_member (members_at sets course.newest) node ≡ true
     member_now node m =

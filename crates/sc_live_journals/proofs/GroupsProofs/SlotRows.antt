@@ -15,6 +15,7 @@ use Rattle.sc_law_walks.proofs.Lemmas.{promised_place, asked_place, either_way, 
 use Rattle.sc_live_journals.specs.groups.Definitions.{FlyFrom, WaitFrom, HasFrom, IsSlotKept}
 use Rattle.sc_live_journals.proofs.GroupsProofs.SlotLists.{fly_without, fly_polled, flies_from, wait_in, in_other}
 use Rattle.sc_live_journals.proofs.GroupsProofs.SlotParts.{K, KAfter, off_done, empty_done, pumps, acts_kept, ends, self_election, sees, sends, looks, executed_well}
+use Rattle.sc_law_walks.proofs.Lemmas.{promise_flights}
 
 no_room : (b c : Bool) (o : Option Command) → c ≡ false → cond (b && c) o None ≡ None
 no_room true true o e = absurd (true≢false e)
@@ -69,9 +70,6 @@ module _ (me : ℕ) where
   accept_well from ballot slot command place k = took_well from (record { slot = slot; ballot = ballot; value = command }) (saw ballot place) (sees ballot place k)
 
   -- what a leader counts leaves all in flight at its slots
-  promise_flights : (from : ℕ) (ballot : Ballot) (reports : List (Report Command)) (l : LeaderState Command) → (promise_counted from ballot reports l).1.flights ≡ l.flights
-  promise_flights from ballot reports l = either_way (λ (x : Bool × LeaderState Command). x.1.flights ≡ l.flights) (same_ballot ballot l.ballot && not (is_member l.promisers from)) _ _ refl refl
-
   with_leader : (r : ReplicaState) (l : LeaderState Command) → FlyFrom (next r) l.flights → r.running ≡ true → IsSlotKept r → IsSlotKept (record r { leader = l })
   with_leader r l fly on k = ((fly, k.0.1, λ off. absurd (true≢false (sym on ∙ off))), k.1)
 

@@ -64,16 +64,3 @@ pub reports_more : (P : Report Command → Type 0) (new : Report Command) (accep
 reports_more P new accepted q k =
     Each-append P (filter (λ report. nat_lt report.slot new.slot) accepted) (new ∷ filter (λ report. nat_lt new.slot report.slot) accepted) (Each-filter P (λ report. nat_lt report.slot new.slot) accepted k)
     (q, Each-filter P (λ report. nat_lt new.slot report.slot) accepted k)
-
--- an entry that is held is below the next slot
-held_low : (entries : List Command) (place : ℕ) (command : Command) → slice_get entries place ≡ Some command → place < length entries
-held_low [] place command e = cc
-held_low (entry ∷ entries) zero command e = omega arith
-held_low (entry ∷ entries) (suc place) command e = (let low = held_low entries place command e in omega (arith, low))
-
-pub entry_low : (slot : ℕ) (log : LogState Command) (command : Command) → entry_at slot log ≡ Some command → slot < next_of log
-entry_low slot log command e = by (nat_lt log.base slot) refl e
-  where
-    by : (b : Bool) → nat_lt log.base slot ≡ b → cond b (slice_get log.entries (slot - log.base - 1)) None ≡ Some command → slot < next_of log
-    by true t e2 = (let low = held_low log.entries (slot - log.base - 1) command e2 in let up = ltb-true log.base slot t in omega (arith, low, up))
-    by false f e2 = cc

@@ -89,9 +89,9 @@ module _ (IsSaid : Mail → Type 0) (name : Draw) (says : (me to : ℕ) (body : 
     returned = λ r mails t k. (back_keeps command r k.0, k.1);
     reports = λ result r mails e k. (k.0, desk_reported r.me (Each IsSaid) (own_talk r.me) (order_number command) result mails k.1);
     speaks = λ r mails k. (k.0, spoken_said r.me (Each IsSaid) (own_talk r.me) counted r.group (before_of start.group.core) (applied start.group command).1 command mails k.1);
-    teaches = λ to r mails t k. learns_keep to (next start) command r mails k;
-    installs = λ to r mails t k. installs_keep to r mails k;
-    repolls = λ to r mails t k. (k.0, own_sent r.me to _ mails k.0 k.1);
+    teaches = λ to r mails t a k. learns_keep to (next start) command r mails k;
+    installs = λ to r mails t new k. installs_keep to r mails k;
+    repolls = λ to r mails t new k. (k.0, own_sent r.me to _ mails k.0 k.1);
     flies = λ other r mails e k. tt;
     landed = λ place k. k;
     back = λ other r mails l k. (back_keeps other r k.0, k.1);

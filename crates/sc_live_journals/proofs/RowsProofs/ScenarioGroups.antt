@@ -19,6 +19,7 @@ use Rattle.sc_live_steps.specs.following.Definitions.{IsLed, Sets, Course, Progr
 use Rattle.sc_live_steps.proofs.FollowingProofs.Lemmas.{least_in, among-either}
 use Rattle.sc_live_journals.specs.rows.Definitions.{replica_in, view_at, next_in, promise_in, progress_at, begun_course}
 use Rattle.sc_paxos_law.proofs.Among.{member-among as among_member}
+use Rattle.sc_law_groups.proofs.WholeProofs.Lemmas.{group_place}
 
 -- ---- the first member at its birth
 
@@ -63,14 +64,6 @@ born_leads at base now same roster first stands course executed promise =
 
 -- ---- the groups of a bounded scenario
 
-pub of_up_to : (lines : List GroupLine) (n : ℕ) (base : Base) → Among base (bases_up_to lines n) → (k : ℕ) × (k < n) × (base_at lines k ≡ base)
-of_up_to lines zero base a = absurd a
-of_up_to lines (suc n) base a = elim (among-either base (bases_up_to lines n) (base_at lines n ∷ []) a) [
-  | inl b ↦ (let r = of_up_to lines n base b in let low = r.1 in (r.0, omega (arith, low), r.2))
-  | inr (inl e) ↦ (n, omega arith, e)
-  | inr (inr e) ↦ absurd e
-]
-
 -- what is known of a group at its birth
 record IsBorn (nodes : ℕ) (base : Base) : Type 0 where
   roster : IsRoster base.core.members
@@ -79,9 +72,6 @@ record IsBorn (nodes : ℕ) (base : Base) : Type 0 where
   within : (node : ℕ) → is_member base.core.members node ≡ true → (1 ≤ node) × (node ≤ nodes)
 
 module _ (scenario : Scenario) (bounded : IsBounded scenario) where
-  place_of : (base : Base) → Among base scenario.groups → (k : ℕ) × (k < length bounded.starts) × (base_at bounded.starts k ≡ base)
-  place_of base a = of_up_to bounded.starts (length bounded.starts) base (subst (Among base) bounded.groups a)
-
   line_bounded : (k : ℕ) → k < length bounded.starts → IsBoundedGroup scenario.nodes (group_at bounded.starts k)
   line_bounded k low = bounded.each k (record { lo = 0; members = [] }) low
 
@@ -97,12 +87,12 @@ module _ (scenario : Scenario) (bounded : IsBounded scenario) where
       }
 
   born_is : (base : Base) → Among base scenario.groups → IsBorn scenario.nodes base
-  born_is base a = (let p = place_of base a in subst (IsBorn scenario.nodes) p.2 (born_at p.0 p.1))
+  born_is base a = (let p = group_place scenario bounded base a in subst (IsBorn scenario.nodes) p.2 (born_at p.0 p.1))
 
   pub named_once : (one other : Base) → Among one scenario.groups → Among other scenario.groups → one.core.id ≡ other.core.id → one ≡ other
   named_once one other a b same =
-      let x = place_of one a in
-      let y = place_of other b in
+      let x = group_place scenario bounded one a in
+      let y = group_place scenario bounded other b in
       let names : x.0 + 1 ≡ y.0 + 1 = ap (λ (f : Base). f.core.id.count) x.2 ∙ (ap (λ (d : Draw). d.count) same ∙ sym (ap (λ (f : Base). f.core.id.count) y.2)) in
       let k : x.0 ≡ y.0 = omega (arith, names) in
       sym x.2 ∙ (ap (λ n. base_at bounded.starts n) k ∙ y.2)

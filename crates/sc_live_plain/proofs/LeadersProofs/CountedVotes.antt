@@ -11,7 +11,7 @@ use Rattle.sc_node_table.specs.Definitions.{has_room, executed, ReplicaState, Pl
 use Rattle.sc_live_plain.specs.Definitions.{Frame, IsFrame, replica_owes, Requests, IsPlainCommand, takers, IsPlainFlight, IsPlainLeader, IsPlainReplica, HasOffered}
 use Rattle.sc_live_plain.proofs.LeadersProofs.LeaderRequests.{begins}
 use Rattle.sc_live_plain.proofs.RowsProofs.SlotCounts.{found_one, one_if, one_if_most, one_yes, one_no, entries_at, with_length, with_count, with_each, with_among, with_it, with_at, out_length, out_here, out_other, out_each, out_among}
-use Rattle.sc_live_plain.proofs.LeadersProofs.Flights.{others_out, voted_length, voted_count, voted_each, voted_value, voted_others, voted_here, only_flight, no_flight_at, numbered_get, numbered_past}
+use Rattle.sc_live_plain.proofs.LeadersProofs.Flights.{others_out, voted_length, voted_count, voted_each, voted_value, voted_others, voted_here, only_flight, no_flight_at, numbered_get, numbered_past, HasVoted, vote_kept, closed_set}
 use Rattle.sc_live_steps.proofs.FollowingProofs.KeptVotes.{HasVoted, vote_kept}
 use Rattle.sc_live_plain.proofs.LeadersProofs.LeadingReplicas.{in_range, range_before, range_behind, early_taken, flights_at, IsHeld, Leads}
 use Rattle.sc_live_plain.proofs.LeadersProofs.Pumps.{call_is}
@@ -308,18 +308,12 @@ module _ (begun : Requests) (frame : Frame) (is : IsFrame frame) (taken : ℕ) (
         cond-false (nat_lt slot (next r)) None (slice_get r.sets (slot - next r)) (le-ltb slot (next r) low)
         ∙ ap (λ (l_ : List (List ℕ)). slice_get l_ (slot - next r)) p.sets_are ∙ numbered_get frame.at slots_ahead (next r) (slot - next r) (omega (arith, low, high)) ∙ ap (λ s. Some (frame.at s)) k
 
-    voted_closed : (slot < next r) ⊎ (next r + slots_ahead ≤ slot) → set_at slot r ≡ None
-    voted_closed (inl low) = cond-true (nat_lt slot (next r)) None (slice_get r.sets (slot - next r)) (lt-ltb slot (next r) low)
-    voted_closed (inr high) =
-        cond-false (nat_lt slot (next r)) None (slice_get r.sets (slot - next r)) (le-ltb slot (next r) (omega (arith, high)))
-        ∙ ap (λ (l_ : List (List ℕ)). slice_get l_ (slot - next r)) p.sets_are ∙ numbered_past frame.at slots_ahead (next r) (slot - next r) (omega (arith, high))
-
     ballots : same_ballot frame.ballot r.leader.ballot ≡ true
     ballots = ap (same_ballot frame.ballot) l.ballot_is ∙ ballot_itself frame.ballot
 
     -- a vote at a slot that is not open counts for nothing
     counted_out : (slot < next r) ⊎ (next r + slots_ahead ≤ slot) → R (voted from frame.ballot slot (set_at slot r) (r, [])).0
-    counted_out out = subst (λ (o : Option (List ℕ)). R (voted from frame.ballot slot o (r, [])).0) (sym (voted_closed out)) (same_counted from slot (closed slot out))
+    counted_out out = subst (λ (o : Option (List ℕ)). R (voted from frame.ballot slot o (r, [])).0) (sym (closed_set frame.at slot r p.sets_are out)) (same_counted from slot (closed slot out))
 
     counted_in : next r ≤ slot → slot < next r + slots_ahead → R (voted from frame.ballot slot (set_at slot r) (r, [])).0
     counted_in low high =
@@ -329,7 +323,7 @@ module _ (begun : Requests) (frame : Frame) (is : IsFrame frame) (taken : ℕ) (
         (vote_run (flight_at slot r.leader.flights) refl))
 
     none_out : (slot < next r) ⊎ (next r + slots_ahead ≤ slot) → (voted from frame.ballot slot (set_at slot r) (r, [])).1 ≡ []
-    none_out out = ap (λ (o : Option (List ℕ)). (voted from frame.ballot slot o (r, [])).1) (voted_closed out)
+    none_out out = ap (λ (o : Option (List ℕ)). (voted from frame.ballot slot o (r, [])).1) (closed_set frame.at slot r p.sets_are out)
 
     none_in : next r ≤ slot → slot < next r + slots_ahead → (voted from frame.ballot slot (set_at slot r) (r, [])).1 ≡ []
     none_in low high =

@@ -1,11 +1,13 @@
 -- What a vote makes of the flights, and of those that voted.
-use Rattle.std.proofs.Common.{◌≡◌, ℕ, zero, suc, ◌+◌, ◌<◌, ◌≤◌, eqb, true, false, cond, List, [], ◌∷◌, length, map, Option, Some, None, inl, inr, refl, sym, ◌∙◌, ap, arith}
-use Rattle.std.specs.Prelude.{slice_get}
-use Rattle.std.proofs.lemmas.Bool.{cond_both, cond-true, cond-false, eqb-true, eq-eqb, ne_eqb, both_ways}
-use Rattle.sc_base.specs.Definitions.{Among, Each}
+use Rattle.std.proofs.Common.{◌≡◌, ℕ, zero, suc, ◌+◌, ◌<◌, ◌≤◌, eqb, true, false, cond, List, [], ◌∷◌, length, map, Option, Some, None, inl, inr, refl, sym, ◌∙◌, ap, arith, ◌-◌, ◌*◌, ◌||◌, ◌⊎◌, Bool, ◌++◌, count_by, subst}
+use Rattle.std.specs.Prelude.{slice_get, nat_lt}
+use Rattle.std.proofs.lemmas.Bool.{cond_both, cond-true, cond-false, eqb-true, eq-eqb, ne_eqb, both_ways, cases_Bool, lt-ltb, le-ltb, or_cases, or_parts, or_left}
+use Rattle.sc_base.specs.Definitions.{Among, Each, votes_of, is_majority, is_member, with_member, IsRoster}
 use Rattle.sc_node_table.specs.Values.{Command, Flight}
-use Rattle.sc_words.specs.paxos.Definitions.{flight_at, without_flight, with_voters}
-use Rattle.sc_node_table.specs.Definitions.{numbers_from}
+use Rattle.sc_words.specs.paxos.Definitions.{flight_at, without_flight, with_voters, kept_voters, add_voter, voters_after}
+use Rattle.sc_node_table.specs.Definitions.{numbers_from, ReplicaState, next, set_at, slots_ahead}
+use Rattle.sc_base.proofs.Lemmas.{length_with as with_one}
+use Rattle.sc_paxos_law.proofs.Lemmas.{member-among}
 use Rattle.sc_live_plain.proofs.RowsProofs.SlotCounts.{one_yes, one_no, count-cons}
 use Rattle.sc_live_plain.proofs.LeadersProofs.LeadingReplicas.{flights_at}
 use Rattle.sc_live_plain.proofs.RowsProofs.Lists.{some_is}
@@ -68,6 +70,14 @@ module _ (slot : ℕ) (voters : Option (List ℕ)) where
       cond-true (eqb x.slot slot) (Some (record x { voters = voters })) (flight_at slot fs) t ∙ ap (λ (y : Flight Command). Some (record y { voters = voters })) same))
       (λ n. cond-false (eqb x.slot slot) (Some x) (flight_at slot (with_voters slot voters fs)) n ∙ voted_here fs f (sym (cond-false (eqb x.slot slot) (Some x) (flight_at slot fs) n) ∙ e))
 
+-- one in flight stands at its slot
+pub flight_stands : (slot : ℕ) (fs : Flights) (g : Flight Command) → Among g fs → g.slot ≡ slot → 1 ≤ flights_at slot fs
+flight_stands slot [] g a at = absurd a
+flight_stands slot (x ∷ fs) g (inl is) at =
+    let c = count-cons (λ (y : Flight Command). eqb y.slot slot) x fs in
+    let here = one_yes (eqb x.slot slot) (eq-eqb x.slot slot (ap (λ (y : Flight Command). y.slot) is ∙ at)) in omega (arith, c, here)
+flight_stands slot (x ∷ fs) g (inr a) at = (let c = count-cons (λ (y : Flight Command). eqb y.slot slot) x fs in let more = flight_stands slot fs g a at in omega (arith, c, more))
+
 -- where one flight has a slot, that one is found there
 pub only_flight : (slot : ℕ) (fs : Flights) (f g : Flight Command) → flights_at slot fs ≡ 1 → flight_at slot fs ≡ Some f → Among g fs → g.slot ≡ slot → f ≡ g
 only_flight slot [] f g one e a at = absurd a
@@ -78,13 +88,6 @@ only_flight slot (x ∷ fs) f g one e a at =
     elim a [ inl is ↦ sym (some_is k) ∙ is | inr b ↦ (let more = flight_stands slot fs g b at in absurd (omega (arith, c, here, one, more))) ]))
     (λ n k. (let none = one_no (eqb x.slot slot) n in
     elim a [ inl is ↦ absurd (both_ways (eqb x.slot slot) n (eq-eqb x.slot slot (ap (λ (y : Flight Command). y.slot) is ∙ at))) | inr b ↦ only_flight slot fs f g (omega (arith, c, none, one)) k b at ])) e
-  where
-    flight_stands : (slot : ℕ) (fs : Flights) (g : Flight Command) → Among g fs → g.slot ≡ slot → 1 ≤ flights_at slot fs
-    flight_stands slot [] g a at = absurd a
-    flight_stands slot (x ∷ fs) g (inl is) at =
-        let c = count-cons (λ (y : Flight Command). eqb y.slot slot) x fs in
-        let here = one_yes (eqb x.slot slot) (eq-eqb x.slot slot (ap (λ (y : Flight Command). y.slot) is ∙ at)) in omega (arith, c, here)
-    flight_stands slot (x ∷ fs) g (inr a) at = (let c = count-cons (λ (y : Flight Command). eqb y.slot slot) x fs in let more = flight_stands slot fs g a at in omega (arith, c, more))
 
 -- nothing is found where nothing stands
 pub no_flight_at : (slot : ℕ) (fs : Flights) (f : Flight Command) → flights_at slot fs ≡ 0 → flight_at slot fs ≡ Some f → ⊥
@@ -106,3 +109,10 @@ pub numbered_past : {X : Type 0} (at : ℕ → X) (count from k : ℕ) → count
 numbered_past at zero from k low = refl
 numbered_past at (suc count) from zero low = absurd (omega (arith, low))
 numbered_past at (suc count) from (suc k) low = numbered_past at count (from + 1) k (omega (arith, low))
+
+-- a slot that is not open has no members
+pub closed_set : (at : ℕ → List ℕ) (slot : ℕ) (r : ReplicaState) → r.sets ≡ map at (numbers_from (next r) slots_ahead) → (slot < next r) ⊎ (next r + slots_ahead ≤ slot) → set_at slot r ≡ None
+closed_set at slot r e (inl low) = cond-true (nat_lt slot (next r)) None (slice_get r.sets (slot - next r)) (lt-ltb slot (next r) low)
+closed_set at slot r e (inr high) =
+    cond-false (nat_lt slot (next r)) None (slice_get r.sets (slot - next r)) (le-ltb slot (next r) (omega (arith, high)))
+    ∙ ap (λ (sets : List (List ℕ)). slice_get sets (slot - next r)) e ∙ numbered_past at slots_ahead (next r) (slot - next r) (omega (arith, high))

@@ -3,14 +3,14 @@ use Rattle.std.proofs.Common.{◌≡◌, ℕ, ◌+◌, ◌-◌, ◌<◌, ◌≤�
 use Rattle.std.specs.Prelude.{is_some, nat_le, nat_lt}
 use Rattle.std.specs.List.{list_any}
 use Rattle.std.specs.Option.{option_map}
-use Rattle.std.proofs.lemmas.Bool.{cases_lt, cases_eq, le-leb, lt-leb, lt-ltb, le-ltb, eq-eqb, ne_eqb, and_from, and_left, and_right, or_parts, or_from}
+use Rattle.std.proofs.lemmas.Bool.{cond-false, cases_lt, cases_eq, le-leb, lt-leb, lt-ltb, le-ltb, eq-eqb, ne_eqb, and_from, and_left, and_right, or_parts, or_from}
 use Rattle.sc_base.specs.Definitions.{Among, Each, client_actor, is_member}
 use Rattle.sc_node_table.specs.Values.{Op, Command, Call, AnswerBody, Mail, MailBody, Answer, Accept, Learn, Flight}
 use Rattle.sc_words.specs.paxos.Definitions.{flight_at}
 use Rattle.sc_words.proofs.PaxosProofs.Lemmas.{Each-among, find_found}
-use Rattle.sc_node_table.specs.Definitions.{is_act, ReplicaState, Place, next, flying, either, taken_at, listed, taken_from, at_slot, numbers_from}
-use Rattle.sc_live_plain.specs.Definitions.{Frame, answer_owes, mail_owes, replica_owes, Requests, IsPlainCommand, IsPlainBody, takers, AreTaken, IsPlainFlight, IsPlainLeader, IsPlainReplica}
-use Rattle.sc_live_plain.proofs.RowsProofs.SlotCounts.{one_if, one_yes, one_no, count-cons, find_none, find_some, at_none, at_some, at_found}
+use Rattle.sc_node_table.specs.Definitions.{is_act, from_backlog, from_acts, from_queues, offered, ReplicaState, Place, next, flying, either, taken_at, listed, taken_from, under_way, open_slots, at_slot, numbers_from}
+use Rattle.sc_live_plain.specs.Definitions.{Frame, answer_owes, mail_owes, replica_owes, Requests, IsPlainCommand, IsPlainBody, takers, AreTaken, IsPlainLeader, IsPlainReplica}
+use Rattle.sc_live_plain.proofs.RowsProofs.SlotCounts.{one_if, one_yes, one_no, count-cons, count-push, find_none, find_some, at_none, at_some, at_found}
 use Rattle.sc_live_plain.proofs.RowsProofs.RepeatedMail.{learns_to, mail_of}
 
 -- ---- which slots are taken
@@ -144,26 +144,39 @@ pub plain_acts : (begun : Requests) (frame : Frame) (c : Command) → IsPlainCom
 plain_acts begun frame (Call client seq op) p = refl
 plain_acts begun frame _ p = absurd p
 
-module _ (begun : Requests) (frame : Frame) (taken : ℕ) (r : ReplicaState) (k : IsPlainLeader begun frame taken r) where
-  one_plain : (slot : ℕ) (o : Option (Flight Command)) (p : Option Command) → flight_at slot r.leader.flights ≡ o → at_slot r.ready slot ≡ p
+-- where all that is under way is as P says, no such command is an act, and none waits, only the queue of requests is looked into
+module _ (P : Command → Type 0) (no_act : (command : Command) → P command → is_act command ≡ false) (r : ReplicaState) (flights : Each (λ (flight : Flight Command). P flight.value) r.leader.flights) (ready : Each (λ (entry : ℕ × Command). P entry.1) r.ready) where
+  one_other : (slot : ℕ) (o : Option (Flight Command)) (p : Option Command) → flight_at slot r.leader.flights ≡ o → at_slot r.ready slot ≡ p
       → list_any is_act (listed (either (option_map (λ (flight : Flight Command). flight.value) o) p)) ≡ false
-  one_plain slot (Some flight) p e f =
+  one_other slot (Some flight) p e f =
       let found = find_found (λ (flight : Flight Command). eqb flight.slot slot) r.leader.flights flight e in
-      let plain = Each-among (IsPlainFlight begun frame) r.leader.flights flight k.flights found.0 in
-      ap (λ b. b || false) (plain_acts begun frame flight.value plain.is_call)
-  one_plain slot None (Some command) e f =
+      ap (λ b. b || false) (no_act flight.value (Each-among (λ (x : Flight Command). P x.value) r.leader.flights flight flights found.0))
+  one_other slot None (Some command) e f =
       let found = at_found r.ready slot command f in
-      let plain = Each-among (λ (entry : ℕ × Command). IsPlainCommand begun frame entry.1) r.ready (slot, command) k.ready found.1 in
-      ap (λ b. b || false) (plain_acts begun frame command plain)
-  one_plain slot None None e f = refl
+      ap (λ b. b || false) (no_act command (Each-among (λ (entry : ℕ × Command). P entry.1) r.ready (slot, command) ready found.1))
+  one_other slot None None e f = refl
 
   any_append : (xs ys : List Command) → list_any is_act xs ≡ false → list_any is_act ys ≡ false → list_any is_act (xs ++ ys) ≡ false
   any_append [] ys e f = f
   any_append (x ∷ xs) ys e f = (let parts = or_parts (is_act x) (list_any is_act xs) e in or_from (is_act x) (list_any is_act (xs ++ ys)) parts.0 (any_append xs ys parts.1 f))
 
-  pub no_acts : (slots : List ℕ) → list_any is_act (taken_from r slots) ≡ false
+  no_acts : (slots : List ℕ) → list_any is_act (taken_from r slots) ≡ false
   no_acts [] = refl
-  no_acts (slot ∷ slots) = any_append (listed (taken_at r slot)) (taken_from r slots) (one_plain slot (flight_at slot r.leader.flights) (at_slot r.ready slot) refl refl) (no_acts slots)
+  no_acts (slot ∷ slots) = any_append (listed (taken_at r slot)) (taken_from r slots) (one_other slot (flight_at slot r.leader.flights) (at_slot r.ready slot) refl refl) (no_acts slots)
+
+  pub requests_only : (mails : List Mail) → r.acts ≡ [] → from_queues (r, mails) ≡ from_backlog (r, mails)
+  unfolding from_queues
+  requests_only mails none = cond-false (list_any is_act (under_way r)) (None, (r, mails)) (from_acts r.acts (r, mails)) (no_acts (open_slots r)) ∙ ap (λ acts. from_acts acts (r, mails)) none
+
+-- an offer takes the slot behind those that are taken
+pub offer_taken : (slot taken : ℕ) (set : List ℕ) (command : Command) (r : ReplicaState) (mails : List Mail) → slot ≡ next r + taken → ((s : ℕ) → takers r s ≡ one_if (in_range (next r) taken s)) → (s : ℕ) → takers (offered slot set command (r, mails)).0 s ≡ one_if (in_range (next r) (taken + 1) s)
+unfolding offered
+offer_taken slot taken set command r mails at once s =
+    let push = count-push (λ (f : Flight Command). eqb f.slot s) r.leader.flights (record { slot = slot; value = command; voters = None }) in
+    let before = once s in
+    let more = range_more (next r) taken s in
+    let same : one_if (eqb slot s) ≡ one_if (eqb (next r + taken) s) = ap (λ n. one_if (eqb n s)) at in
+    omega (arith, push, before, more, same)
 
 -- ---- a leader in the midst of a row
 

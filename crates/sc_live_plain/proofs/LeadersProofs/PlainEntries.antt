@@ -19,7 +19,7 @@ none_passes p [] f = refl
 none_passes p (x ∷ xs) f = cond-false (p x) (x ∷ filter p xs) (filter p xs) (f x (inl refl)) ∙ none_passes p xs (λ y a. f y (inr a))
 
 -- no member is new
-none_new : (before now : List ℕ) → now ≡ before → filter (λ node. not (is_member before node)) now ≡ []
+pub none_new : (before now : List ℕ) → now ≡ before → filter (λ node. not (is_member before node)) now ≡ []
 none_new before now e = none_passes (λ node. not (is_member before node)) now (λ x a. ap not (ap (λ xs. is_member xs x) (sym e) ∙ among-member now x a))
 
 -- ---- the log

@@ -1,18 +1,17 @@
 -- What the leading replica of a plain group offers: its queued requests, at the slots that are free, in their order.
-use Rattle.std.proofs.Common.{◌≡◌, ℕ, zero, suc, ◌+◌, ◌<◌, ◌≤◌, ◌&&◌, not, leb, eqb, Bool, true, List, [], ◌∷◌, ◌++◌, length, map, sum_by, Option, Some, None, ◌⊎◌, inl, inr, refl, sym, ◌∙◌, ap, subst, arith, append_assoc}
+use Rattle.std.proofs.Common.{◌≡◌, ℕ, zero, suc, ◌+◌, ◌<◌, ◌≤◌, ◌&&◌, not, leb, Bool, true, List, [], ◌∷◌, ◌++◌, length, map, sum_by, Option, Some, None, ◌⊎◌, inl, inr, refl, sym, ◌∙◌, ap, subst, arith, append_assoc}
 use Rattle.std.specs.Prelude.{is_some, nat_le}
-use Rattle.std.specs.List.{list_any}
 use Rattle.std.proofs.lemmas.Bool.{cond_both, cond-true, cond-false, cases_lt, cases_eq, le-leb, and_from, both_ways}
 use Rattle.std.proofs.lemmas.List.{length_push}
 use Rattle.sc_base.specs.Definitions.{Among, Each, votes_of}
 use Rattle.sc_node_table.specs.Values.{Ballot, Draw, Op, Command, Call, Core, Lock, Free, Route, AnswerBody, Mail, MailBody, Accept, Must, Flight}
 use Rattle.sc_words.specs.ideal.Definitions.{key_of, holds_key}
 use Rattle.sc_words.proofs.PaxosProofs.Lemmas.{Each-push, Each-weaker}
-use Rattle.sc_node_table.specs.Definitions.{sent_all, answered, Found, is_act, admits_requests, waits, refused_by, turned_down, next_queued, from_backlog, from_acts, from_queues, found_by, found_for, offered, pumped_from, pumped, ReplicaState, Place, name_of, next, first_set, settled, may_offer, taken_at, under_way, open_slots, is_idle, last_slot, numbers_from, slots_ahead}
+use Rattle.sc_node_table.specs.Definitions.{sent_all, answered, Found, admits_requests, waits, refused_by, turned_down, next_queued, from_backlog, found_by, found_for, offered, pumped_from, pumped, ReplicaState, Place, name_of, next, first_set, settled, may_offer, taken_at, is_idle, last_slot, numbers_from, slots_ahead}
 use Rattle.sc_paxos_law.proofs.Lemmas.{among-member}
-use Rattle.sc_live_plain.specs.Definitions.{Frame, IsFrame, mail_owes, replica_owes, Requests, IsPlainCommand, IsPlainCall, takers, IsPlainFlight, IsPlainLeader, IsPlainReplica}
-use Rattle.sc_live_plain.proofs.RowsProofs.SlotCounts.{one_if, one_yes, one_no, count-push}
-use Rattle.sc_live_plain.proofs.LeadersProofs.LeadingReplicas.{in_range, range_yes, range_behind, range_more, takes, takes_not, no_acts, IsHeld, IsReportedOf, IsSaid, IsNew, later_row, Leads}
+use Rattle.sc_live_plain.specs.Definitions.{Frame, IsFrame, mail_owes, replica_owes, Requests, IsPlainCommand, IsPlainCall, IsPlainFlight, IsPlainLeader, IsPlainReplica}
+use Rattle.sc_live_plain.proofs.RowsProofs.SlotCounts.{one_yes, one_no}
+use Rattle.sc_live_plain.proofs.LeadersProofs.LeadingReplicas.{in_range, range_yes, range_behind, takes, takes_not, plain_acts, requests_only, offer_taken, IsHeld, IsReportedOf, IsSaid, IsNew, later_row, Leads}
 use Rattle.sc_live_plain.proofs.RowsProofs.RepeatedMail.{mail_of, all_each, all_owed, all_learns, all_kept, all_reached, among_push, last_among}
 use Rattle.sc_live_steps.proofs.FollowingProofs.LeastMembers.{none_decided}
 
@@ -59,15 +58,10 @@ module _ (begun : Requests) (frame : Frame) (is : IsFrame frame) (first free : �
   L taken place = Leads begun frame first free held bound wanted taken place
 
   module _ (slot taken : ℕ) (r : ReplicaState) (mails : List Mail) (k : L taken (r, mails)) (low : next r ≤ slot) where
-    calls_for : from_queues (r, mails) ≡ from_backlog (r, mails)
-    unfolding from_queues
-    calls_for =
-        cond-false (list_any is_act (under_way r)) (None, (r, mails)) (from_acts r.acts (r, mails)) (no_acts begun frame taken r k.leader (open_slots r))
-        ∙ ap (λ acts. from_acts acts (r, mails)) k.plain.acts
-
     found_calls : found_for slot (r, mails) ≡ from_backlog (r, mails)
     unfolding found_for
-    found_calls = ap (λ (what : Must Command). found_by what (r, mails)) (k.leader.open_ slot low) ∙ calls_for
+    found_calls = ap (λ (what : Must Command). found_by what (r, mails)) (k.leader.open_ slot low)
+        ∙ requests_only (IsPlainCommand begun frame) (plain_acts begun frame) r (Each-weaker (IsPlainFlight begun frame) (λ (flight : Flight Command). IsPlainCommand begun frame flight.value) (λ flight p. p.is_call) r.leader.flights k.leader.flights) k.leader.ready mails k.plain.acts
 
     find_call : (client seq : ℕ) (op : Op) (rest : List Command) → r.backlog ≡ Call client seq op ∷ rest → IsPlainCall begun frame client seq op
         → found_for slot (r, mails) ≡ (Some (Call client seq op), (record r { backlog = rest }, mails))
@@ -104,15 +98,6 @@ module _ (begun : Requests) (frame : Frame) (is : IsFrame frame) (first free : �
     name_is : name_of r ≡ frame.core.id
     name_is = ap (λ (core : Core). core.id) k.plain.group.core_is
 
-    taken_once : (s : ℕ) → takers after.0 s ≡ one_if (in_range (next r) (taken + 1) s)
-    unfolding after offered
-    taken_once s =
-        let push = count-push (λ (f : Flight Command). eqb f.slot s) r.leader.flights (record { slot = slot; value = Call client seq op; voters = None }) in
-        let before = k.leader.slots.once s in
-        let more = range_more (next r) taken s in
-        let same : one_if (eqb slot s) ≡ one_if (eqb (next r + taken) s) = ap (λ n. one_if (eqb n s)) at in
-        omega (arith, push, before, more, same)
-
     offered_plain : IsPlainReplica begun frame frame.lead after.0
     unfolding after offered
     offered_plain = (let p = k.plain in record {
@@ -139,7 +124,7 @@ module _ (begun : Requests) (frame : Frame) (is : IsFrame frame) (first free : �
       flights = Each-push (IsPlainFlight begun frame) r.leader.flights (record { slot = slot; value = Call client seq op; voters = None }) l.flights
           (record { is_call = calls_plain.0; voters_are = omega arith; undecided = none_decided (frame.at slot) });
       ready = l.ready;
-      slots = record { most = omega (arith, room); once = taken_once };
+      slots = record { most = omega (arith, room); once = offer_taken slot taken (frame.at slot) (Call client seq op) (record r { backlog = rest }) mails at k.leader.slots.once };
     })
 
     offered_owed : replica_owes after.0 + sum_by mail_owes after.1 ≤ bound

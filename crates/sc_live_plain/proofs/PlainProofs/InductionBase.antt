@@ -23,7 +23,8 @@ use Rattle.sc_client_table.specs.table.Definitions.{born_client}
 use Rattle.sc_live_orderly.specs.Definitions.{owed_at_birth}
 use Rattle.sc_paxos_law.proofs.Lemmas.{from_map}
 use Rattle.sc_live_plain.specs.Definitions.{requests_of, budget_of, Frame, frame_of, replica_owes, player_owes, way_of, IsBegun, IsPlainClient, Requests, AreTaken, IsPlainReplica, IsSettled, IsPlainAt, IsPlainNode, replica_at, next_in, votes_in, IsGroupAt}
-use Rattle.sc_live_plain.proofs.PlainProofs.PlainBeginnings.{frames_of, stage, of_groups}
+use Rattle.sc_live_plain.proofs.PlainProofs.PlainBeginnings.{frames_of, stage}
+use Rattle.sc_law_groups.proofs.WholeProofs.Lemmas.{group_place}
 use Rattle.sc_live_plain.proofs.RowsProofs.Sums.{shares, sum_mapped, none_together}
 use Rattle.sc_live_plain.proofs.PlainProofs.PlainInduction.{owing_of, IsPlainJournal}
 use Rattle.sc_live_plain.proofs.LeadersProofs.LeadingReplicas.{in_range, range_before, range_behind}
@@ -179,7 +180,7 @@ module _ (scenario : Scenario) (bounded : IsBounded scenario) where
 
   -- each group begins with no pairs and no notes
   fresh : (base : Base) → Among base scenario.groups → (base.pairs ≡ []) × (base.clients ≡ [])
-  fresh base a = (let k = of_groups scenario bounded base a in (ap (λ (b : Base). b.pairs) (sym k.2) ∙ refl, ap (λ (b : Base). b.clients) (sym k.2) ∙ refl))
+  fresh base a = (let k = group_place scenario bounded base a in (ap (λ (b : Base). b.pairs) (sym k.2) ∙ refl, ap (λ (b : Base). b.clients) (sym k.2) ∙ refl))
 
   -- a replica that is found is one of its group, and plain
   born_at : (begun : Requests) (me : ℕ) (frame : Frame) (r : ReplicaState) → Among frame (frames_of scenario) → replica_of frame.core.id (born_replicas slots_ahead me scenario.groups) ≡ Some r → IsPlainAt begun frame me r

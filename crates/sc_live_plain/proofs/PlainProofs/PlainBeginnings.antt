@@ -1,18 +1,18 @@
 -- How a plain journal begins: the frames of the groups of a valid scenario, and its seats.
-use Rattle.std.proofs.Common.{◌≡◌, ℕ, zero, suc, ◌+◌, ◌-◌, ◌<◌, ◌≤◌, leb, true, List, [], ◌∷◌, ◌++◌, length, map, inl, inr, refl, sym, ◌∙◌, ap, subst, arith}
+use Rattle.std.proofs.Common.{◌≡◌, ℕ, ◌+◌, ◌-◌, ◌<◌, ◌≤◌, leb, true, List, [], ◌∷◌, ◌++◌, length, map, refl, sym, ◌∙◌, ap, subst, arith}
 use Rattle.std.proofs.lemmas.Bool.{and_from, le-leb}
 use Rattle.sc_base.specs.Definitions.{Among, most_nodes, is_member}
 use Rattle.sc_node_table.specs.Values.{Draw, Base}
 use Rattle.sc_actor.specs.Definitions.{are_apart}
 use Rattle.sc_words.proofs.PaxosProofs.Lemmas.{Each-among, Each-from_All, one_of_name}
 use Rattle.sc_node_table.specs.Definitions.{numbers_from}
-use Rattle.sc_scenario.specs.scenario.Definitions.{base_at, bases_up_to, group_at, IsBounded, IsUpTo}
+use Rattle.sc_scenario.specs.scenario.Definitions.{base_at, bases_up_to, group_at, IsBounded, IsUpTo, IsBoundedGroup}
 use Rattle.sc_scenario.specs.declared.scenario.drafts.GroupLine.{GroupLine}
 use Rattle.sc_scenario.specs.declared.scenario.scenarios.Asks.{Asks}
 use Rattle.sc_scenario.specs.declared.scenario.scenarios.Scenario.{Scenario}
 use Rattle.sc_meaning.specs.sound.Definitions.{node_seat, client_seat, client_seats, route_of, births, as_nodes}
-use Rattle.sc_law_groups.proofs.WholeProofs.Lemmas.{all_apart, bases_from, first_and_others}
-use Rattle.sc_paxos_law.proofs.Lemmas.{Among-either, from_map, member-among}
+use Rattle.sc_law_groups.proofs.WholeProofs.Lemmas.{all_apart, bases_from, first_and_others, group_place}
+use Rattle.sc_paxos_law.proofs.Lemmas.{from_map, member-among}
 use Rattle.sc_live_plain.specs.Definitions.{Frame, frame_of, IsFrame, AreNamedApart}
 use Rattle.sc_live_steps.proofs.FollowingProofs.Lemmas.{least_in}
 use Rattle.sc_law_groups.proofs.GroupProofs.Lemmas.{EachClient, HaveOneSection}
@@ -35,20 +35,12 @@ pub record IsStage (scenario : Scenario) : Type 0 where
   pub once : HaveOneSection scenario
   pub seats_apart : are_apart (births as_nodes scenario) ≡ true
 
-of_up_to : (lines : List GroupLine) (n : ℕ) (base : Base) → Among base (bases_up_to lines n) → (k : ℕ) × (k < n) × (base_at lines k ≡ base)
-of_up_to lines zero base a = absurd a
-of_up_to lines (suc n) base a = elim (Among-either base (bases_up_to lines n) (base_at lines n ∷ []) a) [
-  | inl b ↦ (let r = of_up_to lines n base b in let low = r.1 in (r.0, omega (arith, low), r.2))
-  | inr (inl e) ↦ (n, omega arith, e)
-  | inr (inr e) ↦ absurd e
-]
-
 module _ (scenario : Scenario) (bounded : IsBounded scenario) where
   abbrev lines : List GroupLine
   lines = bounded.starts
 
-  pub of_groups : (base : Base) → Among base scenario.groups → (k : ℕ) × (k < length bounded.starts) × (base_at bounded.starts k ≡ base)
-  of_groups base a = of_up_to bounded.starts (length bounded.starts) base (subst (Among base) bounded.groups a)
+  line_bounded : (k : ℕ) → k < length bounded.starts → IsBoundedGroup scenario.nodes (group_at bounded.starts k)
+  line_bounded k low = bounded.each k (record { lo = 0; members = [] }) low
 
   within : (k : ℕ) → k < length bounded.starts → (node : ℕ) → is_member (group_at bounded.starts k).members node ≡ true → (1 ≤ node) × (node ≤ scenario.nodes)
   within k low node m =
@@ -71,7 +63,7 @@ module _ (scenario : Scenario) (bounded : IsBounded scenario) where
   pub frame_is : (frame : Frame) → Among frame (frames_of scenario) → (k : ℕ) × (k < length bounded.starts) × (frame_of (base_at bounded.starts k) ≡ frame)
   frame_is frame a =
       let b = from_map frame_of scenario.groups frame a in
-      let g = of_groups b.0 b.1 in
+      let g = group_place scenario bounded b.0 b.1 in
       (g.0, g.1, ap frame_of g.2 ∙ b.2)
 
   named_once : AreNamedApart (frames_of scenario)

@@ -10,7 +10,7 @@ use Rattle.sc_node_table.specs.declared.Before.{Before}
 use Rattle.sc_words.specs.declared.paxos.answers.Must.TheVariants.{Free as Open}
 use Rattle.sc_words.specs.paxos.Definitions.{must, new_leader, without_flight, without_flight_at}
 use Rattle.sc_group_table.specs.policy.Definitions.{is_reported}
-use Rattle.sc_law_walks.proofs.Lemmas.{entered_next, none_ready as ready_none}
+use Rattle.sc_law_walks.proofs.Lemmas.{entered_next, lost_counted, none_ready as ready_none}
 use Rattle.sc_live_steps.specs.orders.Definitions.{Work, work_by, works_in, works_flying, works_ready, errand_by, errands_for, IsLone, RunsAlone, EntriesRunAlone}
 use Rattle.sc_live_steps.proofs.OrdersProofs.SentErrands.{went-adds}
 use Rattle.sc_live_steps.proofs.OrdersProofs.Errands.{errands-none, errands-all}
@@ -185,10 +185,6 @@ module _ (command : Command) (work : Work) (r : ReplicaState) (lone : IsLone com
   abbrev IsDoneAt : Place → Type 0
   IsDoneAt place = IsDone place.0 place.1 × (made.core.gone ≡ None → is_member made.core.members r.me ≡ true → place.0.running ≡ true)
 
-  lost_same : (o : Option Command) (q : ReplicaState) → slot_lost true command o q ≡ q
-  lost_same None q = refl
-  lost_same (Some other) q = refl
-
   abbrev over : ReplicaState
   over = record (entered command r) { leader = without_flight_at (next r) (entered command r).leader; ready = without_slot (entered command r).ready (next r) }
 
@@ -220,7 +216,7 @@ module _ (command : Command) (work : Work) (r : ReplicaState) (lone : IsLone com
   landed_done : (q : ReplicaState) (mails : List Mail) → q ≡ entered command r → ((name : Draw) → errands_for name mails ≡ errands_for name goes_on) → IsDoneAt (landed true (next r) command (q, mails))
   unfolding landed
   landed_done q mails e sends = subst (λ (x : ReplicaState). IsDoneAt (slot_lost true command (flying x (next r)) (record x { leader = without_flight_at (next r) x.leader; ready = without_slot x.ready (next r) }), mails)) (sym e)
-      (subst (λ (x : ReplicaState). IsDoneAt (x, mails)) (sym (lost_same (flying (entered command r) (next r)) over)) (over_done mails sends))
+      (subst (λ (x : ReplicaState). IsDoneAt (x, mails)) (sym (lost_counted command (flying (entered command r) (next r)) over)) (over_done mails sends))
 
   -- 5. it ends where the group is gone, and stops where this node is no member
   ended_done : (hint : Option ℕ) (answer : AnswerBody) (q : ReplicaState) (mails : List Mail) → IsDone q mails → IsDone (ended hint answer (q, mails)).0 (ended hint answer (q, mails)).1
