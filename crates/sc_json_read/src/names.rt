@@ -20,7 +20,7 @@ fn dot_of(text: &[u8]) -> Option<usize>
 }
 
 /// Returns the name that a text spells.
-#[tactic(auto, unfolding(crate::specs::Json::draw_json, crate::specs::Json::FitsDraw))]
+#[tactic(auto, unfolding(crate::specs::ParsedJson::draw_json, crate::specs::ParsedJson::FitsDraw))]
 fn draw_of(text: &[u8]) -> Option<Draw>
     ensures finds { (draw : Draw) → FitsDraw draw → string text.now ≡ draw_json draw
         → result ≡ Some draw }
@@ -63,7 +63,7 @@ impl FromJson for Ballot {
 
     ghost Fits = { FitsBallot };
 
-    #[tactic(auto, unfolding(crate::specs::Json::ballot_json, crate::specs::Json::FitsBallot))]
+    #[tactic(auto, unfolding(crate::specs::ParsedJson::ballot_json, crate::specs::ParsedJson::FitsBallot))]
     fn from_json(alloc: Global, json: &Json) -> Result<Ballot, RowError> {
         let (round, node) = pair_in(alloc, json)?;
         Ok(Ballot { round, node })

@@ -37,9 +37,9 @@ IsManyLine (Storm number most) = ⊥
 
 module _ {O : Type 0} (words : ℕ → ℕ → ℕ × ℕ) where
   many_task : (line : Line O) → IsManyLine line → (task : Task O) × IsMany task × (tasks_of words line ≡ task ∷ [])
-  many_task (Settle most) is = (Settles most, tt, refl)
-  many_task (Free most workers) is = (Frees most, tt, refl)
-  many_task _ is = absurd is
+  many_task (Settle most) fact = (Settles most, tt, refl)
+  many_task (Free most workers) fact = (Frees most, tt, refl)
+  many_task _ fact = absurd fact
 
   -- a line that is one task of its own
   module _ (line : Line O) (once : tasks_of words line ≡ Once line ∷ []) where
@@ -94,22 +94,22 @@ module _ {A M O : Type 0} (s : System A M O) (line : Line O) (once : tasks_of s.
   Stands rows place = place.unsettled ≡ false → IsAhead rows place.tasks ⊎ ((is_quiet s rows ≡ true) × Holds rows)
 
   quiet_over : (rows : List (Row M O)) (many : Task O) → IsMany many → cuts s rows many ≡ false → is_quiet s rows ≡ true
-  quiet_over rows (Settles left) is e = not_not (is_quiet s rows) e
-  quiet_over rows (Frees left) is e = not_not (is_quiet s rows) e
-  quiet_over rows (Once line) is e = absurd is
-  quiet_over rows (Storms words) is e = absurd is
+  quiet_over rows (Settles left) fact e = not_not (is_quiet s rows) e
+  quiet_over rows (Frees left) fact e = not_not (is_quiet s rows) e
+  quiet_over rows (Once line) fact e = absurd fact
+  quiet_over rows (Storms words) fact e = absurd fact
 
   -- past tasks that are over
   passes : (rows : List (Row M O)) → (is_over s rows (Once line) ≡ true → Holds rows) → (prefix : List (Task O)) (many : Task O) (back : List (Task O)) (skipped : ℕ) (cut : Bool) → IsMany many → Holds rows ⊎ Among (Once line) prefix
       → Stands rows (onward s rows (prefix ++ many ∷ back) skipped cut)
-  passes rows brings [] many back skipped cut is (inr none) = absurd none
-  passes rows brings [] many back skipped cut is (inl held) =
+  passes rows brings [] many back skipped cut fact (inr none) = absurd none
+  passes rows brings [] many back skipped cut fact (inl held) =
       cond_both (is_over s rows many) _ _ (Stands rows)
-      (λ _ e. inr (quiet_over rows many is (right_none cut (cuts s rows many) (onward_cut s rows back (skipped + skips many) (cut || cuts s rows many) e)), held))
-      (λ _ e. inl (record { prefix = []; many = many; back = back; is_many = is; tasks_are = refl; holds = inl held }))
-  passes rows brings (task ∷ prefix) many back skipped cut is holds =
-      cond_both (is_over s rows task) _ _ (Stands rows) (λ gone. passes rows brings prefix many back (skipped + skips task) (cut || cuts s rows task) is (left gone holds))
-      (λ _ e. inl (record { prefix = task ∷ prefix; many = many; back = back; is_many = is; tasks_are = refl; holds = holds }))
+      (λ _ e. inr (quiet_over rows many fact (right_none cut (cuts s rows many) (onward_cut s rows back (skipped + skips many) (cut || cuts s rows many) e)), held))
+      (λ _ e. inl (record { prefix = []; many = many; back = back; is_many = fact; tasks_are = refl; holds = inl held }))
+  passes rows brings (task ∷ prefix) many back skipped cut fact holds =
+      cond_both (is_over s rows task) _ _ (Stands rows) (λ gone. passes rows brings prefix many back (skipped + skips task) (cut || cuts s rows task) fact (left gone holds))
+      (λ _ e. inl (record { prefix = task ∷ prefix; many = many; back = back; is_many = fact; tasks_are = refl; holds = holds }))
     where
       left : is_over s rows task ≡ true → Holds rows ⊎ Among (Once line) (task ∷ prefix) → Holds rows ⊎ Among (Once line) prefix
       left gone (inl held) = inl held
@@ -119,23 +119,23 @@ module _ {A M O : Type 0} (s : System A M O) (line : Line O) (once : tasks_of s.
   -- ---- one more row
 
   rest_many : (task : Task O) → IsMany task → (many : Task O) × IsMany many × (rest_of_task task ≡ many ∷ [])
-  rest_many (Settles left) is = (Settles (left - 1), tt, refl)
-  rest_many (Frees left) is = (Frees (left - 1), tt, refl)
-  rest_many (Once line) is = absurd is
-  rest_many (Storms words) is = absurd is
+  rest_many (Settles left) fact = (Settles (left - 1), tt, refl)
+  rest_many (Frees left) fact = (Frees (left - 1), tt, refl)
+  rest_many (Once line) fact = absurd fact
+  rest_many (Storms words) fact = absurd fact
 
   -- what is left of the tasks after a row
   ahead_row : (rows : List (Row M O)) (row : Row M O) (prefix : List (Task O)) (many : Task O) (back : List (Task O)) → IsMany many → Holds rows ⊎ Among (Once line) prefix → MayAdd s rows (prefix ++ many ∷ back) row
       → IsAhead (rows ++ row ∷ []) (rest_of_all (prefix ++ many ∷ back))
-  ahead_row rows row [] many back is (inr none) may = absurd none
-  ahead_row rows row [] many back is (inl held) may =
-      let r = rest_many many is in
+  ahead_row rows row [] many back fact (inr none) may = absurd none
+  ahead_row rows row [] many back fact (inl held) may =
+      let r = rest_many many fact in
       record { prefix = []; many = r.0; back = back; is_many = r.1; tasks_are = ap (λ l. l ++ back) r.2; holds = inl (stays rows row held) }
-  ahead_row rows row (task ∷ prefix) many back is holds may = record {
+  ahead_row rows row (task ∷ prefix) many back fact holds may = record {
     prefix = rest_of_task task ++ prefix;
     many = many;
     back = back;
-    is_many = is;
+    is_many = fact;
     tasks_are = sym (append_assoc (rest_of_task task) prefix (many ∷ back));
     holds = still holds may;
   }
@@ -179,8 +179,8 @@ module _ {A M O : Type 0} (s : System A M O) (line : Line O) (once : tasks_of s.
 
   -- the tasks of lines with this one among them, and of a line of many deliveries behind them
   lines_ahead : (prefix back : List (Line O)) (many : Line O) → Among line prefix → IsManyLine many → IsAhead [] (flat_map (tasks_of s.words) (prefix ++ many ∷ back))
-  lines_ahead prefix back many a is =
-      let d = many_task s.words many is in
+  lines_ahead prefix back many a fact =
+      let d = many_task s.words many fact in
       record {
         prefix = flat_map (tasks_of s.words) prefix;
         many = d.0;
@@ -193,8 +193,8 @@ module _ {A M O : Type 0} (s : System A M O) (line : Line O) (once : tasks_of s.
   -- a whole journal of such lines was quiet when what the line brings about held
   pub was_quiet : (prefix back : List (Line O)) (many : Line O) → lines ≡ prefix ++ many ∷ back → Among line prefix → IsManyLine many → (journal : List (Row M O)) → IsLawful s lines journal → unsettled s lines journal ≡ false → IsWhole s lines journal
       → WasQuiet journal
-  was_quiet prefix back many are among is journal lawful settled whole =
-      let a : IsAhead [] (flat_map (tasks_of s.words) lines) = subst (λ l. IsAhead [] (flat_map (tasks_of s.words) l)) (sym are) (lines_ahead prefix back many among is) in
+  was_quiet prefix back many are among fact journal lawful settled whole =
+      let a : IsAhead [] (flat_map (tasks_of s.words) lines) = subst (λ l. IsAhead [] (flat_map (tasks_of s.words) l)) (sym are) (lines_ahead prefix back many among fact) in
       let same : place_after s lines [] ≡ onward s [] (a.prefix ++ a.many ∷ a.back) 0 false = ap (λ tasks. onward s [] tasks 0 false) a.tasks_are in
       let begins : Stage [] = λ none. (
       let ends = ap (λ (p : WalkPlace M O). p.unsettled) (sym same) ∙ none in

@@ -80,16 +80,16 @@ module _ {A M O : Type 0} (s : System A M O) where
     step [] skipped may stands = absurd may
     step (Once (GoLine who) ∷ tasks) skipped may stands =
         let go : Event O = Go in
-        let is : go ≡ row.event = acts-event s rows who go row (unless-some (has_started rows who) (acts s rows who Go) row may).1 in
-        let untold : is_told row.event ≡ false = subst (λ (e : Event O). is_told e ≡ false) is refl in
+        let fact : go ≡ row.event = acts-event s rows who go row (unless-some (has_started rows who) (acts s rows who Go) row may).1 in
+        let untold : is_told row.event ≡ false = subst (λ (e : Event O). is_told e ≡ false) fact refl in
         record {
-          timely = timely_by s rows row timely Go is (allows_calm s rows (Once (GoLine who)) row tt may) stands.0;
+          timely = timely_by s rows row timely Go fact (allows_calm s rows (Once (GoLine who)) row tt may) stands.0;
           fine = passes (rows ++ row ∷ []) Goes tasks skipped stands.1 (clear_row s rows row untold stands.0);
         }
     step (Once (ToldLine who order) ∷ tasks) skipped may stands =
-        let is : Told order ≡ row.event = acts-event s rows who (Told order) row (unless-some (has_crashed rows who) (acts s rows who (Told order)) row may).1 in
+        let fact : Told order ≡ row.event = acts-event s rows who (Told order) row (unless-some (has_crashed rows who) (acts s rows who (Told order)) row may).1 in
         record {
-          timely = timely_by s rows row timely (Told order) is (allows_calm s rows (Once (ToldLine who order)) row tt may) stands.0;
+          timely = timely_by s rows row timely (Told order) fact (allows_calm s rows (Once (ToldLine who order)) row tt may) stands.0;
           fine = passes (rows ++ row ∷ []) AnOrder tasks skipped stands.1 tt;
         }
     step (Once (DeliverLine who k) ∷ tasks) skipped may stands =

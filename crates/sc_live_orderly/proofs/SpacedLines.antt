@@ -127,9 +127,9 @@ module _ {A M O : Type 0} (s : System A M O) (lines : List (Line O)) (most : ℕ
       go_step : (who : ℕ) (tasks : List (Task O)) (skipped : ℕ) → Allows s rows (Once (GoLine who)) row → IsClear s rows → AreTasksSpaced (still + raise) Goes tasks → IsStep rows row (Once (GoLine who) ∷ tasks) skipped
       go_step who tasks skipped may clear spaced =
           let go : Event O = Go in
-          let is : go ≡ row.event = acts-event s rows who go row (unless-some (has_started rows who) (acts s rows who Go) row may).1 in
-          let t = timely_by s rows row timely Go is (allows_calm s rows (Once (GoLine who)) row tt may) clear in
-          let untold : is_told row.event ≡ false = subst (λ (e : Event O). is_told e ≡ false) is refl in
+          let fact : go ≡ row.event = acts-event s rows who go row (unless-some (has_started rows who) (acts s rows who Go) row may).1 in
+          let t = timely_by s rows row timely Go fact (allows_calm s rows (Once (GoLine who)) row tt may) clear in
+          let untold : is_told row.event ≡ false = subst (λ (e : Event O). is_told e ≡ false) fact refl in
           let lower = measure.lowers rows row lawful t low in
           let none : cond (is_told row.event) raise 0 ≡ 0 = ap (λ b. cond b raise 0) untold in
           let b : owed (rows ++ row ∷ []) ≤ still + raise = omega (arith, lower, none, bound) in
@@ -138,10 +138,10 @@ module _ {A M O : Type 0} (s : System A M O) (lines : List (Line O)) (most : ℕ
 
       told_step : (who : ℕ) (order : O) (tasks : List (Task O)) (skipped : ℕ) → Allows s rows (Once (ToldLine who order)) row → is_quiet s rows ≡ true → AreTasksSpaced (still + raise) AnOrder tasks → IsStep rows row (Once (ToldLine who order) ∷ tasks) skipped
       told_step who order tasks skipped may quiet spaced =
-          let is : Told order ≡ row.event = acts-event s rows who (Told order) row (unless-some (has_crashed rows who) (acts s rows who (Told order)) row may).1 in
-          let t = timely_by s rows row timely (Told order) is (allows_calm s rows (Once (ToldLine who order)) row tt may) quiet in
+          let fact : Told order ≡ row.event = acts-event s rows who (Told order) row (unless-some (has_crashed rows who) (acts s rows who (Told order)) row may).1 in
+          let t = timely_by s rows row timely (Told order) fact (allows_calm s rows (Once (ToldLine who order)) row tt may) quiet in
           let lower = measure.lowers rows row lawful t low in
-          let more : cond (is_told row.event) raise 0 ≡ raise = subst (λ (e : Event O). cond (is_told e) raise 0 ≡ raise) is refl in
+          let more : cond (is_told row.event) raise 0 ≡ raise = subst (λ (e : Event O). cond (is_told e) raise 0 ≡ raise) fact refl in
           let now = measure.quiet rows before timely low quiet in
           let b : owed (rows ++ row ∷ []) ≤ still + raise = omega (arith, lower, more, now) in
           let sums = sum_row t in

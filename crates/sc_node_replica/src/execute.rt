@@ -7,7 +7,7 @@ ghost use Rattle.sc_group_table.specs.machine.Machine.{applied};
 ghost use Rattle.sc_node_table.specs.Slots.{slots_ahead};
 ghost use Rattle.sc_node_table.specs.Replica.{next, members, last_slot};
 ghost use Rattle.sc_node_parts.specs.replica.Requests.{is_request};
-ghost use Rattle.sc_node_replica.specs.Idle.{KeepsQueues};
+ghost use Rattle.sc_node_replica.specs.IdleInputs.{KeepsQueues};
 ghost use Rattle.sc_node_table.specs.Execute.{entered, answer_of, answered_or_put_back, effect_reported, learnt_to, welcomed, slot_lost, landed, left_gone, left, is_among, looked, has_room, next_ready};
 
 use crate::replica::{LAST_SLOT, Replica};

@@ -4,7 +4,7 @@ ghost use Rattle.sc_actor.specs.Walk.{Once, line_row};
 ghost use Rattle.sc_thread_drive.specs.Numbers.{is_in};
 ghost use Rattle.sc_thread_drive.specs.Goings.{IsCalm};
 ghost use Rattle.sc_thread_drive.specs.Rows.{OnFull};
-ghost use Rattle.sc_thread_drive.specs.Working.{AreTogether, LineEnded, LineRefused, MayTakeEvent, RowEnds};
+ghost use Rattle.sc_thread_drive.specs.CompanyRows.{AreTogether, LineEnded, LineRefused, MayTakeEvent, RowEnds};
 
 use crate::actor_lines::{deliver, go, happen, tell};
 use crate::company::{Company, Score};

@@ -30,7 +30,7 @@ use Rattle.sc_words.specs.declared.commands.votes.Outcome.{Outcome}
 use Rattle.sc_words.specs.declared.commands.votes.Outcome.TheVariants.{Abort, Merged, Moved, Migrated, Divided}
 use Rattle.sc_group_table.specs.machine.Definitions.{Group, finished, party_freed, pred_after, watcher_after, watch_ended, done, served_by_note, served, called, applied, ordered_by, locked_in, refused_free, refused_in, refusal_of, begin_refused, body_refused, ordered, with_node, without_node, has_named, is_locked_in, begun_group}
 use Rattle.sc_meaning.specs.entries.Definitions.{after_outcome, is_commit}
-use Rattle.sc_law_entries.specs.ring.Definitions.{IsShared, Story, Stories, put, retold, new_story, stories_after, Groups, has_decided, has_born, IsOwnBody, Facts}
+use Rattle.sc_law_entries.specs.ring.Definitions.{IsShared, Story, Stories, put, with_story, new_story, stories_after, Groups, has_decided, has_born, IsOwnBody, Facts}
 use Rattle.sc_meaning.proofs.EntriesProofs.Lemmas.{draw_cases, names_differ}
 use Rattle.sc_law_entries.proofs.RingProofs.View.{Ring}
 use Rattle.sc_law_entries.proofs.RingProofs.Cover.{at-same, at-is, at-other}
@@ -54,18 +54,18 @@ story_id : (f : Story → Story) → ((y : Story) → f y ≡ y) → (o : Option
 story_id f k None = refl
 story_id f k (Some y) = ap Some (k y)
 
-pub untold : (ys : Stories) (tx : Draw) (f : Story → Story) → ((y : Story) → f y ≡ y) → retold ys tx f ≡ ys
-untold ys tx f k = at_self ys tx (option_map f (ys tx)) (sym (story_id f k (ys tx)))
+pub unchanged_story : (ys : Stories) (tx : Draw) (f : Story → Story) → ((y : Story) → f y ≡ y) → with_story ys tx f ≡ ys
+unchanged_story ys tx f k = at_self ys tx (option_map f (ys tx)) (sym (story_id f k (ys tx)))
 
-pub told_at : (ys : Stories) (tx : Draw) (f : Story → Story) (y : Story) → ys tx ≡ Some y → retold ys tx f ≡ put ys tx (Some (f y))
+pub told_at : (ys : Stories) (tx : Draw) (f : Story → Story) (y : Story) → ys tx ≡ Some y → with_story ys tx f ≡ put ys tx (Some (f y))
 told_at ys tx f y e = ap (λ o. put ys tx (option_map f o)) e
 
 -- nothing changes
 pub idle : (owner : Draw → Option Draw) (ring : Ring) (gs : Groups) (ys : Stories) (g : Draw) (s : Group) → Kept owner ring gs ys → gs g ≡ Some s → Kept owner ring (put gs g (Some s)) ys
-idle owner ring gs ys g s k is = subst (λ x. Kept owner ring x ys) (sym (at_self gs g (Some s) is)) k
+idle owner ring gs ys g s k fact = subst (λ x. Kept owner ring x ys) (sym (at_self gs g (Some s) fact)) k
 
-pub idle_told : (owner : Draw → Option Draw) (ring : Ring) (gs : Groups) (ys : Stories) (g : Draw) (s : Group) (tx : Draw) (f : Story → Story) → ((y : Story) → f y ≡ y) → Kept owner ring gs ys → gs g ≡ Some s → Kept owner ring (put gs g (Some s)) (retold ys tx f)
-idle_told owner ring gs ys g s tx f e k is = subst (λ x. Kept owner ring (put gs g (Some s)) x) (sym (untold ys tx f e)) (idle owner ring gs ys g s k is)
+pub idle_told : (owner : Draw → Option Draw) (ring : Ring) (gs : Groups) (ys : Stories) (g : Draw) (s : Group) (tx : Draw) (f : Story → Story) → ((y : Story) → f y ≡ y) → Kept owner ring gs ys → gs g ≡ Some s → Kept owner ring (put gs g (Some s)) (with_story ys tx f)
+idle_told owner ring gs ys g s tx f e k fact = subst (λ x. Kept owner ring (put gs g (Some s)) x) (sym (unchanged_story ys tx f e)) (idle owner ring gs ys g s k fact)
 
 -- ---- contents and members
 
@@ -84,7 +84,7 @@ open_pred f (Watching tx watch) pred = pred_by (f tx) watch pred
 -- the effective record of an open group: its own, but for who stands before it
 pub record IsServing (f : Decisions) (s : Group) : Type 0 where
   pub e : Group
-  pub is : eff f (Some s) ≡ Some e
+  pub fact : eff f (Some s) ≡ Some e
   pub arc : e.core.arc ≡ s.core.arc
   pub succ : e.core.succ.group ≡ s.core.succ.group
   pub pred : e.core.pred ≡ open_pred f s.core.lock s.core.pred
@@ -100,7 +100,7 @@ watch_settled o tx s watch c lock =
 serving_self : (f : Decisions) (s : Group) (l : Lock) → s.core.gone ≡ None → s.core.lock ≡ l → living (settle_by l f s) ≡ living s → open_pred f l s.core.pred ≡ s.core.pred → IsServing f s
 serving_self f s l here lock same pred = record {
   e = s;
-  is = eff_by f s l lock ∙ same ∙ living_is s here;
+  fact = eff_by f s l lock ∙ same ∙ living_is s here;
   arc = refl;
   succ = refl;
   pred = sym pred ∙ ap (λ k. open_pred f k s.core.pred) (sym lock);
@@ -110,7 +110,7 @@ serving_self f s l here lock same pred = record {
 serving_watch : (f : Decisions) (s : Group) (tx : Draw) (watch : Watch) (o : Outcome) → s.core.gone ≡ None → s.core.lock ≡ Watching tx watch → f tx ≡ Some o → is_commit o ≡ true → IsServing f s
 serving_watch f s tx watch o here lock out c = record {
   e = party_freed (watcher_after o s watch) tx;
-  is = eff_by f s (Watching tx watch) lock ∙ ap (λ x. living (after_outcome x tx s)) out ∙ ap living (watch_settled o tx s watch c lock) ∙ living_is (party_freed (watcher_after o s watch) tx) here;
+  fact = eff_by f s (Watching tx watch) lock ∙ ap (λ x. living (after_outcome x tx s)) out ∙ ap living (watch_settled o tx s watch c lock) ∙ living_is (party_freed (watcher_after o s watch) tx) here;
   arc = refl;
   succ = refl;
   pred = ap (λ x. pred_by x watch s.core.pred) (sym out) ∙ ap (λ k. open_pred f k s.core.pred) (sym lock);
@@ -139,14 +139,14 @@ pub record IsSameRecord (s s' : Group) : Type 0 where
 -- an open group changes its members alone, or its pairs on its arc
 pub plain : (owner : Draw → Option Draw) (ring : Ring) (gs : Groups) (ys : Stories) (g : Draw) (s s' : Group) → Kept owner ring gs ys → gs g ≡ Some s → s.core.gone ≡ None → IsOpen s.core.lock → IsSameRecord s s' → (IsInside s → IsInside s')
     → Kept owner ring (put gs g (Some s')) ys
-plain owner ring gs ys g s s' k is here free same inside =
+plain owner ring gs ys g s s' k fact here free same inside =
     let f = decisions ys in
     let a = serving f s here free in
     let b = serving f s' (same.plain.here ∙ here) (subst IsOpen (sym same.plain.lock) free) in
     let d = Old gs ys in
     let n : Draw → Option Group = λ h. eff f (put gs g (Some s') h) in
-    let old : d g ≡ Some a.e = ap (eff f) is ∙ a.is in
-    let new : n g ≡ Some b.e = ap (eff f) (at-same gs g (Some s')) ∙ b.is in
+    let old : d g ≡ Some a.e = ap (eff f) fact ∙ a.fact in
+    let new : n g ≡ Some b.e = ap (eff f) (at-same gs g (Some s')) ∙ b.fact in
     let other : (h : Draw) → (h ≡ g → ⊥) → d h ≡ n h = λ h ne. ap (eff f) (sym (at-other gs g (Some s') h ne)) in
     let arcs : a.e.core.arc ≡ b.e.core.arc = a.arc ∙ same.arc ∙ sym b.arc in
     let succs : a.e.core.succ.group ≡ b.e.core.succ.group = a.succ ∙ same.succ ∙ sym b.succ in
@@ -157,7 +157,7 @@ plain owner ring gs ys g s s' k is here free same inside =
       prev = λ h c w. elim (draw_cases h g) [ inl q ↦ ap pred_of (ap d q ∙ old) ∙ ap (λ (x : Link). x.group) preds ∙ sym (ap pred_of (ap n q ∙ new)) | inr ne ↦ ap pred_of (other h ne) ];
     } in
     let mine : IsInside b.e = inside_same s' b.e (sym b.arc) (sym b.pairs) (inside (inside_same a.e s a.arc a.pairs (k.1.1 g a.e old))) in (
-      plain_facts gs ys owner g s s' k.0 is free same.plain,
+      plain_facts gs ys owner g s s' k.0 fact free same.plain,
       (
         whole_agree (view_of d) (view_of n) agrees k.1.0,
         λ h c q. elim (draw_cases h g) [
@@ -183,13 +183,13 @@ inside_after arc op m held inside key out =
     ∙ cond-true (part key) (get m key) None mine
     ∙ inside key out
 
-module _ (owner : Draw → Option Draw) (ring : Ring) (gs : Groups) (ys : Stories) (g : Draw) (s : Group) (k : Kept owner ring gs ys) (is : gs g ≡ Some s) where
+module _ (owner : Draw → Option Draw) (ring : Ring) (gs : Groups) (ys : Stories) (g : Draw) (s : Group) (k : Kept owner ring gs ys) (fact : gs g ≡ Some s) where
   abbrev Calls : Group × Effect → Type 0
   Calls r = Kept owner ring (put gs g (Some r.0)) ys
 
   done_kept : (client seq : ℕ) (op : Op) → s.core.gone ≡ None → IsOpen s.core.lock → holds_key s.core.arc (key_of op) ≡ true → Calls (done s client seq op)
   done_kept client seq op here free held =
-      plain owner ring gs ys g s (done s client seq op).0 k is here free
+      plain owner ring gs ys g s (done s client seq op).0 k fact here free
       (record { plain = record { id = refl; lock = refl; here = refl; decided = λ t. refl; voted = λ t. refl; born = λ h b. b }; arc = refl; succ = refl; pred = refl })
       (λ inside. inside_after s.core.arc op s.pairs held inside)
 
@@ -197,17 +197,17 @@ module _ (owner : Draw → Option Draw) (ring : Ring) (gs : Groups) (ys : Storie
   noted_kept client seq op here free held None = done_kept client seq op here free held
   noted_kept client seq op here free held (Some noted) =
       cond_both (nat_lt noted.seq seq) _ _ Calls (λ a. done_kept client seq op here free held)
-      (λ a. cond_both (noted.seq == seq) _ _ Calls (λ b. idle owner ring gs ys g s k is) (λ b. idle owner ring gs ys g s k is))
+      (λ a. cond_both (noted.seq == seq) _ _ Calls (λ b. idle owner ring gs ys g s k fact) (λ b. idle owner ring gs ys g s k fact))
 
   served_kept : (client seq : ℕ) (op : Op) → s.core.gone ≡ None → IsOpen s.core.lock → Calls (served s client seq op)
   served_kept client seq op here free =
-      cond_both (holds_key s.core.arc (key_of op)) _ _ Calls (λ e. noted_kept client seq op here free e (get s.clients client)) (λ e. idle owner ring gs ys g s k is)
+      cond_both (holds_key s.core.arc (key_of op)) _ _ Calls (λ e. noted_kept client seq op here free e (get s.clients client)) (λ e. idle owner ring gs ys g s k fact)
 
   pub call_kept : (client seq : ℕ) (op : Op) (went : Option Route) → s.core.gone ≡ went → (l : Lock) → s.core.lock ≡ l → Calls (called went l s client seq op)
-  call_kept client seq op (Some into) here l e = idle owner ring gs ys g s k is
+  call_kept client seq op (Some into) here l e = idle owner ring gs ys g s k fact
   call_kept client seq op None here Free e = served_kept client seq op here (inl e)
-  call_kept client seq op None here (Coordinating tx body order heard) e = idle owner ring gs ys g s k is
-  call_kept client seq op None here (Promised tx offer) e = idle owner ring gs ys g s k is
+  call_kept client seq op None here (Coordinating tx body order heard) e = idle owner ring gs ys g s k fact
+  call_kept client seq op None here (Promised tx offer) e = idle owner ring gs ys g s k fact
   call_kept client seq op None here (Watching tx watch) e = served_kept client seq op here (inr (tx, watch, e))
 
 -- ---- orders
@@ -252,17 +252,17 @@ named_cases P s next draw command quiet go =
     let b = or_parts (has_born s.core draw) (has_decided s.core draw) a.0 in
     order_cases P s next command quiet (λ o. go o (record { unborn = b.0; undecided = b.1 }))))
 
-module _ (owner : Draw → Option Draw) (ring : Ring) (gs : Groups) (ys : Stories) (g : Draw) (s : Group) (k : Kept owner ring gs ys) (is : gs g ≡ Some s) where
+module _ (owner : Draw → Option Draw) (ring : Ring) (gs : Groups) (ys : Stories) (g : Draw) (s : Group) (k : Kept owner ring gs ys) (fact : gs g ≡ Some s) where
   pub join_kept : (node order : ℕ) → Kept owner ring (put gs g (Some (ordered_by None (refusal_of s.core (Join node order)) (with_node s node) s).0)) ys
   join_kept node order =
-      order_cases (λ r. Kept owner ring (put gs g (Some r.0)) ys) s (with_node s node) (Join node order) (λ e q. idle owner ring gs ys g s k is)
-      (λ o. plain owner ring gs ys g s (with_node s node) k is o.here (inl o.free)
+      order_cases (λ r. Kept owner ring (put gs g (Some r.0)) ys) s (with_node s node) (Join node order) (λ e q. idle owner ring gs ys g s k fact)
+      (λ o. plain owner ring gs ys g s (with_node s node) k fact o.here (inl o.free)
       (record { plain = record { id = refl; lock = refl; here = refl; decided = λ t. refl; voted = λ t. refl; born = λ h b. b }; arc = refl; succ = refl; pred = refl }) (λ inside. inside))
 
   pub leave_kept : (node order : ℕ) → Kept owner ring (put gs g (Some (ordered_by None (refusal_of s.core (Leave node order)) (without_node s node) s).0)) ys
   leave_kept node order =
-      order_cases (λ r. Kept owner ring (put gs g (Some r.0)) ys) s (without_node s node) (Leave node order) (λ e q. idle owner ring gs ys g s k is)
-      (λ o. plain owner ring gs ys g s (without_node s node) k is o.here (inl o.free)
+      order_cases (λ r. Kept owner ring (put gs g (Some r.0)) ys) s (without_node s node) (Leave node order) (λ e q. idle owner ring gs ys g s k fact)
+      (λ o. plain owner ring gs ys g s (without_node s node) k fact o.here (inl o.free)
       (record { plain = record { id = refl; lock = refl; here = refl; decided = λ t. refl; voted = λ t. refl; born = λ h b. b }; arc = refl; succ = refl; pred = refl }) (λ inside. inside))
 
   -- the group locks, for a transaction that is new
@@ -272,8 +272,8 @@ module _ (owner : Draw → Option Draw) (ring : Ring) (gs : Groups) (ys : Storie
   lock_taken tx body order free here fresh mine unborn apart own =
       let s' = begun_group s tx body order in
       let ys' = put ys tx (Some (new_story s body)) in (
-        begin_facts gs ys owner g s tx body order k.0 is free here fresh mine unborn apart own,
-        whole_change ring gs ys ys' g s s' is (like_at ys tx (new_story s body) None fresh (like_same None None refl))
+        begin_facts gs ys owner g s tx body order k.0 fact free here fresh mine unborn apart own,
+        whole_change ring gs ys ys' g s s' fact (like_at ys tx (new_story s body) None fresh (like_same None None refl))
             (let a = eff_free (decisions ys) s here free in
             let b : eff (decisions ys') (Some s') ≡ Some s' = living_is s' here in
             (ap arc_of a ∙ sym (ap arc_of b), ap succ_of a ∙ sym (ap succ_of b), ap pred_of a ∙ sym (ap pred_of b), ap pairs_of a ∙ sym (ap pairs_of b))) k.1,
@@ -295,14 +295,14 @@ begin_apart core body e =
       | inr t ↦ t
     ]
 
-module _ (owner : Draw → Option Draw) (ring : Ring) (gs : Groups) (ys : Stories) (g : Draw) (s : Group) (k : Kept owner ring gs ys) (is : gs g ≡ Some s) where
+module _ (owner : Draw → Option Draw) (ring : Ring) (gs : Groups) (ys : Stories) (g : Draw) (s : Group) (k : Kept owner ring gs ys) (fact : gs g ≡ Some s) where
   pub begin_kept : (tx : Draw) (body : Body) (order : ℕ) → owner tx ≡ Some g → IsShared body
       → (let r = ordered_by (Some tx) (refusal_of s.core (Begin tx body order)) (begun_group s tx body order) s in Kept owner ring (put gs g (Some r.0)) (stories_after s (Begin tx body order) r.1 ys))
   begin_kept tx body order mine shared =
-      let named = (k.0.group g s is).named in
-      let quiet = idle owner ring gs ys g s k is in
+      let named = (k.0.group g s fact).named in
+      let quiet = idle owner ring gs ys g s k fact in
       named_cases (λ r. Kept owner ring (put gs g (Some r.0)) (stories_after s (Begin tx body order) r.1 ys)) s (begun_group s tx body order) tx (Begin tx body order)
       (λ e q. subst (λ b. Kept owner ring (put gs g (Some s)) (cond b (put ys tx (Some (new_story s body))) ys)) (sym q) quiet)
-      (λ o n. lock_taken owner ring gs ys g s k is tx body order o.free o.here (draw_new gs ys owner g tx s k.0 mine is o.free n.undecided (ys tx) refl) mine
+      (λ o n. lock_taken owner ring gs ys g s k fact tx body order o.free o.here (draw_new gs ys owner g tx s k.0 mine fact o.free n.undecided (ys tx) refl) mine
       (λ at child e. absurd (shared_whole body at child shared e))
       (λ e. names_differ s.core.succ.group s.core.id (begin_apart s.core body o.fit) (e ∙ sym named)) (shared_own body tx shared))

@@ -21,7 +21,7 @@ use Rattle.sc_words.specs.declared.commands.votes.Past.TheVariants as Cast
 use Rattle.sc_words.specs.declared.commands.votes.Vote.TheVariants as Ballot
 use Rattle.sc_group_table.specs.machine.Definitions.{Group, can_gain, gained_group, lost_group, welcomed_group, participant_after, settled_in, finished, party_freed, watch_ended, applied, locked_in, frozen_of, can_cut, has_key_of, has_voted, no_of, vote_of, offer_no, watch_no, watch_vote_of, past_of, bound_by, offer_voted, watched}
 use Rattle.sc_meaning.specs.entries.Definitions.{after_outcome, is_commit}
-use Rattle.sc_law_entries.specs.ring.Definitions.{Story, Stories, put, retold, unsigned, unsigned_watch, vote_in, watch_vote_in, with_vote, with_watch_vote, Groups}
+use Rattle.sc_law_entries.specs.ring.Definitions.{Story, Stories, put, with_story, unsigned, unsigned_watch, vote_in, watch_vote_in, with_vote, with_watch_vote, Groups}
 use Rattle.sc_law_entries.proofs.RingProofs.View.{Ring}
 use Rattle.sc_law_entries.proofs.RingProofs.Cover.{at-same}
 use Rattle.sc_law_entries.proofs.RingProofs.EntryKinds.{Votes, yes_facts, no_facts, agree_facts, deny_facts, unheard, not_passed}
@@ -113,9 +113,9 @@ like_noting f f' k s v = subst (λ x. Alike (eff f (Some s)) x) (eff_like f f' k
 
 -- ---- the votes
 
-module _ (owner : Draw → Option Draw) (ring : Ring) (gs : Groups) (ys : Stories) (g : Draw) (s : Group) (k : Kept owner ring gs ys) (is : gs g ≡ Some s) where
+module _ (owner : Draw → Option Draw) (ring : Ring) (gs : Groups) (ys : Stories) (g : Draw) (s : Group) (k : Kept owner ring gs ys) (fact : gs g ≡ Some s) where
   abbrev Prepares : Draw → Group × Effect → Type 0
-  Prepares tx r = Kept owner ring (put gs g (Some r.0)) (retold ys tx (with_vote (vote_in s r.1)))
+  Prepares tx r = Kept owner ring (put gs g (Some r.0)) (with_story ys tx (with_vote (vote_in s r.1)))
 
   -- a vote as the table casts it
   abbrev Cast_by : Draw → Lock → Option No → Group × Effect
@@ -131,14 +131,14 @@ module _ (owner : Draw → Option Draw) (ring : Ring) (gs : Groups) (ys : Storie
       let m = ready s (offer_no s.core offer) e in
       let s' = Votes s tx (Promised tx offer) Cast.Yes in
       let story = k.0.story tx y there in
-      let none = unheard gs owner tx y offer s story offered (ap gs part ∙ is) new y.vote refl in
+      let none = unheard gs owner tx y offer s story offered (ap gs part ∙ fact) new y.vote refl in
       let y' : Story = record y { vote = Some (Ballot.Yes (frozen_of s)) } in
       let ys' = put ys tx (Some y') in
       let like = outcome_like ys tx y y' there refl in
       let open_yet = no_commit y.outcome (λ x q na. (let r = (story.earned x q na).0 (unsigned offer) offered in some_none (Ballot.Yes r.0) (sym r.1 ∙ none))) in
       subst (λ z. Kept owner ring (put gs g (Some s')) z) (sym (told_at ys tx (with_vote (Some (Ballot.Yes (frozen_of s)))) y there)) (
-        yes_facts gs ys owner g s tx y offer k.0 is m.free m.here new there offered part,
-        whole_change ring gs ys ys' g s s' is like
+        yes_facts gs ys owner g s tx y offer k.0 fact m.free m.here new there offered part,
+        whole_change ring gs ys ys' g s s' fact like
             (bound_alike ys' tx (Promised tx offer) m (ap (λ z. living (after_outcome (outcome_of z) tx s')) (at-same ys tx (Some y')) ∙ ap living (open_yet tx s') ∙ living_is s' m.here)) k.1,
       )
   prepared_as tx offer y there offered part new (Some why) e =
@@ -147,18 +147,18 @@ module _ (owner : Draw → Option Draw) (ring : Ring) (gs : Groups) (ys : Storie
       let ys' = put ys tx (Some y') in
       let like = outcome_like ys tx y y' there refl in
       subst (λ z. Kept owner ring (put gs g (Some s')) z) (sym (told_at ys tx (with_vote (Some (Ballot.No why))) y there)) (
-        no_facts gs ys owner g s tx y offer why k.0 is new there offered part,
-        whole_change ring gs ys ys' g s s' is like (like_noting (decisions ys) (decisions ys') like s (s.core.voted ++ (tx, Cast.No why) ∷ [])) k.1,
+        no_facts gs ys owner g s tx y offer why k.0 fact new there offered part,
+        whole_change ring gs ys ys' g s s' fact like (like_noting (decisions ys) (decisions ys') like s (s.core.voted ++ (tx, Cast.No why) ∷ [])) k.1,
       )
 
   pub prepared_kept : (tx : Draw) (offer : Offer) (y : Story) → ys tx ≡ Some y → y.offer ≡ Some (unsigned offer) → offer.part ≡ g → Prepares tx (offer_voted s tx offer)
   prepared_kept tx offer y there offered part =
       cond_both (has_voted s.core tx) _ _ (Prepares tx)
-      (λ e. idle_told owner ring gs ys g s tx (with_vote None) (λ z. refl) k is)
+      (λ e. idle_told owner ring gs ys g s tx (with_vote None) (λ z. refl) k fact)
       (λ e. prepared_as tx offer y there offered part e (vote_of s.core offer) refl)
 
   abbrev Watches : Draw → Group × Effect → Type 0
-  Watches tx r = Kept owner ring (put gs g (Some r.0)) (retold ys tx (with_watch_vote (watch_vote_in r.1)))
+  Watches tx r = Kept owner ring (put gs g (Some r.0)) (with_story ys tx (with_watch_vote (watch_vote_in r.1)))
 
   watched_as : (tx : Draw) (watch : Watch) (y : Story) → ys tx ≡ Some y → y.watch ≡ Some (unsigned_watch watch) → watch.part ≡ g → has_voted s.core tx ≡ false
       → (why : Option No) → watch_vote_of s.core watch ≡ why → Watches tx (Cast_by tx (Watching tx watch) why)
@@ -169,10 +169,10 @@ module _ (owner : Draw → Option Draw) (ring : Ring) (gs : Groups) (ys : Storie
       let y' : Story = record y { watch_vote = Some Cast.Yes } in
       let ys' = put ys tx (Some y') in
       let like = outcome_like ys tx y y' there refl in
-      let open_yet = no_commit y.outcome (λ x q na. not_passed gs g s tx y watch is new asked part (story.watcher Cast.Yes ((story.earned x q na).1 (unsigned_watch watch) asked))) in
+      let open_yet = no_commit y.outcome (λ x q na. not_passed gs g s tx y watch fact new asked part (story.watcher Cast.Yes ((story.earned x q na).1 (unsigned_watch watch) asked))) in
       subst (λ z. Kept owner ring (put gs g (Some s')) z) (sym (told_at ys tx (with_watch_vote (Some Cast.Yes)) y there)) (
-        agree_facts gs ys owner g s tx y watch k.0 is m.free m.here there asked part,
-        whole_change ring gs ys ys' g s s' is like
+        agree_facts gs ys owner g s tx y watch k.0 fact m.free m.here there asked part,
+        whole_change ring gs ys ys' g s s' fact like
             (bound_alike ys' tx (Watching tx watch) m (ap (λ z. living (after_outcome (outcome_of z) tx s')) (at-same ys tx (Some y')) ∙ ap living (open_yet tx s') ∙ living_is s' m.here)) k.1,
       )
   watched_as tx watch y there asked part new (Some why) e =
@@ -181,12 +181,12 @@ module _ (owner : Draw → Option Draw) (ring : Ring) (gs : Groups) (ys : Storie
       let ys' = put ys tx (Some y') in
       let like = outcome_like ys tx y y' there refl in
       subst (λ z. Kept owner ring (put gs g (Some s')) z) (sym (told_at ys tx (with_watch_vote (Some (Cast.No why))) y there)) (
-        deny_facts gs ys owner g s tx y watch why k.0 is new there asked part,
-        whole_change ring gs ys ys' g s s' is like (like_noting (decisions ys) (decisions ys') like s (s.core.voted ++ (tx, Cast.No why) ∷ [])) k.1,
+        deny_facts gs ys owner g s tx y watch why k.0 fact new there asked part,
+        whole_change ring gs ys ys' g s s' fact like (like_noting (decisions ys) (decisions ys') like s (s.core.voted ++ (tx, Cast.No why) ∷ [])) k.1,
       )
 
   pub watched_kept : (tx : Draw) (watch : Watch) (y : Story) → ys tx ≡ Some y → y.watch ≡ Some (unsigned_watch watch) → watch.part ≡ g → Watches tx (watched s tx watch)
   watched_kept tx watch y there asked part =
       cond_both (has_voted s.core tx) _ _ (Watches tx)
-      (λ e. idle_told owner ring gs ys g s tx (with_watch_vote None) (λ z. refl) k is)
+      (λ e. idle_told owner ring gs ys g s tx (with_watch_vote None) (λ z. refl) k fact)
       (λ e. watched_as tx watch y there asked part e (watch_vote_of s.core watch) refl)

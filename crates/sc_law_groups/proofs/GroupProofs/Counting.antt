@@ -203,7 +203,7 @@ module _ (ahead : Ahead) (base : Base) (made : Command → Type 0) (heard : Mail
 
   module _ (from : ℕ) (slot : ℕ) (set : List ℕ) (r : ReplicaState) (mails : List Mail) (f : Ok (r, mails)) (runs : r.running ≡ true)
       (d : Command) (did : Among (Accepted from r.leader.ballot slot d) (f.newer ++ before))
-      (is : set ≡ members_of (rule ahead base) f.replica.whole slot) (known : needed (rule ahead base) slot ≤ length f.replica.whole) where
+      (fact : set ≡ members_of (rule ahead base) f.replica.whole slot) (known : needed (rule ahead base) slot ≤ length f.replica.whole) where
     abbrev h : Steps
     h = f.newer ++ before
 
@@ -217,11 +217,11 @@ module _ (ahead : Ahead) (base : Base) (made : Command → Type 0) (heard : Mail
         let at = eqb-true flight.slot slot there.1 in
         let voters = voters_after set from flight.voters in
         cond_both (is_majority set (kept_voters voters)) _ _ (λ (x : Counted Command × LeaderState Command). Ok (vote_tallied slot x (r, mails)).0)
-        (λ most. readied_place slot flight.value r mails f (learnt_here ahead base made me h f.lawful from slot set r f.replica d did is known flight there.0 at most) runs)
+        (λ most. readied_place slot flight.value r mails f (learnt_here ahead base made me h f.lawful from slot set r f.replica d did fact known flight there.0 at most) runs)
         (λ _. turn ahead base made heard me older before r (record r { leader = record r.leader { flights = with_voters slot voters r.leader.flights } }) mails f
         (voters_replica h slot voters r f.replica (λ g a same. (
         let flies = Each-among _ r.leader.flights g f.replica.flights a in
-        (flies.0, Each-weaker _ _ (λ n x. subst (λ v. Among (Accepted n b g.slot v) h) (same_value ahead base made me h f.lawful from slot set r f.replica d did is known g a same) (subst (λ m. Among (Accepted n b m d) h) (sym same) x)) (kept_voters voters) (accepted_by ahead base made me h f.lawful from slot set r f.replica d did is known flight there.0 at))))))
+        (flies.0, Each-weaker _ _ (λ n x. subst (λ v. Among (Accepted n b g.slot v) h) (same_value ahead base made me h f.lawful from slot set r f.replica d did fact known g a same) (subst (λ m. Among (Accepted n b m d) h) (sym same) x)) (kept_voters voters) (accepted_by ahead base made me h f.lawful from slot set r f.replica d did fact known flight there.0 at))))))
 
     counted_place : Ok (vote_tallied slot (counted from b slot set r.leader) (r, mails)).0
     counted_place =
@@ -235,7 +235,7 @@ module _ (ahead : Ahead) (base : Base) (made : Command → Type 0) (heard : Mail
       count_at (Some flight) e =
           let there = find_found (λ (g : Flight Command). eqb g.slot slot) r.leader.flights flight e in
           let at = eqb-true flight.slot slot there.1 in
-          cond_both (is_majority set (kept_voters (voters_after set from flight.voters))) _ _ Q (λ most. chosen flight.value (learnt_here ahead base made me h f.lawful from slot set r f.replica d did is known flight there.0 at most)) (λ _. other _ _)
+          cond_both (is_majority set (kept_voters (voters_after set from flight.voters))) _ _ Q (λ most. chosen flight.value (learnt_here ahead base made me h f.lawful from slot set r f.replica d did fact known flight there.0 at most)) (λ _. other _ _)
 
       pub count_is : Q (counted from b slot set r.leader)
       count_is = cond_both (same_ballot b r.leader.ballot) _ _ Q (λ _. count_at (flight_at slot r.leader.flights) refl) (λ _. other 0 r.leader)

@@ -89,8 +89,8 @@ module _ (ahead : Ahead) (bases : List Base) (made : Base → Command → Type 0
         let there = find_found (λ (s : ReplicaState). same_draw (name_of s) g) node.replicas r found in
         let named : name_of r ≡ g = draw_is (name_of r) g there.1 in
         let mine = Each-among (λ s. IsOneOf bases (name_of s)) node.replicas r k.known there.0 in
-        let is : g ≡ mine.0.core.id = sym named ∙ mine.2 in
-        let e = ends mine.0 mine.1 is (held ahead mine.0 (made mine.0) me (h mine.0) node.replicas (k.holds mine.0 mine.1) r there.0 mine.2) in
+        let fact : g ≡ mine.0.core.id = sym named ∙ mine.2 in
+        let e = ends mine.0 mine.1 fact (held ahead mine.0 (made mine.0) me (h mine.0) node.replicas (k.holds mine.0 mine.1) r there.0 mine.2) in
         let new_name = ended_name mine.0 mine.1 (h mine.0) (after mine.0) place e in
         let step : NodeState × List Mail = (record node { replicas = with_replica g place.0 node.replicas }, place.1) in
         record {
@@ -104,10 +104,10 @@ module _ (ahead : Ahead) (bases : List Base) (made : Base → Command → Type 0
                 own_part ahead base (made base) heard me (h base) (speaks base a) (some base a) (lawful base a) (requested base a) (after base) place step refl ended
                 (with_held ahead base (made base) me (h base) (ended.newer ++ h base) g same place.0 (ended_name base a (h base) (after base) place ended) ended.replica node.replicas r (k.holds base a) found))
             | inr f ↦ (
-                let apart_from : same_draw mine.0.core.id base.core.id ≡ false = ap (λ d. same_draw d base.core.id) (sym is) ∙ f in
+                let apart_from : same_draw mine.0.core.id base.core.id ≡ false = ap (λ d. same_draw d base.core.id) (sym fact) ∙ f in
                 let sent = far_sent mine.0 mine.1 (h mine.0) (after mine.0) place e base.core.id apart_from in
                 no_part ahead base (made base) heard me (h base) (speaks base a) (some base a) (lawful base a) (requested base a) (after base) step (far base a f sent)
-                (with_far ahead base (made base) me (h base) g f place.0 (λ same. names_differ g base.core.id f (is ∙ sym new_name ∙ same)) node.replicas (k.holds base a))
+                (with_far ahead base (made base) me (h base) g f place.0 (λ same. names_differ g base.core.id f (fact ∙ sym new_name ∙ same)) node.replicas (k.holds base a))
                 (λ m b. far_true ahead base (made base) heard (h base) m m.body (Each-among _ place.1 m sent b)))
           ];
         }
@@ -133,10 +133,10 @@ module _ (ahead : Ahead) (bases : List Base) (made : Base → Command → Type 0
           | inl t ↦ (
               let same = draw_is child.core.id base.core.id t in
               let free = none_held ahead base (made base) me steps child.core.id same node.replicas p.holds none in
-              let is = born_replica_is ahead base (made base) steps me free.1 in
+              let fact = born_replica_is ahead base (made base) steps me free.1 in
               let it : born_replica ahead.slots me base ≡ born_replica slots_ahead node.me child =
               ap (λ n. born_replica n me base) new.open_slots ∙ ap (λ n. born_replica slots_ahead n base) (sym mine) ∙ ap (born_replica slots_ahead node.me) (new.alone base a (sym same)) in
-              new_held ahead base (made base) me steps (born_replica slots_ahead node.me child) same (subst (IsReplica ahead base (made base) steps me) it is) node.replicas free.0)
+              new_held ahead base (made base) me steps (born_replica slots_ahead node.me child) same (subst (IsReplica ahead base (made base) steps me) it fact) node.replicas free.0)
           | inr f ↦ new_far ahead base (made base) me steps (born_replica slots_ahead node.me child) (λ same. (let no_way : true ≡ false = sym (same_name child.core.id base.core.id same) ∙ f in absurd (cc))) node.replicas p.holds
         ] in
         record { newer = p.newer; are = p.are; by = p.by; lawful_is = p.lawful_is; requested_is = p.requested_is; holds = holds; mails = p.mails }
@@ -191,10 +191,10 @@ module _ (ahead : Ahead) (bases : List Base) (made : Base → Command → Type 0
         let place = made_by node.me mail.from g slot state sets in
         let body = Install g slot state sets in
         let step : NodeState × List Mail = (record node { replicas = with_new place.0 node.replicas }, place.1) in
-        let ends = λ (base : Base) (a : Among base bases) (is : g ≡ base.core.id). (
-        let fresh = none_held ahead base (made base) me (h base) g is node.replicas (k.holds base a) none in
+        let ends = λ (base : Base) (a : Among base bases) (fact : g ≡ base.core.id). (
+        let fresh = none_held ahead base (made base) me (h base) g fact node.replicas (k.holds base a) none in
         by_fine ahead base (made base) heard me (h base) (speaks base a) (some base a) (lawful base a) (requested base a) event body place
-        (made_place ahead base (made base) heard me [] (h base) (speaks base a) (some base a) refl node.me mail.from g slot state sets k.me_is is fresh.1 (lawful base a) (requested base a) (t base a (same_name g base.core.id is))) refl) in
+        (made_place ahead base (made base) heard me [] (h base) (speaks base a) (some base a) refl node.me mail.from g slot state sets k.me_is fact fresh.1 (lawful base a) (requested base a) (t base a (same_name g base.core.id fact))) refl) in
         let e = ends one.0 one.1 one.2 in
         let new_name = ended_name one.0 one.1 (h one.0) _ place e in
         record {
@@ -233,10 +233,10 @@ module _ (ahead : Ahead) (bases : List Base) (made : Base → Command → Type 0
         let there = find_found (λ (s : ReplicaState). same_draw (name_of s) g) node.replicas r found in
         let named : name_of r ≡ g = draw_is (name_of r) g there.1 in
         let mine = Each-among (λ s. IsOneOf bases (name_of s)) node.replicas r k.known there.0 in
-        let (base, a, is) = mine in
-        let was = held ahead base (made base) me (h base) node.replicas (k.holds base a) r there.0 is in
+        let (base, a, fact) = mine in
+        let was = held ahead base (made base) me (h base) node.replicas (k.holds base a) r there.0 fact in
         Each-weaker _ _ (offspring base a) (mailed mail.from body (r, [])).1
-        (mailed_kids ahead base (made base) heard me (h base) (speaks base a) (some base a) (lawful base a) (requested base a) mail body r was g into (sym named ∙ is) (t base a))
+        (mailed_kids ahead base (made base) heard me (h base) (speaks base a) (some base a) (lawful base a) (requested base a) mail body r was g into (sym named ∙ fact) (t base a))
 
     taken_ended : (event : Event OrderLine) (mail : Mail) (body : MailBody) (g : Draw) → HasOffspring → group_of_mail body ≡ Some g → (node : NodeState) → IsNode h me node → IsNamedIn heard bases body → IsTrueOfAll mail body
         → (o : Option ReplicaState) → replica_of g node.replicas ≡ o → Goal event body (taken_by o g mail.from body node)
@@ -245,7 +245,7 @@ module _ (ahead : Ahead) (bases : List Base) (made : Base → Command → Type 0
         let place = (mailed mail.from body (r, [])).0 in
         born_all (λ base. steps_of base.core.id me event body place.1 (h base)) (mailed mail.from body (r, [])).1 _ place.1 (new_kids mail body g offspring into node k t r e)
         (one_row g r node k e place (λ base. steps_of base.core.id me event body place.1 (h base))
-        (λ base a is was. mailed_ended ahead base (made base) heard me (h base) (speaks base a) (some base a) (lawful base a) (requested base a) event mail body r was g into is (t base a))
+        (λ base a fact was. mailed_ended ahead base (made base) heard me (h base) (speaks base a) (some base a) (lawful base a) (requested base a) event mail body r was g into fact (t base a))
         (λ base a f sent. far_steps heard base.core.id me event g f body into place.1 (h base) sent))
 
     routed_ended : (event : Event OrderLine) (mail : Mail) (body : MailBody) → HasOffspring → (o : Option Draw) → group_of_mail body ≡ o → (node : NodeState) → IsNode h me node → IsNamedIn heard bases body → IsTrueOfAll mail body
@@ -284,8 +284,8 @@ module _ (ahead : Ahead) (bases : List Base) (made : Base → Command → Type 0
         let place = ordered_row node.draws line (r, []) in
         redrawn (λ base. asked_in base.core.id place.1 (h base)) (record node { replicas = with_replica (group_of_order line.order) place.0 node.replicas }) (names_after node.draws line r) place.1
         (one_row (group_of_order line.order) r node k e place (λ base. asked_in base.core.id place.1 (h base))
-        (λ base a is was. ended_by ahead base (made base) heard me (h base) (speaks base a) (some base a) place _
-        (fine_ordered_row ahead base (made base) heard me [] (h base) (speaks base a) (some base a) node.draws line r (may base a is r e) []
+        (λ base a fact was. ended_by ahead base (made base) heard me (h base) (speaks base a) (some base a) place _
+        (fine_ordered_row ahead base (made base) heard me [] (h base) (speaks base a) (some base a) node.draws line r (may base a fact r e) []
         (start ahead base (made base) heard me (h base) (speaks base a) (some base a) (lawful base a) (requested base a) [] r was)) refl)
         (λ base a f sent. far_all heard base.core.id place.1 (h base) sent))
 

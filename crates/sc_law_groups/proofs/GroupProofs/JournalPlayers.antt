@@ -43,11 +43,11 @@ still_gone rows row who e = (any_push (λ r. eqb r.who who && is_go r.event) row
 
 pub sends_plain : (asks : Asks) (sent : List Mail) → SendsAsked asks sent → ArePlain sent
 sends_plain asks sent (inl none) = subst ArePlain (sym none) tt
-sends_plain asks sent (inr (g, target, request, ask, is)) = subst ArePlain (sym is) (tt, tt)
+sends_plain asks sent (inr (g, target, request, ask, fact)) = subst ArePlain (sym fact) (tt, tt)
 
 pub issues_it : (asks : Asks) (g : Draw) (target : ℕ) (request : ℕ × Op) (event : Event OrderLine) (sent : List Mail) → sent ≡ request_of asks.client g target request ∷ []
     → issues asks.client request.0 (node_row (client_actor asks.client) event sent) ≡ true
-issues_it asks g target request event sent is =
+issues_it asks g target request event sent fact =
     and_from (eqb (client_actor asks.client) (client_actor asks.client)) (list_any (λ mail. asks_for asks.client request.0 mail.body) sent) (eq-eqb (client_actor asks.client) (client_actor asks.client) refl)
-    (ap (λ ms. list_any (λ (mail : Mail). asks_for asks.client request.0 mail.body) ms) is
+    (ap (λ ms. list_any (λ (mail : Mail). asks_for asks.client request.0 mail.body) ms) fact
     ∙ or_left (eqb asks.client asks.client && eqb request.0 request.0) false (and_from (eqb asks.client asks.client) (eqb request.0 request.0) (eq-eqb asks.client asks.client refl) (eq-eqb request.0 request.0 refl)))

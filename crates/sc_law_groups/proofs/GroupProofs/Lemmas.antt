@@ -14,7 +14,7 @@ pub use Rattle.sc_law_groups.proofs.GroupProofs.GroupNodes.{IsNode}
 pub use Rattle.sc_law_groups.proofs.GroupProofs.Ticks.{MayTick}
 pub use Rattle.sc_law_groups.proofs.GroupProofs.Projected.{steps-push}
 pub use Rattle.sc_law_groups.proofs.GroupProofs.FirstRows.{or_now, issue-push, Journal, split_at}
-pub use Rattle.sc_law_groups.proofs.GroupProofs.ScheduledOrders.{TellsSo, GivesAllowedOrder, told_induction}
+pub use Rattle.sc_law_groups.proofs.GroupProofs.ScheduledOrders.{OrdersOnly, GivesAllowedOrder, told_induction}
 pub use Rattle.sc_law_groups.proofs.GroupProofs.Clients.{IsAnswered, IsIssued, EachClient, HaveOneSection}
 pub use Rattle.sc_law_groups.proofs.GroupProofs.Families.{h_of, Kept, IsLater, Moved, push, decided_made, entry_offered, Part, IsNodeAt, IsClientAt, Stepped, log_goes_on}
 pub use Rattle.sc_law_groups.proofs.GroupProofs.LoggedReplies.{prefix_is}
@@ -22,4 +22,4 @@ pub use Rattle.sc_law_groups.proofs.GroupProofs.Replicated.{one_value, is_log, l
 pub use Rattle.sc_law_groups.proofs.GroupProofs.ScenarioBirths.{first_of, at_start}
 pub use Rattle.sc_law_groups.proofs.GroupProofs.RowSteps.{number_among, among_numbers}
 pub use Rattle.sc_law_groups.proofs.GroupProofs.JournalPlayers.{HasPlayers}
-pub use Rattle.sc_law_groups.proofs.GroupProofs.JournalRows.{MayTell, KnowsOffspring, moved}
+pub use Rattle.sc_law_groups.proofs.GroupProofs.JournalRows.{MayGiveOrder, KnowsOffspring, moved}

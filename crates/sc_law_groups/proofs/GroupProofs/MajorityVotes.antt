@@ -23,7 +23,7 @@ each_after P members node o p e = cond_both (is_member members node) (add_voter 
 
 -- a vote from a node that accepted, of a replica that leads, with the members of the slot
 module _ (ahead : Ahead) (base : Base) (made : Command → Type 0) (me : ℕ) (h : Steps) (lawful : IsLawfulHistory (rule ahead base) (first ahead base) h) (from : ℕ) (slot : ℕ) (set : List ℕ) (r : ReplicaState) (k : IsReplica ahead base made h me r)
-    (d : Command) (did : Among (Accepted from r.leader.ballot slot d) h) (is : set ≡ members_of (rule ahead base) k.whole slot) (known : needed (rule ahead base) slot ≤ length k.whole) where
+    (d : Command) (did : Among (Accepted from r.leader.ballot slot d) h) (fact : set ≡ members_of (rule ahead base) k.whole slot) (known : needed (rule ahead base) slot ≤ length k.whole) where
   abbrev b : Ballot
   b = r.leader.ballot
 
@@ -52,7 +52,7 @@ module _ (ahead : Ahead) (base : Base) (made : Command → Type 0) (me : ℕ) (h
             ballot = b;
             voters = kept_voters (voters_after set from flight.voters);
             each = accepted_by flight a e;
-            majority = ltb-true _ _ (subst (λ ms. is_majority ms (kept_voters (voters_after set from flight.voters)) ≡ true) is most);
+            majority = ltb-true _ _ (subst (λ ms. is_majority ms (kept_voters (voters_after set from flight.voters)) ≡ true) fact most);
           };
         };
       })

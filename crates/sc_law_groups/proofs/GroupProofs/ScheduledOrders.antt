@@ -26,21 +26,21 @@ module _ {O : Type 0} (Q : ℕ → O → Type 0) where
   GivesAllowedOrder who (Again mail) = Unit {0}
 
   -- a line that brings only such orders
-  abbrev pub TellsSo : Line O → Type 0
-  TellsSo (ToldLine who order) = Q who order
-  TellsSo (GoLine who) = Unit {0}
-  TellsSo (DeliverLine who k) = Unit {0}
-  TellsSo (DropLine who k) = Unit {0}
-  TellsSo (AgainLine mail) = Unit {0}
-  TellsSo (TickLine who) = Unit {0}
-  TellsSo (CrashLine who) = Unit {0}
-  TellsSo (Settle most) = Unit {0}
-  TellsSo (Free most workers) = Unit {0}
-  TellsSo (Storm number most) = Unit {0}
+  abbrev pub OrdersOnly : Line O → Type 0
+  OrdersOnly (ToldLine who order) = Q who order
+  OrdersOnly (GoLine who) = Unit {0}
+  OrdersOnly (DeliverLine who k) = Unit {0}
+  OrdersOnly (DropLine who k) = Unit {0}
+  OrdersOnly (AgainLine mail) = Unit {0}
+  OrdersOnly (TickLine who) = Unit {0}
+  OrdersOnly (CrashLine who) = Unit {0}
+  OrdersOnly (Settle most) = Unit {0}
+  OrdersOnly (Free most workers) = Unit {0}
+  OrdersOnly (Storm number most) = Unit {0}
 
   -- a task of such a line
   abbrev pub IsTaskSo : Task O → Type 0
-  IsTaskSo (Once line) = TellsSo line
+  IsTaskSo (Once line) = OrdersOnly line
   IsTaskSo (Settles left) = Unit {0}
   IsTaskSo (Frees left) = Unit {0}
   IsTaskSo (Storms words) = Unit {0}
@@ -51,12 +51,12 @@ module _ {O : Type 0} (Q : ℕ → O → Type 0) where
   storm_so words step zero = tt
   storm_so words step (suc left) = (tt, storm_so words (suc step) left)
 
-  line_so : (words : ℕ → ℕ → ℕ × ℕ) (line : Line O) → TellsSo line → Each IsTaskSo (tasks_of words line)
+  line_so : (words : ℕ → ℕ → ℕ × ℕ) (line : Line O) → OrdersOnly line → Each IsTaskSo (tasks_of words line)
   line_so words (ToldLine who order) q = (q, tt)
   line_so words (Storm number most) q = storm_so (words number) 0 most
   line_so words _ q = (tt, tt)
 
-  lines_so : (words : ℕ → ℕ → ℕ × ℕ) (lines : List (Line O)) → Each TellsSo lines → Each IsTaskSo (flat_map (tasks_of words) lines)
+  lines_so : (words : ℕ → ℕ → ℕ × ℕ) (lines : List (Line O)) → Each OrdersOnly lines → Each IsTaskSo (flat_map (tasks_of words) lines)
   lines_so words [] q = tt
   lines_so words (line ∷ lines) q = Each-append IsTaskSo (tasks_of words line) (flat_map (tasks_of words) lines) (line_so words line q.0) (lines_so words lines q.1)
 
@@ -94,7 +94,7 @@ module _ {O : Type 0} (Q : ℕ → O → Type 0) where
           let q = cond_some (may_get (numbers_of s.births) rows (s.receiver p.0)) (network (Again mail)) row p.2 in
           network_so (Again mail) row (λ who. tt) q.1
 
-      row_so : (line : Line O) (row : Row M O) → TellsSo line → Allows s rows (Once line) row → GivesAllowedOrder row.who row.event
+      row_so : (line : Line O) (row : Row M O) → OrdersOnly line → Allows s rows (Once line) row → GivesAllowedOrder row.who row.event
       row_so (GoLine who) row q e = acts_so who Go row tt (unless-some (has_started rows who) (acts s rows who Go) row e).1
       row_so (DeliverLine who k) row q e = let p = and_then-some (λ mail. acts s rows who (Deliver mail)) (kth (waiting s rows (Some who)) k) row e in acts_so who (Deliver p.0) row tt p.2
       row_so (DropLine who k) row q e = let p = map-some (λ mail. network (Drop mail)) (kth (waiting s rows (Some who)) k) row e in network_so (Drop p.0) row (λ who. tt) p.2
@@ -138,7 +138,7 @@ module _ {O : Type 0} (Q : ℕ → O → Type 0) where
           subst P (ap (λ xs. xs ++ rows) there ∙ append_assoc place.rows (row ∷ []) rows) next
 
       -- induction over the rows
-      pub told_induction : (lines : List (Line O)) (journal : List (Row M O)) → Each TellsSo lines → P [] → IsLawful s lines journal → P journal
+      pub told_induction : (lines : List (Line O)) (journal : List (Row M O)) → Each OrdersOnly lines → P [] → IsLawful s lines journal → P journal
       told_induction lines journal q none lawful =
           let there : (start s lines).rows ≡ [] = onward-rows s [] (flat_map (tasks_of s.words) lines) 0 false in
           let tasks = onward_so [] (flat_map (tasks_of s.words) lines) 0 false (lines_so s.words lines q) in

@@ -114,17 +114,17 @@ module _ (F : Draw → Draw → Type 0) (me : ℕ) where
   hears group _ e g = tt
 
   taken_step : (o : Option ReplicaState) (group : Draw) (from : ℕ) (body : MailBody) (node : NodeState) → replica_of group node.replicas ≡ o → group_of_mail body ≡ Some group → MailGives F body → (node.me ≡ me) × All node.replicas → Step (taken_by o group from body node)
-  taken_step None group from body node e is g k = unknown_step from body node k
-  taken_step (Some r) group from body node e is g k =
+  taken_step None group from body node e fact g k = unknown_step from body node k
+  taken_step (Some r) group from body node e fact g k =
       let found = find_found (λ (other : ReplicaState). same_draw (name_of other) group) node.replicas r e in
       let same : name_of r ≡ group = draw_is (name_of r) group found.1 in
       let after = mailed from body (r, []) in
-      let kept = out group after.0 (takes_mail (given_walk F me group) from body (r, []) (hears group body is g) (into group r [] same (Each-among Keeps node.replicas r k.1 found.0) tt)) in
+      let kept = out group after.0 (takes_mail (given_walk F me group) from body (r, []) (hears group body fact g) (into group r [] same (Each-among Keeps node.replicas r k.1 found.0) tt)) in
       children_step after.1 (record node { replicas = with_replica group after.0.0 node.replicas }) after.0.1 (k.0, put group after.0.0 node.replicas kept.0 k.1, kept.1)
 
   routed_step : (o : Option Draw) (from : ℕ) (body : MailBody) (node : NodeState) → group_of_mail body ≡ o → MailGives F body → (node.me ≡ me) × All node.replicas → Step (routed o from body node)
-  routed_step None from body node is g k = (k.0, k.1, tt)
-  routed_step (Some group) from body node is g k = taken_step (replica_of group node.replicas) group from body node refl is g k
+  routed_step None from body node fact g k = (k.0, k.1, tt)
+  routed_step (Some group) from body node fact g k = taken_step (replica_of group node.replicas) group from body node refl fact g k
 
   -- ---- an order
 

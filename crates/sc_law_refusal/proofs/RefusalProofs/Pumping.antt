@@ -35,13 +35,13 @@ module _ (start : ReplicaState) (A : Command → Type 0) (G : Draw → ℕ → T
 
   -- a call that the executed state does not serve is answered with cause
   pub lacking : (entries : List Command) (group : Group) (op : Op) (answer : AnswerBody) → group ≡ state_after start.group entries → LacksKey group op answer → CauseSo start A G W Q entries refused true op answer
-  lacking entries group op (Says.Value reply) is l = absurd l
-  lacking entries group op (Says.NotLeader hint) is l = absurd l
-  lacking entries group op (Says.NotMine arc succ) is l = (refl, subst (λ g. LacksKey g op (Says.NotMine arc succ)) is l)
-  lacking entries group op (Says.Gone into) is l = (refl, subst (λ g. LacksKey g op (Says.Gone into)) is l)
-  lacking entries group op (Says.Stale last) is l = absurd l
+  lacking entries group op (Says.Value reply) fact l = absurd l
+  lacking entries group op (Says.NotLeader hint) fact l = absurd l
+  lacking entries group op (Says.NotMine arc succ) fact l = (refl, subst (λ g. LacksKey g op (Says.NotMine arc succ)) fact l)
+  lacking entries group op (Says.Gone into) fact l = (refl, subst (λ g. LacksKey g op (Says.Gone into)) fact l)
+  lacking entries group op (Says.Stale last) fact l = absurd l
 
-  module _ (entries : List Command) (me : ℕ) (idle : Bool) (group : Group) (is : group ≡ state_after start.group entries) (own : group.core.id ≡ start.group.core.id) where
+  module _ (entries : List Command) (me : ℕ) (idle : Bool) (group : Group) (fact : group ≡ state_after start.group entries) (own : group.core.id ≡ start.group.core.id) where
     abbrev C : List Mail → Type 0
     C mails = AllCaused start A G W Q entries refused true mails
 
@@ -57,7 +57,7 @@ module _ (start : ReplicaState) (A : Command → Type 0) (G : Draw → ℕ → T
           op = op;
           receiver = refl;
           was_asked = k;
-          cause = lacking entries group op answer is (refused_so group.core.gone group op answer refl (not-false (admits_requests group.core.lock) w) e);
+          cause = lacking entries group op answer fact (refused_so group.core.gone group op answer refl (not-false (admits_requests group.core.lock) w) e);
         }) c
     turned_one _ answer mails k w e c = c
 

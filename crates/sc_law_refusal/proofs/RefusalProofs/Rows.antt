@@ -7,7 +7,7 @@ use Rattle.sc_base.specs.Definitions.{Drawer, next_name, client_actor, is_member
 use Rattle.sc_node_table.specs.Values.{Ballot, Draw, Op, Body, Offer, Watch, Command, Call, GiveUp, Lock, Free, Coordinating, Promised, Watching, Route, Order, OrderLine, OrderRefusal, Heard, Outcome, Past, Vote, AnswerBody, Mail, Answer, TxOutcome, TxElsewhere, Told}
 use Rattle.sc_words.specs.ideal.Definitions.{key_of, holds_key}
 use Rattle.sc_words.specs.declared.commands.orders.Order.TheVariants as An
-use Rattle.sc_words.specs.declared.commands.orders.OrderResult.TheVariants as Tells
+use Rattle.sc_words.specs.declared.commands.orders.OrderResult.TheVariants as Results
 use Rattle.sc_mail.specs.declared.bodies.AnswerBody.TheVariants as Says
 use Rattle.sc_words.proofs.PaxosProofs.Lemmas.{Each-append}
 use Rattle.sc_words.specs.paxos.Definitions.{entry_at}
@@ -197,7 +197,7 @@ module _ (start : ReplicaState) (A : Command → Type 0) (G : Draw → ℕ → T
   order_kept name number _ = tt
 
   taken_fine : (o : Option OrderRefusal) (number : ℕ) (command : Command) (place : Place) → Kept A G command → F place → F (queued_or_refused o number command place)
-  taken_fine (Some why) number command (r, mails) k f = (f.0, with_plain start A G W Q false true r mails r.me 0 (Told number (Tells.Refused why)) tt f.1)
+  taken_fine (Some why) number command (r, mails) k f = (f.0, with_plain start A G W Q false true r mails r.me 0 (Told number (Results.Refused why)) tt f.1)
   taken_fine None number command (r, mails) k f =
       pumped_fine start A G W Q false (record r { backlog = r.backlog ++ command ∷ [] }, mails) (with_calls A G r (r.backlog ++ command ∷ []) (Each-append (Kept A G) r.backlog (command ∷ []) f.0.backlog (k, tt)) f.0, f.1)
 

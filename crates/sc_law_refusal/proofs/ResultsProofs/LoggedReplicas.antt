@@ -112,7 +112,7 @@ module _ (ahead : Ahead) (base : Base) (h : Steps) (lawful : IsLawfulHistory (ru
   -- ---- a vote
 
   module _ (made : Command → Type 0) (me from slot : ℕ) (set : List ℕ) (r : ReplicaState) (k : IsReplica ahead base made h me r) (d : Command) (did : Among (Accepted from r.leader.ballot slot d) h)
-      (is : set ≡ members_of (rule ahead base) k.whole slot) (known : needed (rule ahead base) slot ≤ length k.whole) where
+      (fact : set ≡ members_of (rule ahead base) k.whole slot) (known : needed (rule ahead base) slot ≤ length k.whole) where
     abbrev b : Ballot
     b = r.leader.ballot
 
@@ -125,7 +125,7 @@ module _ (ahead : Ahead) (base : Base) (h : Steps) (lawful : IsLawfulHistory (ru
         let there = find_found (λ (g : Flight Command). eqb g.slot slot) r.leader.flights flight e in
         let at = eqb-true flight.slot slot there.1 in
         cond_both (is_majority set (kept_voters (voters_after set from flight.voters))) _ _ Chooses
-        (λ most command f. (let same : flight.value ≡ command = cc in subst (IsLearnt (rule ahead base) h slot) same (learnt_here ahead base made me h lawful from slot set r k d did is known flight there.0 at most))) (λ _ command f. cc)
+        (λ most command f. (let same : flight.value ≡ command = cc in subst (IsLearnt (rule ahead base) h slot) same (learnt_here ahead base made me h lawful from slot set r k d did fact known flight there.0 at most))) (λ _ command f. cc)
 
     pub chooses : Chooses (counted from b slot set r.leader)
     chooses = cond_both (same_ballot b r.leader.ballot) _ _ Chooses (λ _. chooses_at (flight_at slot r.leader.flights) refl) (λ _ command f. cc)

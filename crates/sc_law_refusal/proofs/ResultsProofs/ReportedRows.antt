@@ -19,19 +19,19 @@ use Rattle.sc_law_walks.specs.Definitions.{IsFiledOnMail}
 use Rattle.sc_law_walks.proofs.Lemmas.{below_round, promise_ballot, counted_ballot, either_way, back_any, TableFacts, TableStates, TableSays, TableWalk, TableTicks, all_heard, TableEntry, entry_holds}
 use Rattle.sc_law_walks.proofs.PlaceWalks.{Parties}
 use Rattle.sc_law_walks.proofs.Talks.{all_sent, client_reported, one_replied, all_replied, vote_reported, watch_reported, outcome_said, next_one_asked, went_said, all_reminded}
-use Rattle.sc_law_refusal.specs.results.Definitions.{IsOf, EndsOrder, IfTold, TellAs}
+use Rattle.sc_law_refusal.specs.results.Definitions.{IsOf, EndsOrder, IfReported, ReportAs}
 use Rattle.sc_law_refusal.proofs.ResultsProofs.Reports.{puts, parties_told, reported, begun_said, all_dismissed, order_ends, begun_ends, is_of}
 use Rattle.sc_law_refusal.proofs.HeldCommands.{Commands, Flights, Reports, Ready, Held, without_held, back_held, last_held, flying_held, polled_held, counted_held, must_held}
 use Rattle.sc_law_refusal.proofs.ResultsProofs.LoggedReplicas.{IsLogged, longer_is, enters, clears, unready, jumps}
 
 -- what tells so tells what follows from it
-told_so : (Fact More : ℕ → OrderResult → Type 0) → ((number : ℕ) (result : OrderResult) → Fact number result → More number result) → (body : MailBody) → IfTold Fact body → IfTold More body
+told_so : (Fact More : ℕ → OrderResult → Type 0) → ((number : ℕ) (result : OrderResult) → Fact number result → More number result) → (body : MailBody) → IfReported Fact body → IfReported More body
 told_so Fact More f (Told number result) t = f number result t
 told_so Fact More f (Request group client seq op) t = t
 told_so Fact More f _ t = tt
 
-pub tell_so : (Fact More : ℕ → OrderResult → Type 0) → ((number : ℕ) (result : OrderResult) → Fact number result → More number result) → (mails : List Mail) → TellAs Fact mails → TellAs More mails
-tell_so Fact More f mails m = Each-weaker (λ (mail : Mail). IfTold Fact mail.body) (λ (mail : Mail). IfTold More mail.body) (λ mail t. told_so Fact More f mail.body t) mails m
+pub tell_so : (Fact More : ℕ → OrderResult → Type 0) → ((number : ℕ) (result : OrderResult) → Fact number result → More number result) → (mails : List Mail) → ReportAs Fact mails → ReportAs More mails
+tell_so Fact More f mails m = Each-weaker (λ (mail : Mail). IfReported Fact mail.body) (λ (mail : Mail). IfReported More mail.body) (λ mail t. told_so Fact More f mail.body t) mails m
 
 -- a command, where it is that of an order with a number, waits as W says
 abbrev pub Waits : (ℕ → Command → Type 0) → Command → Type 0
@@ -77,21 +77,21 @@ module _ (ahead : Ahead) (base : Base) (h : Steps) (lawful : IsLawfulHistory (ru
   P command = Waits W command
 
   -- a result is so, or, where the leadership has ended in the row, it is that of an order that is given back
-  abbrev pub MayTell : Bool → ℕ → OrderResult → Type 0
-  MayTell ended number result = Fact number result ⊎ ((ended ≡ true) × IsBack W number result)
+  abbrev pub MayGiveOrder : Bool → ℕ → OrderResult → Type 0
+  MayGiveOrder ended number result = Fact number result ⊎ ((ended ≡ true) × IsBack W number result)
 
   abbrev Tells : Bool → List Mail → Type 0
-  Tells ended mails = TellAs (MayTell ended) mails
+  Tells ended mails = ReportAs (MayGiveOrder ended) mails
 
   -- mail that reports nothing leaves it so
   none_told : (ended : Bool) (me : ℕ) → Parties me (Tells ended)
-  none_told ended me = parties_told me (MayTell ended)
+  none_told ended me = parties_told me (MayGiveOrder ended)
 
   abbrev pub Stands : Bool → ReplicaState → Type 0
   Stands ended r = Logged r × Held P r × (round ≤ r.top.round) × (ended ≡ true → HasStopped round r)
 
   abbrev pub ReportsSo : Place → Type 0
-  ReportsSo place = (ended : Bool) × Stands ended place.0 × TellAs (MayTell ended) place.1
+  ReportsSo place = (ended : Bool) × Stands ended place.0 × ReportAs (MayGiveOrder ended) place.1
 
   -- ---- an entry
 
@@ -109,15 +109,15 @@ module _ (ahead : Ahead) (base : Base) (h : Steps) (lawful : IsLawfulHistory (ru
   entry_decides command start k t number result ends =
       decided k.1.whole command (longer_is ahead base h lawful start command k.1 t) number result (subst (λ g. EndsOrder g command number result) k.1.log_is.group_is ends)
 
-  spoken_tells : (ended counted : Bool) (command : Command) (start r : ReplicaState) (mails : List Mail) → ((number : ℕ) (result : OrderResult) → EndsOrder start.group command number result → Fact number result) → TellAs (MayTell ended) mails
-      → TellAs (MayTell ended) (spoken_mails counted r.me r.group (before_of start.group.core) (applied start.group command).1 command mails)
+  spoken_tells : (ended counted : Bool) (command : Command) (start r : ReplicaState) (mails : List Mail) → ((number : ℕ) (result : OrderResult) → EndsOrder start.group command number result → Fact number result) → ReportAs (MayGiveOrder ended) mails
+      → ReportAs (MayGiveOrder ended) (spoken_mails counted r.me r.group (before_of start.group.core) (applied start.group command).1 command mails)
   unfolding spoken_mails begun_reported
   spoken_tells ended counted command start r mails fact m =
-      let Q : List Mail → Type 0 = λ ms. TellAs (MayTell ended) ms in
+      let Q : List Mail → Type 0 = λ ms. ReportAs (MayGiveOrder ended) ms in
       let before = before_of start.group.core in
       let effect = (applied start.group command).1 in
       let told : List Mail = result_reported r.me (begun_result before.alone effect command) (spoken_number before.order command) mails in
-      let said : Q told = begun_said r.me (MayTell ended) (spoken_number before.order command) (begun_result before.alone effect command) mails (λ result e t. inl (fact (spoken_number before.order command) result (begun_ends start.group command result e t))) m in
+      let said : Q told = begun_said r.me (MayGiveOrder ended) (spoken_number before.order command) (begun_result before.alone effect command) mails (λ result e t. inl (fact (spoken_number before.order command) result (begun_ends start.group command result e t))) m in
       either_way Q counted (went_on r.me r.group before effect command told) told (went_said r.me (Tells ended) (none_told ended r.me) r.group before effect command told said) said
 
   entry_keeps : (counted : Bool) (command : Command) (start : ReplicaState) → Logged start → IsLearnt (rule ahead base) h (next start) command → (counted ≡ true → P command) → TableEntry counted command start ReportsSo ReportsSo
@@ -126,11 +126,11 @@ module _ (ahead : Ahead) (base : Base) (h : Steps) (lawful : IsLawfulHistory (ru
     entered = λ mails k. (k.0, entered_stands k.0 command start t k.1, k.2);
     answers = λ client seq op answer r mails c e a k. (k.0, k.1, client_reported r.me (Tells k.0) (none_told k.0 r.me) client (name_of r) seq answer mails k.2);
     returned = λ r mails c k. (k.0, back_stands k.0 command r (waits c) k.1, k.2);
-    reports = λ result r mails e k. (k.0, k.1, reported r.me (MayTell k.0) (order_number command) result mails (λ _. inl (entry_decides command start logged t (order_number command) result (order_ends start.group command result e))) k.2);
+    reports = λ result r mails e k. (k.0, k.1, reported r.me (MayGiveOrder k.0) (order_number command) result mails (λ _. inl (entry_decides command start logged t (order_number command) result (order_ends start.group command result e))) k.2);
     speaks = λ r mails k. (k.0, k.1, spoken_tells k.0 counted command start r mails (entry_decides command start logged t) k.2);
-    teaches = λ to r mails c a k. (k.0, k.1, puts r.me (MayTell k.0) to _ mails tt k.2);
-    installs = λ to r mails c new k. (k.0, k.1, puts r.me (MayTell k.0) to _ mails tt k.2);
-    repolls = λ to r mails c new k. (k.0, k.1, puts r.me (MayTell k.0) to _ mails tt k.2);
+    teaches = λ to r mails c a k. (k.0, k.1, puts r.me (MayGiveOrder k.0) to _ mails tt k.2);
+    installs = λ to r mails c new k. (k.0, k.1, puts r.me (MayGiveOrder k.0) to _ mails tt k.2);
+    repolls = λ to r mails c new k. (k.0, k.1, puts r.me (MayGiveOrder k.0) to _ mails tt k.2);
     flies = λ other r mails e k. subst (λ (o : Option Command). Opt P o) e (flying_held P r (next start) k.1.1);
     landed = λ place k. (k.0, cleared_stands k.0 place.0 k.1, k.2);
     back = λ other r mails l k. (k.0, back_stands k.0 other r l k.1, k.2);
@@ -151,10 +151,10 @@ module _ (ahead : Ahead) (base : Base) (h : Steps) (lawful : IsLawfulHistory (ru
   ends hint answer r mails k = (
     true,
     ((k.1.0.0, unready ahead base h lawful r k.1.0.1), (tt, tt, tt, tt, tt), k.1.2, λ _. inl refl),
-    all_dismissed r.me (MayTell true) (name_of r) hint answer r.backlog (answered_all r.me (name_of r) answer (under_way r) mails)
+    all_dismissed r.me (MayGiveOrder true) (name_of r) hint answer r.backlog (answered_all r.me (name_of r) answer (under_way r) mails)
         (λ command a t. inr (refl, record { command = command; own = is_of command t; waits = Each-among P r.backlog command k.1.1.0 a (order_number command) (is_of command t) t; hint = hint; says = refl }))
         (all_replied r.me (Tells true) (none_told true r.me) (name_of r) answer (under_way r) mails
-        (tell_so (MayTell k.0) (MayTell true) (λ number result t. elim t [ inl f ↦ inl f | inr b ↦ inr (refl, b.1) ]) mails k.2)),
+        (tell_so (MayGiveOrder k.0) (MayGiveOrder true) (λ number result t. elim t [ inl f ↦ inl f | inr b ↦ inr (refl, b.1) ]) mails k.2)),
   )
 
   -- a command is offered
@@ -163,7 +163,7 @@ module _ (ahead : Ahead) (base : Base) (h : Steps) (lawful : IsLawfulHistory (ru
   offers slot set command r mails c k = (
     k.0,
     (k.1.0, (k.1.1.0, k.1.1.1, Each-append (λ (flight : Flight Command). P flight.value) r.leader.flights (record { slot = slot; value = command; voters = None } ∷ []) k.1.1.2 (c, tt), k.1.1.3, k.1.1.4), k.1.2, k.1.3),
-    all_sent r.me (λ ms. TellAs (MayTell k.0) ms) (Accept (name_of r) r.leader.ballot slot command) (λ to ms q. puts r.me (MayTell k.0) to _ ms tt q) set mails k.2,
+    all_sent r.me (λ ms. ReportAs (MayGiveOrder k.0) ms) (Accept (name_of r) r.leader.ballot slot command) (λ to ms q. puts r.me (MayGiveOrder k.0) to _ ms tt q) set mails k.2,
   )
 
   -- a greater ballot is seen
@@ -244,14 +244,14 @@ module _ (ahead : Ahead) (base : Base) (h : Steps) (lawful : IsLawfulHistory (ru
     elected = λ r mails k. (let low = k.1.2 in (
       k.0,
       ((k.1.0.0, unready ahead base h lawful r k.1.0.1), (k.1.1.0, k.1.1.1, tt, tt, tt), omega (arith, low), λ _. inr (omega (arith, low))),
-      all_sent r.me (λ ms. TellAs (MayTell k.0) ms) (Prepare (name_of r) (record { round = r.top.round + 1; node = r.me }) (next r)) (λ to ms q. puts r.me (MayTell k.0) to _ ms tt q) (open_nodes r.sets) mails k.2,
+      all_sent r.me (λ ms. ReportAs (MayGiveOrder k.0) ms) (Prepare (name_of r) (record { round = r.top.round + 1; node = r.me }) (next r)) (λ to ms q. puts r.me (MayGiveOrder k.0) to _ ms tt q) (open_nodes r.sets) mails k.2,
     ));
     seen = λ ballot r mails good t on k. saw_later ballot r mails t k;
     polled = λ from group ballot reports r mails on t k. (k.0, with_leader k.0 r (promise_counted from ballot reports r.leader).1 (promise_ballot from ballot reports r.leader) (polled_held P from ballot reports r.leader t (k.1.1.2, k.1.1.3)) k.1, k.2);
     counts = λ from ballot slot set count r mails on e k. (k.0, with_leader k.0 r (counted from ballot slot set r.leader).1 (counted_ballot from ballot slot set r.leader) (counted_held P from ballot slot set r.leader (k.1.1.2, k.1.1.3)) k.1, k.2);
     chosen = λ from group ballot slot set command r mails on e t k. absurd t;
-    promised = λ from group ballot from_slot r mails t top may k. (k.0, k.1, puts r.me (MayTell k.0) from _ mails tt k.2);
-    accepted = λ from group report r mails t top may k. (k.0, k.1, puts r.me (MayTell k.0) from _ mails tt k.2);
+    promised = λ from group ballot from_slot r mails t top may k. (k.0, k.1, puts r.me (MayGiveOrder k.0) from _ mails tt k.2);
+    accepted = λ from group report r mails t top may k. (k.0, k.1, puts r.me (MayGiveOrder k.0) from _ mails tt k.2);
     filed = λ act r mails on q e brought k. with_acts r mails (r.acts ++ act ∷ []) (last_held P r.acts act (filed_waits W act q) k.1.1.1) k;
     ordered = λ order r mails on q may k. with_backlog r mails (r.backlog ++ order ∷ []) (last_held P r.backlog order may k.1.1.0) k;
     requested = λ client seq op r mails on e k. with_backlog r mails (r.backlog ++ Call client seq op ∷ []) (last_held P r.backlog (Call client seq op) (no_order (Call client seq op) (λ number own. own)) k.1.1.0) k;
@@ -273,16 +273,16 @@ module _ (ahead : Ahead) (base : Base) (h : Steps) (lawful : IsLawfulHistory (ru
     sees = λ from tx watch vote r mails t e k. (k.0, k.1, watch_reported r.me (Tells k.0) (none_told k.0 r.me) from tx watch vote mails k.2);
     vote_ends = λ from tx coord part vote outcome r mails t e k. (k.0, k.1, outcome_said r.me (Tells k.0) (none_told k.0 r.me) from tx part outcome mails k.2);
     watch_ends = λ from tx coord part vote outcome r mails t e k. (k.0, k.1, outcome_said r.me (Tells k.0) (none_told k.0 r.me) from tx part outcome mails k.2);
-    offer_sent_on = λ from tx offer r mails t k. (k.0, k.1, puts r.me (MayTell k.0) from _ mails tt k.2);
-    watch_sent_on = λ from tx watch r mails t k. (k.0, k.1, puts r.me (MayTell k.0) from _ mails tt k.2);
+    offer_sent_on = λ from tx offer r mails t k. (k.0, k.1, puts r.me (MayGiveOrder k.0) from _ mails tt k.2);
+    watch_sent_on = λ from tx watch r mails t k. (k.0, k.1, puts r.me (MayGiveOrder k.0) from _ mails tt k.2);
     asks_next = λ from tx coord hint r mails t k. (k.0, k.1, next_one_asked r.me (Tells k.0) (none_told k.0 r.me) r.group.core.lock r.group.core from tx hint mails k.2);
-    prepare_behind = λ from group ballot from_slot r mails t found low k. (k.0, k.1, puts r.me (MayTell k.0) from _ mails tt k.2);
-    accept_behind = λ from group report r mails t found low k. (k.0, k.1, puts r.me (MayTell k.0) from _ mails tt k.2);
-    ask_behind = λ from group slot r mails t k. (k.0, k.1, puts r.me (MayTell k.0) from _ mails tt k.2);
-    recalls = λ from group asked slot command r mails t e k. (k.0, k.1, puts r.me (MayTell k.0) from _ mails tt k.2);
-    wants = λ from group slot command r mails t low k. (k.0, k.1, puts r.me (MayTell k.0) from _ mails tt k.2);
-    prepare_nacked = λ from group ballot from_slot r mails t found no k. (k.0, k.1, puts r.me (MayTell k.0) from _ mails tt k.2);
-    accept_nacked = λ from group report r mails t found no k. (k.0, k.1, puts r.me (MayTell k.0) from _ mails tt k.2);
+    prepare_behind = λ from group ballot from_slot r mails t found low k. (k.0, k.1, puts r.me (MayGiveOrder k.0) from _ mails tt k.2);
+    accept_behind = λ from group report r mails t found low k. (k.0, k.1, puts r.me (MayGiveOrder k.0) from _ mails tt k.2);
+    ask_behind = λ from group slot r mails t k. (k.0, k.1, puts r.me (MayGiveOrder k.0) from _ mails tt k.2);
+    recalls = λ from group asked slot command r mails t e k. (k.0, k.1, puts r.me (MayGiveOrder k.0) from _ mails tt k.2);
+    wants = λ from group slot command r mails t low k. (k.0, k.1, puts r.me (MayGiveOrder k.0) from _ mails tt k.2);
+    prepare_nacked = λ from group ballot from_slot r mails t found no k. (k.0, k.1, puts r.me (MayGiveOrder k.0) from _ mails tt k.2);
+    accept_nacked = λ from group report r mails t found no k. (k.0, k.1, puts r.me (MayGiveOrder k.0) from _ mails tt k.2);
   }
 
   abbrev pub reported_walk : TableWalk
@@ -294,7 +294,7 @@ module _ (ahead : Ahead) (base : Base) (h : Steps) (lawful : IsLawfulHistory (ru
     gives_up = λ tx body order heard r mails e on no k. with_acts r mails (r.acts ++ GiveUp tx ∷ []) (last_held P r.acts (GiveUp tx) (no_order (GiveUp tx) (λ number own. own)) k.1.1.1) k;
     agains = record {
       reminds = λ r mails on k. (k.0, k.1, all_reminded r.me (Tells k.0) (none_told k.0 r.me) r.group.core.lock r.group mails k.2);
-      reasks = λ to slot command r mails on e k. (k.0, k.1, puts r.me (MayTell k.0) to _ mails tt k.2);
-      relearns = λ to command r mails e k. (k.0, k.1, puts r.me (MayTell k.0) to _ mails tt k.2);
+      reasks = λ to slot command r mails on e k. (k.0, k.1, puts r.me (MayGiveOrder k.0) to _ mails tt k.2);
+      relearns = λ to command r mails e k. (k.0, k.1, puts r.me (MayGiveOrder k.0) to _ mails tt k.2);
     };
   }

@@ -18,21 +18,21 @@ use Rattle.sc_law_walks.proofs.Ways.{either_way}
 use Rattle.sc_law_walks.proofs.PlaceWalks.{IsToParty, Parties}
 use Rattle.sc_law_walks.proofs.Talks.{went_said, all_replied}
 use Rattle.sc_law_walks.proofs.RefusedOrders.{order_refused}
-use Rattle.sc_law_refusal.specs.results.Definitions.{IsOf, IsAtOnce, IsCommit, DecidesFor, FindsCause, EndsOrder, IfTold, TellAs, said_of_entry, IsGivenBack, ReportsAreDecided}
+use Rattle.sc_law_refusal.specs.results.Definitions.{IsOf, IsAtOnce, IsCommit, DecidesFor, FindsCause, EndsOrder, IfReported, ReportAs, said_of_entry, IsGivenBack, ReportsAreDecided}
 
 module _ (me : ℕ) (Fact : ℕ → OrderResult → Type 0) where
   abbrev Q : List Mail → Type 0
-  Q mails = TellAs Fact mails
+  Q mails = ReportAs Fact mails
 
-  pub puts : (to : ℕ) (body : MailBody) (mails : List Mail) → IfTold Fact body → Q mails → Q (sent me to body mails)
-  puts to body mails told m = Each-append (λ (mail : Mail). IfTold Fact mail.body) mails (record { from = me; to = to; body = body } ∷ []) m (told, tt)
+  pub puts : (to : ℕ) (body : MailBody) (mails : List Mail) → IfReported Fact body → Q mails → Q (sent me to body mails)
+  puts to body mails told m = Each-append (λ (mail : Mail). IfReported Fact mail.body) mails (record { from = me; to = to; body = body } ∷ []) m (told, tt)
 
   pub reported : (number : ℕ) (result : OrderResult) (mails : List Mail) → (is_reported number ≡ true → Fact number result) → Q mails → Q (order_reported me number result mails)
   unfolding order_reported
   reported number result mails fact m = cond_both (is_reported number) (result_sent me number result mails) mails Q (λ t. puts 0 _ mails (fact t) m) (λ _. m)
 
   -- a mail to a client or to a party of a transaction tells no result
-  untold : (to : ℕ) (body : MailBody) → IsToParty me to body → IfTold Fact body
+  untold : (to : ℕ) (body : MailBody) → IsToParty me to body → IfReported Fact body
   untold to (Told number result) q = absurd q
   untold to _ q = tt
 
@@ -104,7 +104,7 @@ module _ (group : Group) (command : Command) (number : ℕ) where
   decided_ends tx body heard locked (Was.Decided outcome) e result f =
       let same : outcome_result outcome ≡ result = cc in
       subst (λ (x : OrderResult). EndsOrder group command number x) same
-      (stands_for outcome (λ Such is. record { tx = tx; body = body; heard = heard; locked = locked; outcome = outcome; effect = e; such = is }))
+      (stands_for outcome (λ Such fact. record { tx = tx; body = body; heard = heard; locked = locked; outcome = outcome; effect = e; such = fact }))
   decided_ends tx body heard locked Was.Changed e result f = cc
   decided_ends tx body heard locked _ e result f = cc
 
@@ -159,33 +159,33 @@ begun_ends group _ result e t = cc
 -- ---- the parts of the table
 
 module _ (Fact : ℕ → OrderResult → Type 0) where
-  call_said : (answer : Option AnswerBody) (command : Command) (place : Place) → TellAs Fact place.1 → TellAs Fact (answered_or_put_back answer command place).1
+  call_said : (answer : Option AnswerBody) (command : Command) (place : Place) → ReportAs Fact place.1 → ReportAs Fact (answered_or_put_back answer command place).1
   unfolding answered_or_put_back
   call_said (Some answer) (Call client seq op) (r, mails) m = puts r.me Fact _ _ mails tt m
   call_said None (Call client seq op) (r, mails) m = m
   call_said (Some answer) _ place m = m
   call_said None _ place m = m
 
-  effect_said : (o : Option OrderResult) (command : Command) (place : Place) → ((result : OrderResult) → o ≡ Some result → Fact (order_number command) result) → TellAs Fact place.1 → TellAs Fact (effect_reported o command place).1
+  effect_said : (o : Option OrderResult) (command : Command) (place : Place) → ((result : OrderResult) → o ≡ Some result → Fact (order_number command) result) → ReportAs Fact place.1 → ReportAs Fact (effect_reported o command place).1
   unfolding effect_reported
   effect_said None command place fact m = m
   effect_said (Some result) command (r, mails) fact m = reported r.me Fact (order_number command) result mails (λ t. fact result refl) m
 
-  announced_said : (counted : Bool) (effect : Effect) (command : Command) (place : Place) → ((result : OrderResult) → order_result command effect ≡ Some result → Fact (order_number command) result) → TellAs Fact place.1 → TellAs Fact (announced counted effect command place).1
+  announced_said : (counted : Bool) (effect : Effect) (command : Command) (place : Place) → ((result : OrderResult) → order_result command effect ≡ Some result → Fact (order_number command) result) → ReportAs Fact place.1 → ReportAs Fact (announced counted effect command place).1
   unfolding announced
   announced_said counted effect command place fact m =
       effect_said (order_result command effect) command (if counted then answered_or_put_back (answer_of effect) command place else place) fact
-      (either_way (λ (p : Place). TellAs Fact p.1) counted (answered_or_put_back (answer_of effect) command place) place (call_said (answer_of effect) command place m) m)
+      (either_way (λ (p : Place). ReportAs Fact p.1) counted (answered_or_put_back (answer_of effect) command place) place (call_said (answer_of effect) command place m) m)
 
   spoken_said : (counted : Bool) (before : Before) (effect : Effect) (command : Command) (place : Place) → ((result : OrderResult) → begun_result before.alone effect command ≡ Some result → is_reported (spoken_number before.order command) ≡ true → Fact (spoken_number before.order command) result)
-      → TellAs Fact place.1 → TellAs Fact (spoken counted before effect command place).1
+      → ReportAs Fact place.1 → ReportAs Fact (spoken counted before effect command place).1
   unfolding spoken spoken_mails begun_reported
   spoken_said counted before effect command (r, mails) fact m =
       let told : List Mail = result_reported r.me (begun_result before.alone effect command) (spoken_number before.order command) mails in
-      let said : TellAs Fact told = begun_said r.me Fact (spoken_number before.order command) (begun_result before.alone effect command) mails fact m in
-      either_way (λ (ms : List Mail). TellAs Fact ms) counted (went_on r.me r.group before effect command told) told (went_said r.me (λ (ms : List Mail). TellAs Fact ms) (parties_told r.me Fact) r.group before effect command told said) said
+      let said : ReportAs Fact told = begun_said r.me Fact (spoken_number before.order command) (begun_result before.alone effect command) mails fact m in
+      either_way (λ (ms : List Mail). ReportAs Fact ms) counted (went_on r.me r.group before effect command told) told (went_said r.me (λ (ms : List Mail). ReportAs Fact ms) (parties_told r.me Fact) r.group before effect command told said) said
 
-entries_end : (counted : Bool) (command : Command) (r : ReplicaState) → TellAs (EndsOrder r.group command) (said_of_entry counted command r)
+entries_end : (counted : Bool) (command : Command) (r : ReplicaState) → ReportAs (EndsOrder r.group command) (said_of_entry counted command r)
 entries_end counted command r =
     let Fact : ℕ → OrderResult → Type 0 = EndsOrder r.group command in
     let effect : Effect = (applied r.group command).1 in
@@ -201,11 +201,11 @@ is_of (Begin tx body order) t = refl
 is_of Noop t = cc
 is_of _ t = cc
 
-queues_end : (hint : Option ℕ) (answer : AnswerBody) (r : ReplicaState) → TellAs (IsGivenBack r hint) (ended hint answer (r, [])).1
+queues_end : (hint : Option ℕ) (answer : AnswerBody) (r : ReplicaState) → ReportAs (IsGivenBack r hint) (ended hint answer (r, [])).1
 unfolding ended
 queues_end hint answer r =
     all_dismissed r.me (IsGivenBack r hint) (name_of r) hint answer r.backlog (answered_all r.me (name_of r) answer (under_way r) []) (λ command a t. record { command = command; queued = a; own = is_of command t; result_is = refl })
-    (all_replied r.me (λ (ms : List Mail). TellAs (IsGivenBack r hint) ms) (parties_told r.me (IsGivenBack r hint)) (name_of r) answer (under_way r) [] tt)
+    (all_replied r.me (λ (ms : List Mail). ReportAs (IsGivenBack r hint) ms) (parties_told r.me (IsGivenBack r hint)) (name_of r) answer (under_way r) [] tt)
 
 -- ---- an entry ends an order with one result
 

@@ -35,9 +35,9 @@ module _ (sound_law : ValidJournalsAreSound) (words : ℕ → ℕ → ℕ × ℕ
       let one : 1 ≤ seq + 1 = omega arith in
       let kept = sound.answers.kept s.first s.others s.groups_are asks a (seq + 1) reply
       (cond-false (eqb (seq + 1) 0) None (slice_get (kept_replies (route_of s.first) asks journal) (seq + 1 - 1)) (not_zero seq) ∙ (ap (slice_get (kept_replies (route_of s.first) asks journal)) (let back : seq + 1 - 1 ≡ seq = omega arith in back) ∙ e)) in
-      let is = sound.answers.requests kept.entry kept.stands in
-      let same : is.0 ≡ asks = s.once is.0 asks is.1 a (sym is.2.client ∙ kept.client_is) in
-      let low = slice_get_within is.0.ops (kept.entry.seq - 1) kept.entry.op is.2.op in
+      let fact = sound.answers.requests kept.entry kept.stands in
+      let same : fact.0 ≡ asks = s.once fact.0 asks fact.1 a (sym fact.2.client ∙ kept.client_is) in
+      let low = slice_get_within fact.0.ops (kept.entry.seq - 1) kept.entry.op fact.2.op in
       let number = kept.seq_is in
       let ops = ap (λ (x : Asks). length x.ops) same in
       omega (arith, low, number, ops)

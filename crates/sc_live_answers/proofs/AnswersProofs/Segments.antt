@@ -76,7 +76,7 @@ module _ (s : System Player Mail OrderLine) where
       pub behind : Rows
       pub rows_are : rows ≡ quiet_prefix s rows ++ behind
       pub rests : Rests (quiet_prefix s rows)
-      pub is : IsBehind (quiet_prefix s rows) behind
+      pub fact : IsBehind (quiet_prefix s rows) behind
 
     module _ (Fits : Rows → Type 0) (parts : Parts Fits Rests Asks Orders) where
       -- a quiet journal that rests, with nothing behind it
@@ -85,7 +85,7 @@ module _ (s : System Player Mail OrderLine) where
         behind = [];
         rows_are = sym (append-nil (quiet_prefix s rows) ∙ prefix_whole rows quiet);
         rests = subst Rests (sym (prefix_whole rows quiet)) rests;
-        is = inl refl;
+        fact = inl refl;
       }
 
       module _ (rows : Rows) (row : Row Mail OrderLine) (fits : Fits (rows ++ row ∷ [])) (timely : AreInTime s (rows ++ row ∷ [])) where
@@ -101,7 +101,7 @@ module _ (s : System Player Mail OrderLine) where
                 behind = behind ++ row ∷ [];
                 rows_are = whole ∙ ap (λ q. q ++ (behind ++ row ∷ [])) (sym there);
                 rests = subst Rests (sym there) rests;
-                is = subst (λ q. IsBehind q (behind ++ row ∷ [])) (sym there) (inr holds);
+                fact = subst (λ q. IsBehind q (behind ++ row ∷ [])) (sym there) (inr holds);
               })
         ]
           where
@@ -171,7 +171,7 @@ module _ (s : System Player Mail OrderLine) where
               let whole = prefix_whole rows quiet in
               let rests = subst Rests whole seg.rests in
               goes_on rows [] (sym (append-nil rows)) whole rests (inr (record { first = row; more = []; behind_are = refl; tells = told; holds = parts.told rows row fits timely rests told })))
-          | inr untold ↦ untold_row (quiet_prefix s rows) seg.behind seg.rows_are refl seg.rests untold seg.is
+          | inr untold ↦ untold_row (quiet_prefix s rows) seg.behind seg.rows_are refl seg.rests untold seg.fact
         ]
 
       -- so all rows in time that fit are such segments

@@ -60,21 +60,21 @@ module _ (bounded : ValidScenariosAreBounded) (begin : ValidScenariosBeginWell) 
       learnt : (number : ℕ) (mail : Mail) (slot : ℕ) (command : Command) → numbered (mails rows) number ≡ Some mail → mail.body ≡ Learn base.core.id slot command → slot ≡ next r → slot ≤ last_slot
           → (child : Base) → IsBirth all base slot child → is_member child.core.members r.me ≡ true → Among child (mailed mail.from mail.body (r, [])).1
       unfolding mailed
-      learnt number mail slot command sent is at low child b member =
-          let t : IsLearnt (rule ahead base) h slot command = said_in sources ahead words scenario route well journal orders group.lawful base group.stands rows has.more has.prefix number mail (Learn base.core.id slot command) sent is (same_name base.core.id base.core.id refl) in
-          subst (λ (m : MailBody). Among child (mailed mail.from m (r, [])).1) (sym is)
+      learnt number mail slot command sent fact at low child b member =
+          let t : IsLearnt (rule ahead base) h slot command = said_in sources ahead words scenario route well journal orders group.lawful base group.stands rows has.more has.prefix number mail (Learn base.core.id slot command) sent fact (same_name base.core.id base.core.id refl) in
+          subst (λ (m : MailBody). Among child (mailed mail.from m (r, [])).1) (sym fact)
           (learn_creates ahead group.open_slots base first_members h lawful_steps all all_prefixes r.me mail.from slot command r k refl t at low child b member)
 
       voted : r.running ≡ true → (number : ℕ) (mail : Mail) (ballot : Ballot) (slot : ℕ) → numbered (mails rows) number ≡ Some mail → mail.body ≡ AcceptedMail base.core.id ballot slot
           → (at : ℕ) (child : Base) → next r ≤ at → at < next (mailed mail.from mail.body (r, [])).0.0 → IsBirth all base at child → is_member child.core.members r.me ≡ true → Among child (mailed mail.from mail.body (r, [])).1
       unfolding mailed
-      voted runs number mail ballot slot sent is at child least most b member =
-          let did : (command : Command) × Among (Accepted mail.from ballot slot command) h = said_in sources ahead words scenario route well journal orders group.lawful base group.stands rows has.more has.prefix number mail (AcceptedMail base.core.id ballot slot) sent is (same_name base.core.id base.core.id refl) in
-          subst (λ (m : MailBody). Among child (mailed mail.from m (r, [])).1) (sym is)
+      voted runs number mail ballot slot sent fact at child least most b member =
+          let did : (command : Command) × Among (Accepted mail.from ballot slot command) h = said_in sources ahead words scenario route well journal orders group.lawful base group.stands rows has.more has.prefix number mail (AcceptedMail base.core.id ballot slot) sent fact (same_name base.core.id base.core.id refl) in
+          subst (λ (m : MailBody). Among child (mailed mail.from m (r, [])).1) (sym fact)
           (vote_creates ahead group.open_slots base first_members h lawful_steps all all_prefixes r.me r k refl runs
           (opens sources ahead words scenario route well journal orders group.lawful base group.stands rows seat node r has group.open_slots)
           (flying sources ahead words scenario route well journal orders group.lawful base group.stands rows seat node r has) mail.from ballot slot did.0 did.1
-          at child least (subst (λ (m : MailBody). at < next (mailed mail.from m (r, [])).0.0) is most) b member)
+          at child least (subst (λ (m : MailBody). at < next (mailed mail.from m (r, [])).0.0) fact most) b member)
 
   pub entries_create_children : EntriesCreateChildren
   entries_create_children = record { learnt = learnt; voted = voted }

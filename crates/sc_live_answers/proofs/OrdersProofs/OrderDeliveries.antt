@@ -23,16 +23,16 @@ use Rattle.sc_live_answers.specs.Definitions.{FindsBy, JournalMailFinds, StrayMa
 use Rattle.sc_live_journals.specs.charts.Definitions.{replicas_of as chart_replicas, all_replicas, chart_at, LedStandOnce, quiet_upto}
 use Rattle.sc_live_journals.proofs.ChartsProofs.Lemmas.{led_by}
 use Rattle.sc_live_steps.specs.orders.Definitions.{Turn, is_watch, Errand, Question, Elsewhere, Asking, Here, Scene, errand_by, bond_of, Stage, Asks, SentOn, IsAt}
-use Rattle.sc_live_steps.proofs.OrdersProofs.Lemmas.{among-right}
+use Rattle.sc_live_steps.proofs.OrderStepsProofs.Lemmas.{among-right}
 use Rattle.sc_live_journals.specs.scenes.Definitions.{IsThere, IsNowhere, IsFresh, FreshGroupsStay, WorksFlyLone, is_running, left_after, scene_at, AnswersReachLeaders, ScenesDescribe}
 use Rattle.sc_live_journals.proofs.ScenesProofs.Lemmas.{takes_one, lead_runs, calm_is}
-use Rattle.sc_live_steps.specs.entries.LoneEntries.{BondsAsk, OrderEntriesCount}
+use Rattle.sc_live_steps.specs.entries.StageEntries.{BondsAsk, OrderEntriesCount}
 use Rattle.sc_live_plain.specs.Definitions.{replicas_after}
 use Rattle.sc_live_answers.proofs.VotesProofs.CountableVotes.{may_count}
 use Rattle.sc_live_answers.proofs.ErrandsProofs.Questions.{IsQuestionOf, question_stage, IsSentOnIn, elsewhere_stage}
 use Rattle.sc_live_answers.proofs.ErrandsProofs.QuestionTargets.{errand_there}
 use Rattle.sc_live_answers.proofs.ReplicasProofs.AllReplicas.{into_seats}
-use Rattle.sc_live_answers.proofs.GroupsProofs.JournalGroups.{calm_group, calm_slots}
+use Rattle.sc_live_answers.proofs.LedGroupsProofs.JournalGroups.{calm_group, calm_slots}
 
 -- ---- where a group has a replica
 
@@ -47,7 +47,7 @@ module _ (births : List (Seat Player)) (rows : Rows) (name : Draw) where
       by : (o : Option ReplicaState) → view w ≡ o → IsThere births rows name ⊎ ((who : ℕ) → Among who ws → view who ≡ None) → IsThere births rows name ⊎ ((who : ℕ) → Among who (w ∷ ws) → view who ≡ None)
       by (Some r) e more = inl (w, r, e)
       by None e (inl there) = inl there
-      by None e (inr none) = inr (λ who a. elim a [ inl is ↦ ap view (sym is) ∙ e | inr b ↦ none who b ])
+      by None e (inr none) = inr (λ who a. elim a [ inl fact ↦ ap view (sym fact) ∙ e | inr b ↦ none who b ])
 
   numbered_there : (seats : List (Seat Player)) (seat : Seat Player) → Among seat seats → Among seat.who (map (λ (s : Seat Player). s.who) seats)
   numbered_there [] seat a = absurd a
@@ -136,20 +136,20 @@ module _ (named_at : JournalMailFinds) (strays : StrayMailFinds) (for_node : Mai
   before = in_time_before s rows (row_of player_table seat rows (Deliver number)) on.timely
 
   split : journal ≡ rows ++ (row_of player_table seat rows (Deliver number) ∷ on.prefix.more)
-  split = on.prefix.is ∙ append_assoc rows (row_of player_table seat rows (Deliver number) ∷ []) on.prefix.more
+  split = on.prefix.fact ∙ append_assoc rows (row_of player_table seat rows (Deliver number) ∷ []) on.prefix.more
 
   short_prefix : length rows ≤ 2 ^ 28
   short_prefix = (let long = ap length split in let sum = length-append rows (row_of player_table seat rows (Deliver number) ∷ on.prefix.more) in let short = calm.short in omega (arith, long, sum, short))
 
-  module _ (mail : Mail) (node : NodeState) (name : Draw) (at : numbered (mails rows) number ≡ Some mail) (is : value player_table seat rows ≡ Node node) (of : group_of_mail mail.body ≡ Some name) where
+  module _ (mail : Mail) (node : NodeState) (name : Draw) (at : numbered (mails rows) number ≡ Some mail) (fact : value player_table seat rows ≡ Node node) (of : group_of_mail mail.body ≡ Some name) where
     abbrev k : IsKnownMail scenario journal mail node name
-    k = known.mail mail node name at is of
+    k = known.mail mail node name at fact of
 
     abbrev base : Base
     base = k.base
 
     view_is : (group : Draw) → view_at all rows group seat.who ≡ replica_of group node.replicas
-    view_is group = ap (replica_in group rows) on.seated ∙ ap (λ player. replica_of group (replicas_of player)) is
+    view_is group = ap (replica_in group rows) on.seated ∙ ap (λ player. replica_of group (replicas_of player)) fact
 
     -- the mail is the first that is left for its node
     taken_first : TakesFirst s rows seat.who number
@@ -171,7 +171,7 @@ module _ (named_at : JournalMailFinds) (strays : StrayMailFinds) (for_node : Mai
     quiet_led : is_led all quiet name ≡ true
     quiet_led =
         let agree = views.nodes scenario quiet name there.0 (all_bounded scenario calm.valid) known.homes in
-        elim (under.rests.is.quiet.groups name there.0 (there.1, sym agree ∙ there.2)) [
+        elim (under.rests.fact.quiet.groups name there.0 (there.1, sym agree ∙ there.2)) [
           | inl q ↦ led_there all quiet name q.lead.me q.lead (views.nodes scenario quiet name q.lead.me (all_bounded scenario calm.valid) known.homes ∙ q.newest.is_there) (ap (λ b. b || is_some q.lead.group.core.gone) q.leads.running)
           | inr g ↦ led_there all quiet name g.last.me g.last (views.nodes scenario quiet name g.last.me (all_bounded scenario calm.valid) known.homes ∙ g.newest.is_there) (gone_leads g.last.running g.last.group.core.gone g.into g.went)
         ]
@@ -203,8 +203,8 @@ module _ (named_at : JournalMailFinds) (strays : StrayMailFinds) (for_node : Mai
     points stage is_fresh same r here stops stands =
         let then : view_at all quiet name seat.who ≡ Some r = sym (under.untouched.views name (subst (λ x. IsFresh x name) same is_fresh) there seat.who) ∙ (view_is name ∙ here) in
         let at_quiet : replicas_after scenario quiet name seat.who ≡ Some r = sym (views.nodes scenario quiet name seat.who (all_bounded scenario calm.valid) known.homes) ∙ then in
-        let rises = under.rests.is.quiet.rises name seat.who r at_quiet stops stands in
-        let me = (under.rests.is.kept name seat.who r at_quiet).me_is in
+        let rises = under.rests.fact.quiet.rises name seat.who r at_quiet stops stands in
+        let me = (under.rests.fact.kept name seat.who r at_quiet).me_is in
         (r.top.node, rises.hint_is, subst (λ me_. chart.ways.far name r.top.node + 1 ≤ chart.ways.far name me_) (sym me) (known.rise.hints name seat.who r.top.node r at_quiet stops stands rises.hint_is))
 
     module _ (tx coord : Draw) (watch : Bool) (by to : ℕ) (q : IsQuestionOf name tx coord watch under.stage) where
@@ -306,20 +306,20 @@ module _ (named_at : JournalMailFinds) (strays : StrayMailFinds) (for_node : Mai
     group_finds : FindsBy chart all rows seat.who mail node
     group_finds =
         let so = (sent_after base k.among).so in
-        let deliver : Delivers (with_event rows seat (Deliver number)) rows seat number mail = record { row = record { more = []; is = sym (append-nil (with_event rows seat (Deliver number))) }; sent = at } in
-        named_at chart words scenario journal (with_event rows seat (Deliver number)) on.prefix.more base (calm_group words scenario journal calm base k.among) calm.timely (calm_slots words scenario journal calm slots_left base) on.prefix.is so rows seat number mail node deliver on.seated is (of ∙ ap Some (sym k.named))
+        let deliver : Delivers (with_event rows seat (Deliver number)) rows seat number mail = record { row = record { more = []; fact = sym (append-nil (with_event rows seat (Deliver number))) }; sent = at } in
+        named_at chart words scenario journal (with_event rows seat (Deliver number)) on.prefix.more base (calm_group words scenario journal calm base k.among) calm.timely (calm_slots words scenario journal calm slots_left base) on.prefix.fact so rows seat number mail node deliver on.seated fact (of ∙ ap Some (sym k.named))
         (subst (λ n. StandsOnce n chart.groups) (sym k.named) once) (subst (λ n. NeedsAt chart.ways (replica_of n node.replicas) mail.body) (sym k.named) needs)
 
   finds : FindsCalm chart (births as_nodes scenario) rows seat (Deliver number)
   finds mail at = by (value player_table seat rows) refl
     where
       by : (player : Player) → value player_table seat rows ≡ player → IsCalmFor chart (led_elsewhere (births as_nodes scenario) rows seat.who) mail player
-      by (Client client) is = absurd (known.nodes client is)
-      by (Node node) is = (for_node words scenario rows seat number mail node on.timely on.seated is at, named (group_of_mail mail.body) refl)
+      by (Client client) fact = absurd (known.nodes client fact)
+      by (Node node) fact = (for_node words scenario rows seat number mail node on.timely on.seated fact at, named (group_of_mail mail.body) refl)
         where
           named : (o : Option Draw) → group_of_mail mail.body ≡ o → FindsBy chart (births as_nodes scenario) rows seat.who mail node
-          named None of = strays chart.ways chart.groups (led_elsewhere (births as_nodes scenario) rows seat.who) words scenario rows seat number mail node on.timely on.seated is at of
-          named (Some name) of = group_finds mail node name at is of
+          named None of = strays chart.ways chart.groups (led_elsewhere (births as_nodes scenario) rows seat.who) words scenario rows seat number mail node on.timely on.seated fact at of
+          named (Some name) of = group_finds mail node name at fact of
 
 pub order_rows_find : JournalMailFinds → StrayMailFinds → MailIsForItsNode → LedStandOnce → FreshGroupsStay → StagesAsk → BondsAsk → ScenesDescribe → AnswersReachLeaders → WorksFlyLone → OrderEntriesCount → StagesLeaveOneWork → WellLedLeadAlone → SlotsAreLeft → ScenariosAreKeptBorn
     → ReplicasAreKept → SlotsHaveRosters → ViewsAgree → ValidScenariosAreBounded → OrderRowsFindCalm

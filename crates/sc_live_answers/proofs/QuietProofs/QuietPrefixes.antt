@@ -26,11 +26,11 @@ use Rattle.sc_live_answers.specs.Definitions.{AreAtNodes, IsPrefixOf, IsOfGroup,
 use Rattle.sc_live_answers.proofs.ReplicasProofs.ReplicaNodes.{at_nodes}
 use Rattle.sc_live_answers.proofs.LinksProofs.LinkLogs.{sources, well, turn, found}
 pub use Rattle.sc_law_entries.proofs.NamesProofs.Fresh.{IsClient, replay_client}
-pub use Rattle.sc_live_plain.proofs.RowsProofs.NodeSeats.{seat_in}
+pub use Rattle.sc_live_plain.proofs.PlainRowsProofs.NodeSeats.{seat_in}
 
 no_replica : (name : Draw) (player : Player) → IsClient player → replica_of name (view_replicas player) ≡ None
-no_replica name (Node node) is = absurd is
-no_replica name (Client client) is = refl
+no_replica name (Node node) fact = absurd fact
+no_replica name (Client client) fact = refl
 
 -- ---- seats
 
@@ -40,28 +40,28 @@ client_among (base ∷ groups) clients seat a = (let f = from_map (client_seat (
 
 pub node_among : (groups : List Base) (policy : Bool) (count from : ℕ) (seat : Seat Player) → Among seat (map (node_seat as_nodes groups policy) (numbers_from from count)) → (from ≤ seat.who) × (seat.who < from + count)
 node_among groups policy zero from seat a = absurd a
-node_among groups policy (suc count) from seat (inl e) = (let is = ap (λ (s : Seat Player). s.who) e in (omega (arith, is), omega (arith, is)))
+node_among groups policy (suc count) from seat (inl e) = (let fact = ap (λ (s : Seat Player). s.who) e in (omega (arith, fact), omega (arith, fact)))
 node_among groups policy (suc count) from seat (inr a) = (let more = node_among groups policy count (from + 1) seat a in let low = more.0 in let high = more.1 in (omega (arith, low), omega (arith, high)))
 
 module _ (bounded : ValidScenariosAreBounded) (begin : ValidScenariosBeginWell) (allowed : TakenOrdersAreAllowed) (wishes : TakenWishesAreAllowed) (positions : WishesAreAtPositions) (free : OtherNamesAreFree) (sounds : ValidJournalsAreSound)
-    (words : ℕ → ℕ → ℕ × ℕ) (scenario : Scenario) (journal prefix : Rows) (valid : IsValid scenario) (lawful : Lawful as_nodes words scenario journal) (is : IsPrefixOf journal prefix) (homes : AreAtNodes scenario prefix) where
-  sound : IsSound as_nodes scenario prefix is.more
-  sound = sounds as_nodes refl words scenario valid journal lawful prefix is.more is.is
+    (words : ℕ → ℕ → ℕ × ℕ) (scenario : Scenario) (journal prefix : Rows) (valid : IsValid scenario) (lawful : Lawful as_nodes words scenario journal) (fact : IsPrefixOf journal prefix) (homes : AreAtNodes scenario prefix) where
+  sound : IsSound as_nodes scenario prefix fact.more
+  sound = sounds as_nodes refl words scenario valid journal lawful prefix fact.more fact.fact
 
   lawful_prefix : Lawful as_nodes words scenario prefix
-  lawful_prefix = lawful-prefix (system_of as_nodes words scenario) (schedule scenario) prefix is.more (subst (Lawful as_nodes words scenario) is.is lawful)
+  lawful_prefix = lawful-prefix (system_of as_nodes words scenario) (schedule scenario) prefix fact.more (subst (Lawful as_nodes words scenario) fact.fact lawful)
 
   later : (base : Base) → Among base (groups_at as_nodes scenario.groups prefix) → Among base (groups_at as_nodes scenario.groups journal)
   later base a =
       let s = sources bounded begin allowed wishes positions free words scenario journal valid lawful in
       let w = well bounded begin allowed wishes positions free words scenario journal valid lawful in
       let t = turn bounded begin allowed wishes positions free words scenario journal valid lawful in
-      subst (λ rows. Among base (groups_at as_nodes scenario.groups rows)) (sym is.is)
-      ((deciding_rows_stay s as_nodes scenario.groups w.place prefix is.more (subst (DecideInTurn s as_nodes scenario.groups []) is.is t)).groups base a)
+      subst (λ rows. Among base (groups_at as_nodes scenario.groups rows)) (sym fact.fact)
+      ((deciding_rows_stay s as_nodes scenario.groups w.place prefix fact.more (subst (DecideInTurn s as_nodes scenario.groups []) fact.fact t)).groups base a)
 
   goes_on : (base : Base) → Among base (groups_at as_nodes scenario.groups prefix) → Continues (decided_log as_nodes base prefix) (decided_log as_nodes base journal)
   goes_on base a =
-      subst (Continues (decided_log as_nodes base prefix)) (ap (λ rows. log_at as_nodes scenario.groups rows base.core.id) (sym is.is) ∙ ((found bounded begin allowed wishes positions free words scenario journal valid lawful).known base (later base a)).log)
+      subst (Continues (decided_log as_nodes base prefix)) (ap (λ rows. log_at as_nodes scenario.groups rows base.core.id) (sym fact.fact) ∙ ((found bounded begin allowed wishes positions free words scenario journal valid lawful).known base (later base a)).log)
       (sound.one_log base a).grows
 
   abbrev player : ℕ → Player
@@ -130,4 +130,4 @@ module _ (bounded : ValidScenariosAreBounded) (begin : ValidScenariosBeginWell) 
   found_prefix = record { homes = homes; lawful = lawful_prefix; apart = (found bounded begin allowed wishes positions free words scenario journal valid lawful).apart; later = later; goes_on = goes_on; is_log = λ base a. (sound.one_log base a).is_log; replicas = replicas; views = views }
 
 pub prefixes_are_found : ValidScenariosAreBounded → ValidScenariosBeginWell → TakenOrdersAreAllowed → TakenWishesAreAllowed → WishesAreAtPositions → OtherNamesAreFree → ValidJournalsAreSound → PrefixesAreFound
-prefixes_are_found bounded begin allowed wishes positions free sounds words scenario journal prefix calm is = found_prefix bounded begin allowed wishes positions free sounds words scenario journal prefix calm.valid calm.lawful is (at_nodes bounded words scenario journal prefix calm is)
+prefixes_are_found bounded begin allowed wishes positions free sounds words scenario journal prefix calm fact = found_prefix bounded begin allowed wishes positions free sounds words scenario journal prefix calm.valid calm.lawful fact (at_nodes bounded words scenario journal prefix calm fact)

@@ -97,9 +97,9 @@ module _ (scenario : Scenario) (bounded : IsBounded scenario) (rows : Rows) (nam
       by : (o : Option (Seat Player)) → find (λ (seat : Seat Player). eqb seat.who who) seats ≡ o → replica_in name rows o ≡ replicas_after scenario rows name who
       by None found = sym (none_after (λ one most. none-some (nseat who) (sym found ∙ seat_found seats (nseat who) (all_apart scenario bounded) (node_born (λ a b. (a, b)) scenario begins who one most))))
       by (Some seat) found =
-          let is = find_found (λ (s : Seat Player). eqb s.who who) seats seat found in
-          let mine = eqb-true seat.who who is.1 in
-          elim (Among-either seat (map nseat (numbers_from 1 scenario.nodes)) (map (client_seat (route_of begins.first)) scenario.clients) (subst (Among seat) begins.seats is.0)) [
+          let fact = find_found (λ (s : Seat Player). eqb s.who who) seats seat found in
+          let mine = eqb-true seat.who who fact.1 in
+          elim (Among-either seat (map nseat (numbers_from 1 scenario.nodes)) (map (client_seat (route_of begins.first)) scenario.clients) (subst (Among seat) begins.seats fact.0)) [
             | inl node ↦ (
                 let m = from_map nseat (numbers_from 1 scenario.nodes) seat node in
                 let within = in_numbers 1 scenario.nodes m.0 m.1 in

@@ -32,7 +32,7 @@ pub record RingKnown (set : Setting) (frame : Frame) (known : KnownGroups) : Typ
   pub reached : ℕ
   pub first : KnowsFirst ring reached known
 
-module _ (begun : Requests) (set : Setting) (is : IsSetting set) (linked : IsLinkedSetting set) where
+module _ (begun : Requests) (set : Setting) (fact : IsSetting set) (linked : IsLinkedSetting set) where
   pub behind : (frame : Frame) → Among frame set.frames → Behind set frame
   behind frame a = (let ring = linked.rings frame a in by ring.0 ring.1.round ring.1.within)
     where
@@ -63,7 +63,7 @@ module _ (begun : Requests) (set : Setting) (is : IsSetting set) (linked : IsLin
             let among = subst (Among frame.core.id) r.first.names (chosen_known (pos_of (key_of w.op)) client.known frame.core.id chosen_here) in
             let f = from_map id_of (take r.reached r.ring) frame.core.id among in
             let in_ring : Among f.0 r.ring = subst (Among f.0) (take-append-drop r.reached r.ring) (Among-left f.0 (take r.reached r.ring) (drop r.reached r.ring) f.1) in
-            let same : f.0 ≡ frame = is.apart f.0 frame (r.is_ring.within f.0 in_ring) a f.2 in
+            let same : f.0 ≡ frame = fact.apart f.0 frame (r.is_ring.within f.0 in_ring) a f.2 in
             record { ring = r.ring; round = r.is_ring.round; within = r.is_ring.within; among = subst (λ (x : Frame). Among x r.ring) same in_ring; reached = r.reached; first = r.first }
 
     -- where a group that is gone was asked, it is known alone
@@ -148,8 +148,8 @@ module _ (begun : Requests) (set : Setting) (is : IsSetting set) (linked : IsLin
 
 -- A client that asks leaders finds what it needs in the answer that it waits for.
 pub answers_heard : AnswersAreHeardCalmly
-answers_heard scenario rows set chart elsewhere asks gone client mail is linked reached counts k m to asked_right leads a =
-    hears (IsBegun scenario rows) set is linked asks gone client k a.waits mail m to asked_right a.from_is chart counts reached leads a.answer a.body_is
+answers_heard scenario rows set chart elsewhere asks gone client mail fact linked reached counts k m to asked_right leads a =
+    hears (IsBegun scenario rows) set fact linked asks gone client k a.waits mail m to asked_right a.from_is chart counts reached leads a.answer a.body_is
 
 -- One that has not started may start, where it is sent on no more often than the chart allows.
 pub clients_go : ClientsGoCalmly

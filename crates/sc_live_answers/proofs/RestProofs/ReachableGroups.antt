@@ -9,7 +9,7 @@ use Rattle.sc_node_table.specs.Definitions.{ReplicaState, next}
 use Rattle.sc_meaning.specs.sound.Definitions.{groups_at, decided_log, decided_state, as_nodes}
 use Rattle.sc_live_steps.specs.calm.Definitions.{HasReplica, IsNewest, StandsQuiet}
 use Rattle.sc_law_entries.specs.logs.Definitions.{Rows}
-use Rattle.sc_live_steps.specs.following.Definitions.{Course, Tellers}
+use Rattle.sc_live_steps.specs.following.Definitions.{Course, SlotLeaders}
 use Rattle.sc_live_answers.specs.Definitions.{state_at, replicas_at, IsQuietGroup, IsTakenIn, AreKnown, AreReachable, FreeGroupsHaveArcs, IsQuietPrefix, IsKnownGroup, IsOfGroup, PrefixesAreFound, QuietLogsAreExecuted, AreAllThere, PrefixesAreKnown, PrefixesAreReachable, PrefixesAreTakenIn, WasMember, WereMembers, AreAllFree, LinksWereMembers, PrefixGroupsHaveReplicas}
 use Rattle.sc_live_plain.specs.Definitions.{replicas_after}
 use Rattle.sc_live_answers.proofs.QuietProofs.QuietPrefixGroupLogs.{newest_there}
@@ -105,7 +105,7 @@ module _ (executed : QuietLogsAreExecuted) (finds : PrefixesAreFound) (words : �
         stand = λ name quiet node r e. (let none = stands_all name quiet node r e r.group.core.gone refl in none);
       }
 
-      prefix_taken_in : (by : Tellers) (base : Base) (course : Course) (into : Route) → Among base (groups_at as_nodes scenario.groups prefix) → IsQuietGroup by words scenario journal prefix base course → (state_at as_nodes base journal course.newest).core.gone ≡ Some into
+      prefix_taken_in : (by : SlotLeaders) (base : Base) (course : Course) (into : Route) → Among base (groups_at as_nodes scenario.groups prefix) → IsQuietGroup by words scenario journal prefix base course → (state_at as_nodes base journal course.newest).core.gone ≡ Some into
           → IsTakenIn (replicas_at scenario prefix) into
       prefix_taken_in by base course into a k gone node m =
           let same = newest_state executed finds words scenario journal prefix q base a by course k in

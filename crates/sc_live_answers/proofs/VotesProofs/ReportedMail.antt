@@ -187,7 +187,7 @@ module _ (n : ℕ) (result : OrderResult) where
 
   -- a report of this number and result
   own_reports : (me number : ℕ) (other : OrderResult) (mails : List Mail) → is_reported n ≡ true → number ≡ n → other ≡ result → Q (order_reported me number other mails)
-  own_reports me number other mails told same is = subst (λ (k : ℕ). Q (order_reported me k other mails)) (sym same) (subst (λ (x : OrderResult). Q (order_reported me n x mails)) (sym is) (order_reports me mails told))
+  own_reports me number other mails told same fact = subst (λ (k : ℕ). Q (order_reported me k other mails)) (sym same) (subst (λ (x : OrderResult). Q (order_reported me n x mails)) (sym fact) (order_reports me mails told))
 
   some_own : (other : OrderResult) → Some other ≡ Some result → other ≡ result
   some_own other e = cc

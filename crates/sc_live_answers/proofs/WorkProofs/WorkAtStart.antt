@@ -16,8 +16,8 @@ use Rattle.sc_scenario.specs.declared.scenario.scenarios.Scenario.{Scenario}
 use Rattle.sc_node_table.specs.Definitions.{result_sent, NodeState, replica_of, group_of_order, ordered_of, takes_name, untaken, ordered_row, ReplicaState, Place, name_of, next, last_slot}
 use Rattle.sc_meaning.specs.sound.Definitions.{Player, player_table, births, as_nodes, Lawful}
 use Rattle.sc_live_steps.specs.calm.Definitions.{players, IsAtRest, Rows}
-use Rattle.sc_live_steps.proofs.CalmProofs.Lemmas.{put_others}
-use Rattle.sc_live_steps.proofs.OrdersProofs.Lemmas.{cases-draw}
+use Rattle.sc_live_steps.proofs.CalmStepsProofs.Lemmas.{put_others}
+use Rattle.sc_live_steps.proofs.OrderStepsProofs.Lemmas.{cases-draw}
 use Rattle.sc_live_journals.specs.rows.Definitions.{view_at, IsSeat, with_event, IsReplicasRow, IsWellKept}
 use Rattle.sc_live_journals.proofs.RowsProofs.Lemmas.{names_stay, found_name, rows_replicas, view_was, sent_is, Plays, Found, found_well, replay_well}
 use Rattle.sc_live_journals.specs.groups.Definitions.{ScenariosAreWellBorn}
@@ -66,8 +66,8 @@ module _ (well : ScenariosAreWellBorn) (words : ℕ → ℕ → ℕ × ℕ) (sce
   quiet_held : (a : Affair) → BeginsFree a → AreHeld a words (births as_nodes scenario) quiet
   quiet_held a b = record {
     replicas = λ name who r v. rest_so a b name r (rests name who r v).0;
-    mail = λ who is.
-        subst (AreGood a) (sym (quiet-empty (players words all) quiet who (in_time_tidy (players words all) quiet (in_time_before (players words all) quiet (row_of player_table seat quiet (Told line)) timely)) is calm)) tt;
+    mail = λ who fact.
+        subst (AreGood a) (sym (quiet-empty (players words all) quiet who (in_time_tidy (players words all) quiet (in_time_before (players words all) quiet (row_of player_table seat quiet (Told line)) timely)) fact calm)) tt;
   }
 
   abbrev Done : Type 0
@@ -82,32 +82,32 @@ module _ (well : ScenariosAreWellBorn) (words : ℕ → ℕ → ℕ × ℕ) (sce
   nothing b = finish (record { number = line.number; group = group; name = group; splits = false }) (record { number = refl; group = refl; there = λ t. absurd (true≢false (sym t)); new = λ t. absurd (true≢false (sym t)); unknown = λ t. absurd (true≢false (sym t)) }) b
 
   client_begins : (client : ClientState) → value player_table seat quiet ≡ Client client → Done
-  client_begins client is =
+  client_begins client fact =
       nothing (record {
         views = λ name r v. rest_so (affair_of line.number false group group) (begins_free line.number false group group) name r
-            (rests name seat.who r (sym (client_leaves words all quiet seat (Told line) seated timely client is name (ToldInput line) refl refl).view ∙ v)).0;
-        good = subst (AreGood (affair_of line.number false group group)) (sym (sent_is all quiet seat (Told line) group seated (Client client) is (Some (ToldInput line)) refl)) tt;
+            (rests name seat.who r (sym (client_leaves words all quiet seat (Told line) seated timely client fact name (ToldInput line) refl refl).view ∙ v)).0;
+        good = subst (AreGood (affair_of line.number false group group)) (sym (sent_is all quiet seat (Told line) group seated (Client client) fact (Some (ToldInput line)) refl)) tt;
       })
 
-  module _ (node : NodeState) (is : value player_table seat quiet ≡ Node node) where
+  module _ (node : NodeState) (fact : value player_table seat quiet ≡ Node node) where
     plays : Plays seat.who (Node node)
-    plays = subst (Plays seat.who) is (replay_well seat.who seat.who quiet seat.actor [] (plays_of seat.who seat.actor ((well scenario).well seat seated)))
+    plays = subst (Plays seat.who) fact (replay_well seat.who seat.who quiet seat.actor [] (plays_of seat.who seat.actor ((well scenario).well seat seated)))
 
     view_of : (name : Draw) (o : Option ReplicaState) → replica_of name node.replicas ≡ o → view_at all quiet name seat.who ≡ o
-    view_of name o here = view_was all quiet seat Go name seated (Node node) is ∙ here
+    view_of name o here = view_was all quiet seat Go name seated (Node node) fact ∙ here
 
     -- who is a node was born as one
     born_node : (player : Player) → seat.actor ≡ player → (born : NodeState) × (seat.actor ≡ Node born)
     born_node (Node born) e = (born, e)
-    born_node (Client client) e = absurd (subst IsClient is (replay_client seat.who seat.actor [] quiet (subst IsClient (sym e) tt)))
+    born_node (Client client) e = absurd (subst IsClient fact (replay_client seat.who seat.actor [] quiet (subst IsClient (sym e) tt)))
 
     none_begins : replica_of group node.replicas ≡ None → Done
     none_begins here =
         nothing (record {
           views = λ name r v. rest_so (affair_of line.number false group group) (begins_free line.number false group group) name r
-              (rests name seat.who r (view_of name (Some r) (sym (now_is all quiet seat (Told line) node seated is (node, result_sent node.me line.number (Refused (NotLeader None)) []) (Some (ToldInput line)) refl
+              (rests name seat.who r (view_of name (Some r) (sym (now_is all quiet seat (Told line) node seated fact (node, result_sent node.me line.number (Refused (NotLeader None)) []) (Some (ToldInput line)) refl
               (ap (λ (x : NodeState × List Mail). (Node x.0, x.1)) (ap (λ o. ordered_of o line node) here)) name) ∙ v))).0;
-          good = subst (AreGood (affair_of line.number false group group)) (sym (all_sent all quiet seat (Told line) node seated is (node, result_sent node.me line.number (Refused (NotLeader None)) []) (Some (ToldInput line)) refl
+          good = subst (AreGood (affair_of line.number false group group)) (sym (all_sent all quiet seat (Told line) node seated fact (node, result_sent node.me line.number (Refused (NotLeader None)) []) (Some (ToldInput line)) refl
               (ap (λ (x : NodeState × List Mail). (Node x.0, x.1)) (ap (λ o. ordered_of o line node) here)))) (tt, tt);
         })
 
@@ -119,7 +119,7 @@ module _ (well : ScenariosAreWellBorn) (words : ℕ → ℕ → ℕ × ℕ) (sce
       own = found_name group node.replicas r here
 
       row : IsReplicasRow all quiet seat (Told line) group (Some r) after
-      row = rows_replicas.ordered all quiet seat line node r seated is here
+      row = rows_replicas.ordered all quiet seat line node r seated fact here
 
       kept : IsWellKept seat.who r
       kept = subst (Found seat.who) here (found_well seat.who group node.replicas plays.1)
@@ -128,10 +128,10 @@ module _ (well : ScenariosAreWellBorn) (words : ℕ → ℕ → ℕ × ℕ) (sce
       begins : (a : Affair) → BeginsFree a → HeldSo a group after.0 → AreGood a after.1 → Begins a
       begins a b h m = record {
         views = λ name x v. elim (cases-draw name group) [
-          | inl i ↦ subst (HeldSo a name) (same_Some after.0 x (sym row.is ∙ (ap (λ n. view_at all (with_event quiet seat (Told line)) n seat.who) (sym i) ∙ v))) (subst (λ n. HeldSo a n after.0) (sym i) h)
+          | inl i ↦ subst (HeldSo a name) (same_Some after.0 x (sym row.fact ∙ (ap (λ n. view_at all (with_event quiet seat (Told line)) n seat.who) (sym i) ∙ v))) (subst (λ n. HeldSo a n after.0) (sym i) h)
           | inr ne ↦ rest_so a b name x
               (rests name seat.who x (view_of name (Some x) (sym (put_others group name after.0 node.replicas (names_stay.ordered node.draws line r ∙ own) ne)
-              ∙ (sym (now_is all quiet seat (Told line) node seated is (ordered_of (Some r) line node) (Some (ToldInput line)) refl (ap (λ (s : NodeState × List Mail). (Node s.0, s.1)) (ap (λ o. ordered_of o line node) here)) name) ∙ v)))).0
+              ∙ (sym (now_is all quiet seat (Told line) node seated fact (ordered_of (Some r) line node) (Some (ToldInput line)) refl (ap (λ (s : NodeState × List Mail). (Node s.0, s.1)) (ap (λ o. ordered_of o line node) here)) name) ∙ v)))).0
         ];
         good = subst (AreGood a) (sym row.sends_all) m;
       }
@@ -145,7 +145,7 @@ module _ (well : ScenariosAreWellBorn) (words : ℕ → ℕ → ℕ × ℕ) (sce
           let fine = order_fine node.draws line r (rests group seat.who r (view_of group (Some r) here)).0 own (rests group seat.who r (view_of group (Some r) here)).1 (rests group seat.who r (view_of group (Some r) here)).2 kept.1 in
           let born = born_node seat.actor refl in
           finish (record { number = line.number; group = group; name = next_name node.draws; splits = is_split line.order })
-          (record { number = refl; group = refl; there = λ t. (seat.who, r, view_of group (Some r) here); unknown = λ t. drawn_unknown words scenario quiet bounded lawful seat line born.0 born.1 seated node is r here e (split_names line.order t); new = λ t. drawn_nowhere words scenario quiet bounded lawful seat line born.0 born.1 seated node is r here e (split_names line.order t) })
+          (record { number = refl; group = refl; there = λ t. (seat.who, r, view_of group (Some r) here); unknown = λ t. drawn_unknown words scenario quiet bounded lawful seat line born.0 born.1 seated node fact r here e (split_names line.order t); new = λ t. drawn_nowhere words scenario quiet bounded lawful seat line born.0 born.1 seated node fact r here e (split_names line.order t) })
           (begins (affair_of line.number (is_split line.order) group (next_name node.draws)) (begins_free line.number (is_split line.order) group (next_name node.draws)) (fine.0.1, fine.0.2, fine.0.3, fine.0.4, fine.0.5) fine.1)
 
   pub order_begins : Done

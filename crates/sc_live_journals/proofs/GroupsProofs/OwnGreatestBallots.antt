@@ -99,8 +99,8 @@ module _ (me : ℕ) where
 
 -- Each replica of a node is so after any rows, and the node keeps its number.
 pub nodes_keep : NodesKeepTops
-nodes_keep seat rows born node is well e =
-    let after = players.stays born.me (λ r. Stands born.me r) (parts born.me) (begins born.me) (λ r. IsTopKept born.me r) (to born.me) (from born.me) seat rows born node is (refl, well) e in
+nodes_keep seat rows born node fact well e =
+    let after = players.stays born.me (λ r. Stands born.me r) (parts born.me) (begins born.me) (λ r. IsTopKept born.me r) (to born.me) (from born.me) seat rows born node fact (refl, well) e in
     (subst (λ m. Each (IsTopKept m) node.replicas) (sym after.0) after.1, after.0)
 
 -- So it is of each replica that is made at the birth of groups.

@@ -9,7 +9,7 @@ use Rattle.sc_scenario.specs.declared.scenario.scenarios.Scenario.{Scenario}
 use Rattle.sc_node_table.specs.Definitions.{ReplicaState, first_ballot, born_replica, slots_ahead}
 use Rattle.sc_meaning.specs.sound.Definitions.{Player, births, as_nodes}
 use Rattle.sc_live_steps.specs.calm.Definitions.{players, Rows}
-use Rattle.sc_live_steps.specs.following.Definitions.{AreLow, Mark, Progress, Sets, members_at, IsFollowing, Tellers, IsLeadOf, IsOrderly, IsRow, IsIdle, begun}
+use Rattle.sc_live_steps.specs.following.Definitions.{AreLow, Mark, Progress, Sets, members_at, IsFollowing, SlotLeaders, IsLeadOf, IsOrderly, IsRow, IsIdle, begun}
 use Rattle.sc_live_steps.proofs.FollowingProofs.Lemmas.{leaders_begin, nothing, hints_are_kept, begins, idle-keeps, own_is_kept}
 use Rattle.sc_live_journals.specs.rows.Definitions.{view_at, next_in, promise_in, progress_at, marks_at, begun_course, IsLedBy, IsCourseOf}
 use Rattle.sc_live_journals.proofs.RowsProofs.Lemmas.{none_some, born_leads, born_facts, own_replica, view_born, next_born, promise_born}
@@ -21,7 +21,7 @@ pub first_slots : (at : Sets) (over : Ends) (base : Base) → BeginsSo at over b
 first_slots at over base so slot low = so.sets slot low ∙ sym (so.sets 4 (omega arith))
 
 -- a group whose nodes are all where they begin, and none of whose mail is under way
-module _ (at : Sets) (over : Ends) (by : Tellers) (words : ℕ → ℕ → ℕ × ℕ) (seats : List (Seat Player)) (rows : Rows) (base : Base) (so : BeginsSo at over base) (first : is_member base.core.members base.core.first ≡ true) where
+module _ (at : Sets) (over : Ends) (by : SlotLeaders) (words : ℕ → ℕ → ℕ × ℕ) (seats : List (Seat Player)) (rows : Rows) (base : Base) (so : BeginsSo at over base) (first : is_member base.core.members base.core.first ≡ true) where
   abbrev ballot : Ballot
   ballot = first_ballot base.core
 
@@ -71,7 +71,7 @@ module _ (at : Sets) (over : Ends) (by : Tellers) (words : ℕ → ℕ → ℕ �
 
 -- ---- a group of a scenario
 
-module _ (at : Sets) (over : Ends) (by : Tellers) (words : ℕ → ℕ → ℕ × ℕ) (scenario : Scenario) (base : Base) (bounded : IsBounded scenario) (a : Among base scenario.groups) (so : BeginsSo at over base) where
+module _ (at : Sets) (over : Ends) (by : SlotLeaders) (words : ℕ → ℕ → ℕ × ℕ) (scenario : Scenario) (base : Base) (bounded : IsBounded scenario) (a : Among base scenario.groups) (so : BeginsSo at over base) where
   abbrev born : List (Seat Player)
   born = births as_nodes scenario
 

@@ -110,8 +110,8 @@ module _ (sources : Sources) (ahead : Ahead) (words : ℕ → ℕ → ℕ × ℕ
     -- what a mail of first rows says is true of the journal's steps
     pub said_in : (rows more : Rows) → journal ≡ rows ++ more → (number : ℕ) (mail : Mail) (body : MailBody) → numbered (mails rows) number ≡ Some mail → mail.body ≡ body
         → IsTrue ahead base (MayQueue sources ahead scenario journal base) (IsHeardAt sources ahead scenario journal) (h_of journal base) mail body
-    said_in rows more e number mail body sent is =
-        subst (IsTrue ahead base (MayQueue sources ahead scenario journal base) (IsHeardAt sources ahead scenario journal) (h_of journal base) mail) is (part.true_mail mail (sent_in rows more e mail (number_among (mails rows) number mail sent)))
+    said_in rows more e number mail body sent fact =
+        subst (IsTrue ahead base (MayQueue sources ahead scenario journal base) (IsHeardAt sources ahead scenario journal) (h_of journal base) mail) fact (part.true_mail mail (sent_in rows more e mail (number_among (mails rows) number mail sent)))
 
     -- ---- a replica
 
@@ -128,11 +128,11 @@ module _ (sources : Sources) (ahead : Ahead) (words : ℕ → ℕ → ℕ × ℕ
                 let at = from_map (node_seat ahead scenario.groups scenario.policy) (numbers_from 1 scenario.nodes) seat a in
                 let bounds = among_numbers 1 scenario.nodes at.0 at.1 in
                 let most = bounds.1 in
-                (at.0, bounds.0, omega (arith, most), subst (λ (s : Seat Player). value player_table s rows ≡ Node node) (sym at.2) has.is))
+                (at.0, bounds.0, omega (arith, most), subst (λ (s : Seat Player). value player_table s rows ≡ Node node) (sym at.2) has.fact))
             | inr a ↦ (
                 let at = from_map (client_seat route) scenario.clients seat a in
                 let client = then_.kept.clients at.0 at.1 in
-                absurd (no_client client.client node (sym client.value_is ∙ ap (λ (s : Seat Player). value player_table s rows) at.2 ∙ has.is)))
+                absurd (no_client client.client node (sym client.value_is ∙ ap (λ (s : Seat Player). value player_table s rows) at.2 ∙ has.fact)))
           ]
 
       -- the group was there
@@ -141,7 +141,7 @@ module _ (sources : Sources) (ahead : Ahead) (words : ℕ → ℕ → ℕ × ℕ
           let in_list = find_found (λ (s : ReplicaState). same_draw (name_of s) base.core.id) node.replicas r has.here in
           let at = then_.kept.nodes number.0 number.1 number.2 in
           let same : at.node ≡ node = one_node at.node node (sym at.value_is ∙ number.3) in
-          let known = Each-among (λ s. IsOneOf (bases rows) (name_of s)) node.replicas r (subst (λ (x : NodeState). Each (λ s. IsOneOf (bases rows) (name_of s)) x.replicas) same at.is.known) in_list.0 in
+          let known = Each-among (λ s. IsOneOf (bases rows) (name_of s)) node.replicas r (subst (λ (x : NodeState). Each (λ s. IsOneOf (bases rows) (name_of s)) x.replicas) same at.fact.known) in_list.0 in
           let later = subst (λ xs. Among known.0 (bases xs)) (sym has.prefix) ((stay rows has.more has.prefix).groups known.0 known.1) in
           subst (λ x. Among x (bases rows)) (found.apart known.0 base later stands (sym known.2 ∙ draw_is (name_of r) base.core.id in_list.1)) known.1
 
@@ -152,7 +152,7 @@ module _ (sources : Sources) (ahead : Ahead) (words : ℕ → ℕ → ℕ × ℕ
           let at = then_.kept.nodes number.0 number.1 number.2 in
           let same : at.node ≡ node = one_node at.node node (sym at.value_is ∙ number.3) in
           held ahead base (MayQueue sources ahead scenario rows base) number.0 (h_of rows base) node.replicas
-          (subst (λ (x : NodeState). Held ahead base (MayQueue sources ahead scenario rows base) number.0 (h_of rows base) x.replicas) same (at.is.holds base there)) r in_list.0 (draw_is (name_of r) base.core.id in_list.1)
+          (subst (λ (x : NodeState). Held ahead base (MayQueue sources ahead scenario rows base) number.0 (h_of rows base) x.replicas) same (at.fact.holds base there)) r in_list.0 (draw_is (name_of r) base.core.id in_list.1)
 
       -- the steps of the later rows
       later_steps : (newer : Steps) × (h_of journal base ≡ newer ++ h_of rows base)

@@ -82,8 +82,8 @@ module _ (bounded : ValidScenariosAreBounded) (begin : ValidScenariosBeginWell) 
     -- a state that was sent
     state_logged : (rows more : Rows) → journal ≡ rows ++ more → (number : ℕ) (mail : Mail) (slot : ℕ) (state : Base) (sets : List (List ℕ)) → numbered (mails rows) number ≡ Some mail → mail.body ≡ Install base.core.id slot state sets
         → IsLoggedState (logged_sets ahead base journal) base slot state sets
-    state_logged rows more e number mail slot state sets sent is =
-        let t : IsState ahead base (MayQueue sources ahead scenario journal base) h slot state sets = said_in sources ahead words scenario route well journal orders group.lawful base group.stands rows more e number mail (Install base.core.id slot state sets) sent is (same_name base.core.id base.core.id refl) in
+    state_logged rows more e number mail slot state sets sent fact =
+        let t : IsState ahead base (MayQueue sources ahead scenario journal base) h slot state sets = said_in sources ahead words scenario route well journal orders group.lawful base group.stands rows more e number mail (Install base.core.id slot state sets) sent fact (same_name base.core.id base.core.id refl) in
         let same = state_same (birth ahead base) t.log in
         let count = t.count in
         let members_is = after_log ahead group.open_slots base first_members h lawful_steps all all_prefixes t.log t.is_log (slot + 4) (omega (arith, count)) ∙ ap (λ (g : Group). g.core.members) (sym t.group_is) in
@@ -122,24 +122,24 @@ module _ (bounded : ValidScenariosAreBounded) (begin : ValidScenariosBeginWell) 
 
       learnt_entered : (number : ℕ) (mail : Mail) (slot : ℕ) (command : Command) → numbered (mails rows) number ≡ Some mail → mail.body ≡ Learn base.core.id slot command → slot ≡ next r
           → IsLogged (logged_sets ahead base journal) base (entered command r)
-      learnt_entered number mail slot command sent is at =
-          let t = subst (λ n. IsLearnt (rule ahead base) h n command) at (said_in sources ahead words scenario route well journal orders group.lawful base group.stands rows has.more has.prefix number mail (Learn base.core.id slot command) sent is (same_name base.core.id base.core.id refl)) in
+      learnt_entered number mail slot command sent fact at =
+          let t = subst (λ n. IsLearnt (rule ahead base) h n command) at (said_in sources ahead words scenario route well journal orders group.lawful base group.stands rows has.more has.prefix number mail (Learn base.core.id slot command) sent fact (same_name base.core.id base.core.id refl)) in
           of_along (entered command r) (entered_along ahead group.open_slots base first_members h lawful_steps all all_prefixes command r k t)
           (entered_many ahead group.open_slots base first_members h lawful_steps all all_prefixes command r four)
           (entered_opens ahead group.open_slots base first_members h lawful_steps all all_prefixes command r k t open_sets four)
 
       learnt_next : (number : ℕ) (mail : Mail) (slot : ℕ) (command : Command) → numbered (mails rows) number ≡ Some mail → mail.body ≡ Learn base.core.id slot command → slot ≡ next r → IsNext (logged_sets ahead base journal) command r
-      learnt_next number mail slot command sent is at =
+      learnt_next number mail slot command sent fact at =
           is_next ahead group.open_slots base first_members h lawful_steps all all_prefixes command r k
-          (subst (λ n. IsLearnt (rule ahead base) h n command) at (said_in sources ahead words scenario route well journal orders group.lawful base group.stands rows has.more has.prefix number mail (Learn base.core.id slot command) sent is (same_name base.core.id base.core.id refl)))
+          (subst (λ n. IsLearnt (rule ahead base) h n command) at (said_in sources ahead words scenario route well journal orders group.lawful base group.stands rows has.more has.prefix number mail (Learn base.core.id slot command) sent fact (same_name base.core.id base.core.id refl)))
 
       ready_next : (sent : List Mail) → AreNext (logged_sets ahead base journal) r.ready (r, sent)
       ready_next sent = are_next ahead group.open_slots base first_members h lawful_steps all all_prefixes r.ready (r, sent) k
 
       decides_next : r.running ≡ true → (number : ℕ) (mail : Mail) (ballot : Ballot) (slot : ℕ) → numbered (mails rows) number ≡ Some mail → mail.body ≡ AcceptedMail base.core.id ballot slot
           → DecidesNext (logged_sets ahead base journal) mail.from ballot slot r
-      decides_next runs number mail ballot slot sent is command leader at count =
-          let did = said_in sources ahead words scenario route well journal orders group.lawful base group.stands rows has.more has.prefix number mail (AcceptedMail base.core.id ballot slot) sent is (same_name base.core.id base.core.id refl) in
+      decides_next runs number mail ballot slot sent fact command leader at count =
+          let did = said_in sources ahead words scenario route well journal orders group.lawful base group.stands rows has.more has.prefix number mail (AcceptedMail base.core.id ballot slot) sent fact (same_name base.core.id base.core.id refl) in
           let low : needed (rule ahead base) slot ≤ length k.whole = subst (λ n. needed (rule ahead base) n ≤ length k.whole) (sym (at ∙ k.next_is)) (earlier (rule ahead base) (length k.whole)) in
           let t = counted_learnt ahead base h lawful_steps r.leader (flying sources ahead words scenario route well journal orders group.lawful base group.stands rows seat node r has) k.whole k.is_log slot
           (logged_sets ahead base journal slot) (by_log ahead group.open_slots base first_members h lawful_steps all all_prefixes k.whole k.is_log slot low) low mail.from ballot did.0 did.1 command leader count in

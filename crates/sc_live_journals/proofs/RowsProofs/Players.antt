@@ -61,4 +61,4 @@ module _ (me : ℕ) (P : ReplicaState → Type 0) (parts : StateParts me P) (beg
 
   -- any rows of the node
   pub stays : (seat : Seat Player) (rows : List (Row Mail OrderLine)) (first node : NodeState) → seat.actor ≡ Node first → Holds first → value player_table seat rows ≡ Node node → Holds node
-  stays seat rows first node is k e = subst Plays e (replays seat.who rows seat.actor [] (subst Plays (sym is) k))
+  stays seat rows first node fact k e = subst Plays e (replays seat.who rows seat.actor [] (subst Plays (sym fact) k))

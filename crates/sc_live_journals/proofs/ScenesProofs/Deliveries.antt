@@ -19,8 +19,8 @@ use Rattle.sc_node_table.specs.Definitions.{NodeState, replica_of, with_replica,
 use Rattle.sc_law_walks.proofs.Lemmas.{either_way, takes_by}
 use Rattle.sc_meaning.specs.sound.Definitions.{Player, player_table}
 use Rattle.sc_live_steps.specs.calm.Definitions.{players, Rows}
-use Rattle.sc_live_steps.proofs.CalmProofs.Lemmas.{put_others}
-use Rattle.sc_live_steps.proofs.OrdersProofs.Lemmas.{cases-draw}
+use Rattle.sc_live_steps.proofs.CalmStepsProofs.Lemmas.{put_others}
+use Rattle.sc_live_steps.proofs.OrderStepsProofs.Lemmas.{cases-draw}
 use Rattle.sc_live_journals.specs.rows.Definitions.{view_at, with_event}
 use Rattle.sc_live_journals.proofs.ScenesProofs.NewestLeaders.{lead_runs}
 use Rattle.sc_live_journals.proofs.ScenesProofs.RowPremises.{IsQuestion, leader_asked, found_step}
@@ -107,10 +107,10 @@ module _ (words : ℕ → ℕ → ℕ × ℕ) (births : List (Seat Player)) (qui
 
   -- ---- by who takes it
 
-  module _ (node : NodeState) (is : value player_table seat rows ≡ Node node) (mail : Mail) (at : numbered (mails rows) number ≡ Some mail) where
+  module _ (node : NodeState) (fact : value player_table seat rows ≡ Node node) (mail : Mail) (at : numbered (mails rows) number ≡ Some mail) where
     makes : (step : NodeState × List Mail) → on_mail mail.from mail.body node ≡ step → (name : Draw) → replica_of name step.0.replicas ≡ replica_of name node.replicas → Each (IsErrandFor name) step.1 → Left name
     makes step e name same silent =
-        node_leaves words births rows seat event d.seated d.timely node is step (Some (Got mail)) (ap (option_map Got) at) (ap (λ (x : NodeState × List Mail). (Node x.0, x.1)) e) name same silent
+        node_leaves words births rows seat event d.seated d.timely node fact step (Some (Got mail)) (ap (option_map Got) at) (ap (λ (x : NodeState × List Mail). (Node x.0, x.1)) e) name same silent
 
     module _ (group : Draw) (t : IsTaking words births rows seat number mail group node) where
       named_so : (name : Draw) → name ≡ group → group_of_mail mail.body ≡ Some name
@@ -158,7 +158,7 @@ module _ (words : ℕ → ℕ → ℕ × ℕ) (births : List (Seat Player)) (qui
             let row = (row_of_comes words births rows seat number mail group r c).1 in
             let sent_on = aside_is mail r mail.body q f in
             record {
-              view = row.is ∙ (ap (λ (p : Place). Some p.0) sent_on.2 ∙ sym row.was);
+              view = row.fact ∙ (ap (λ (p : Place). Some p.0) sent_on.2 ∙ sym row.was);
               silent = subst (Each (IsErrandFor group)) (sym (row.sends ∙ ap (λ (p : Place). p.1) sent_on.2)) ((λ n. ((sent_on.1, Elsewhere sent_on.0 mail.from), refl)), tt);
             }
 
@@ -187,7 +187,7 @@ module _ (words : ℕ → ℕ → ℕ × ℕ) (births : List (Seat Player)) (qui
         | inl e ↦ by_found (λ name f th. makes (node, [])
             (either_way (λ (step : NodeState × List Mail). step ≡ (node, [])) (may_come mail.from mail.body) (routed (group_of_mail mail.body) mail.from mail.body node) (node, []) (ap (λ g. routed g mail.from mail.body node) e) refl)
             name refl tt)
-        | inr group ↦ node_takes group.0 (record { seated = d.seated; timely = d.timely; is_node = is; me_is = d.finds.me_is node is; sent = at; comes = comes; named = group.1 })
+        | inr group ↦ node_takes group.0 (record { seated = d.seated; timely = d.timely; is_node = fact; me_is = d.finds.me_is node fact; sent = at; comes = comes; named = group.1 })
       ]
     ]
 
@@ -214,23 +214,23 @@ module _ (words : ℕ → ℕ → ℕ × ℕ) (births : List (Seat Player)) (qui
 
   -- where there is none, it is refused
   none_leaves_it : (node : NodeState) → value player_table seat quiet ≡ Node node → (name : Draw) → replica_of group node.replicas ≡ None → Kept name
-  none_leaves_it node is name here =
-      node_leaves words births quiet seat told b.seated b.timely node is (node, result_sent node.me line.number (Refused (NotLeader None)) []) (Some (ToldInput line)) refl
+  none_leaves_it node fact name here =
+      node_leaves words births quiet seat told b.seated b.timely node fact (node, result_sent node.me line.number (Refused (NotLeader None)) []) (Some (ToldInput line)) refl
       (ap (λ (x : NodeState × List Mail). (Node x.0, x.1)) (ap (λ o. ordered_of o line node) here)) name refl ((λ n. absurd (none_some n)), tt)
 
   ordered_leaves : (node : NodeState) → value player_table seat quiet ≡ Node node → (name : Draw) → (name ≡ group → ⊥) → (o : Option ReplicaState) → replica_of group node.replicas ≡ o → Kept name
-  ordered_leaves node is name ne None here = none_leaves_it node is name here
-  ordered_leaves node is name ne (Some r) here =
+  ordered_leaves node fact name ne None here = none_leaves_it node fact name here
+  ordered_leaves node fact name ne (Some r) here =
       let own = found_name group node.replicas r here in
       let step : NodeState × List Mail = ordered_of (Some r) line node in
-      node_leaves words births quiet seat told b.seated b.timely node is step (Some (ToldInput line)) refl
+      node_leaves words births quiet seat told b.seated b.timely node fact step (Some (ToldInput line)) refl
       (ap (λ (x : NodeState × List Mail). (Node x.0, x.1)) (ap (λ o. ordered_of o line node) here)) name
       (put_others group name (ordered_row node.draws line (r, [])).0 node.replicas (names_stay.ordered node.draws line r ∙ own) ne)
       (quiet_errands (name_of r) name (ordered_row node.draws line (r, [])).1 (λ i. ne (sym i ∙ own)) (order_keeps (name_of r) node.draws line (r, []) (refl, tt)).1)
 
   player_leaves : (player : Player) → value player_table seat quiet ≡ player → (name : Draw) → (name ≡ group → ⊥) → Kept name
-  player_leaves (Client client) is name ne = client_leaves words births quiet seat told b.seated b.timely client is name (ToldInput line) refl refl
-  player_leaves (Node node) is name ne = ordered_leaves node is name ne (replica_of group node.replicas) refl
+  player_leaves (Client client) fact name ne = client_leaves words births quiet seat told b.seated b.timely client fact name (ToldInput line) refl refl
+  player_leaves (Node node) fact name ne = ordered_leaves node fact name ne (replica_of group node.replicas) refl
 
   found_first : StageAfter births quiet seat told Still
   found_first = found_step words births quiet seat told b.seated b.timely b.finds Still b.still
@@ -246,12 +246,12 @@ module _ (words : ℕ → ℕ → ℕ × ℕ) (births : List (Seat Player)) (qui
 
   -- who gets the order has a replica of the group, or leaves that as it is
   told_there : (player : Player) → value player_table seat quiet ≡ player → IsThere births quiet group ⊎ ((who : ℕ) → view_at births (with_event quiet seat told) group who ≡ view_at births quiet group who)
-  told_there (Client client) is = inr (left_view words births quiet seat told b.seated b.timely group (client_leaves words births quiet seat told b.seated b.timely client is group (ToldInput line) refl refl))
-  told_there (Node node) is = by (replica_of group node.replicas) refl
+  told_there (Client client) fact = inr (left_view words births quiet seat told b.seated b.timely group (client_leaves words births quiet seat told b.seated b.timely client fact group (ToldInput line) refl refl))
+  told_there (Node node) fact = by (replica_of group node.replicas) refl
     where
       by : (o : Option ReplicaState) → replica_of group node.replicas ≡ o → IsThere births quiet group ⊎ ((who : ℕ) → view_at births (with_event quiet seat told) group who ≡ view_at births quiet group who)
-      by (Some r) here = inl (seat.who, r, view_was births quiet seat told group b.seated (Node node) is ∙ here)
-      by None here = inr (left_view words births quiet seat told b.seated b.timely group (none_leaves_it node is group here))
+      by (Some r) here = inl (seat.who, r, view_was births quiet seat told group b.seated (Node node) fact ∙ here)
+      by None here = inr (left_view words births quiet seat told b.seated b.timely group (none_leaves_it node fact group here))
 
   runs_there : (at : ℕ → Option ReplicaState) (chief : ℕ) (o : Option ReplicaState) → at chief ≡ o → is_running o ≡ true → (node : ℕ) × (r : ReplicaState) × (at node ≡ Some r)
   runs_there at chief None e runs = absurd cc

@@ -21,8 +21,8 @@ use Rattle.sc_live_plain.proofs.CalmProofs.ChosenGroups.{way_found, lookup_has, 
 use Rattle.sc_live_plain.proofs.CalmProofs.KnownGroups.{name_in, id_of, one_of_one, preferring_names, preferring_starts, learn_in_turn}
 use Rattle.sc_live_plain.proofs.PlainProofs.PlainClients.{asking, unasked}
 use Rattle.sc_live_plain.proofs.PlainProofs.PlainKnownGroups.{one_chosen}
-use Rattle.sc_live_plain.proofs.RowsProofs.Lists.{some_is}
-use Rattle.sc_live_plain.proofs.RowsProofs.RepeatedMail.{mail_of}
+use Rattle.sc_live_plain.proofs.PlainRowsProofs.Lists.{some_is}
+use Rattle.sc_live_plain.proofs.PlainRowsProofs.RepeatedMail.{mail_of}
 use Rattle.sc_live_plain.proofs.PlainProofs.BegunRequestCounts.{request_same as sent_begun}
 
 -- ---- how many requests are begun
@@ -160,8 +160,8 @@ module _ (set : Setting) where
       ready_row : gone ≡ true → (seq : ℕ) (op : Op) (client : ClientState) → IsReady seq op client → begun client.me seq op → Stays (request_sent client)
       ready_row g seq op client k b =
           let one = one_chosen (pos_of (key_of op)) client.known (one_known client.known k.knows) in
-          let is : request_sent client ≡ sent_to one.0 client = ap (λ (o : Option (ℕ × Op)). sent_where client (chosen_for client o)) (request_is seq op client k) ∙ ap (sent_where client) one.1 in
-          subst Stays (sym is) (asked_row g seq op client k one.0 one.1 b)
+          let fact : request_sent client ≡ sent_to one.0 client = ap (λ (o : Option (ℕ × Op)). sent_where client (chosen_for client o)) (request_is seq op client k) ∙ ap (sent_where client) one.1 in
+          subst Stays (sym fact) (asked_row g seq op client k one.0 one.1 b)
 
     -- the next request, or none where all are answered
     started_row : (begun : Requests) (client : ClientState) (seq : ℕ) → client.me ≡ asks.client → client.requests ≡ asks.ops → (length client.replies < length client.requests → Knows set client.known) → (length client.replies < length client.requests → Each (CanBeAsked set) client.known) → seq ≡ length client.replies + 1 → length client.replies ≤ length client.requests
@@ -170,8 +170,8 @@ module _ (set : Setting) where
         cond_both (nat_le seq (length client.requests)) (request_sent (record client { waiting = Some seq })) (record client { waiting = None }, []) (λ (x : ClientStep). StaysCalm begun set asks true x × Seeks x)
         (λ t. (let le = leb-true seq (length client.requests) t in
         let op = get_or client.requests (seq - 1) (Get []) in
-        let is = slice_get-get_or client.requests (seq - 1) (Get []) (omega (arith, le, number)) in
-        ready_row begun true refl seq op (record client { waiting = Some seq }) (record { me_is = me_is; requests_are = requests_are; knows = knows (omega (arith, le, number)); targets = targets (omega (arith, le, number)); waits = refl; number = number; op_is = is }) (now seq op (omega (arith, number)) is (let begins = started_begun seq client le in omega (arith, begins, number)))))
+        let fact = slice_get-get_or client.requests (seq - 1) (Get []) (omega (arith, le, number)) in
+        ready_row begun true refl seq op (record client { waiting = Some seq }) (record { me_is = me_is; requests_are = requests_are; knows = knows (omega (arith, le, number)); targets = targets (omega (arith, le, number)); waits = refl; number = number; op_is = fact }) (now seq op (omega (arith, number)) fact (let begins = started_begun seq client le in omega (arith, begins, number)))))
         (λ f. (let past = leb-false seq (length client.requests) f in (
           (
             record { me_is = me_is; requests_are = requests_are; knows = knows; targets = targets; state = inl (record { waits = refl; replies = inr (refl, omega (arith, past, number, few)) }) },
@@ -188,7 +188,7 @@ module _ (set : Setting) where
 
     -- ---- each mail
 
-    module _ (begun later : Requests) (gone : Bool) (client : ClientState) (mail : Mail) (is : IsSetting set) (linked : IsLinkedSetting set) (k : IsCalmClient set asks gone client) (m : IsCalmMail begun set mail) (to : mail.to ≡ client_actor client.me)
+    module _ (begun later : Requests) (gone : Bool) (client : ClientState) (mail : Mail) (fact : IsSetting set) (linked : IsLinkedSetting set) (k : IsCalmClient set asks gone client) (m : IsCalmMail begun set mail) (to : mail.to ≡ client_actor client.me)
         (asked_right : (seq : ℕ) (op : Op) → begun client.me seq op → slice_get client.requests (seq - 1) ≡ Some op) (weaker : (c n : ℕ) (op : Op) → begun c n op → later c n op) (now : BeginsBy later client (table client (Got mail))) where
       abbrev Keeps : ClientStep → Type 0
       Keeps step = StaysCalm later set asks gone step × (Seeks step ⊎ Ignores client mail step)
@@ -263,7 +263,7 @@ module _ (set : Setting) where
             let among = subst (Among frame.core.id) r.first.names (chosen_among (pos_of (key_of w.op)) client.known frame.core.id chosen_here) in
             let f = from_map id_of (take r.reached r.ring) frame.core.id among in
             let in_ring : Among f.0 r.ring = subst (Among f.0) (take-append-drop r.reached r.ring) (Among-left f.0 (take r.reached r.ring) (drop r.reached r.ring) f.1) in
-            let same : f.0 ≡ frame = is.apart f.0 frame (r.is_ring.within f.0 in_ring) a f.2 in
+            let same : f.0 ≡ frame = fact.apart f.0 frame (r.is_ring.within f.0 in_ring) a f.2 in
             let next_ = learn_in_turn.not_mine r.ring r.reached (pos_of (key_of w.op)) frame client.known r.is_ring.round r.first (subst (λ x. Among x r.ring) same in_ring) chosen_here lacks in
             inr (record { ring = r.ring; is_ring = r.is_ring; reached = r.reached + 1; first = next_.1 })
 
@@ -385,5 +385,5 @@ waiting_home set asks gone client k w = by (way_to w.group client.known) refl w.
 pub clients_calm : ClientsStayCalm
 clients_calm = record {
   go = λ scenario rows set asks client k now. (go_calm set asks (IsBegun scenario rows) client k now).0;
-  takes = λ scenario rows later set asks gone client mail is linked k m to asked_right weaker now. (takes_calm set asks (IsBegun scenario rows) (IsBegun scenario later) gone client mail is linked k m to asked_right weaker now).0;
+  takes = λ scenario rows later set asks gone client mail fact linked k m to asked_right weaker now. (takes_calm set asks (IsBegun scenario rows) (IsBegun scenario later) gone client mail fact linked k m to asked_right weaker now).0;
 }

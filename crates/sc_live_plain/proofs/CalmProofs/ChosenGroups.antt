@@ -11,7 +11,7 @@ use Rattle.sc_client_table.specs.declared.lookup.ways.Way.{Way}
 use Rattle.sc_live_plain.specs.Definitions.{start_known}
 use Rattle.sc_live_plain.proofs.CalmProofs.KnownGroups.{name_in, gap}
 use Rattle.sc_live_plain.proofs.PlainProofs.PlainKnownGroups.{chosen_is}
-use Rattle.sc_live_plain.proofs.RowsProofs.Lists.{some_is, map_among}
+use Rattle.sc_live_plain.proofs.PlainRowsProofs.Lists.{some_is, map_among}
 
 -- ---- what is known of a group
 

@@ -13,7 +13,7 @@ use Rattle.sc_client_table.specs.lookup.Definitions.{far, new_way, KnownGroups, 
 use Rattle.sc_paxos_law.proofs.Lemmas.{from_map, Among-right, Among-either}
 use Rattle.sc_live_plain.specs.Definitions.{FollowedBy, AreRoundRing, start_of, start_known, KnowsFirst, ClientsLearnInTurn, Frame}
 use Rattle.sc_live_plain.proofs.PlainProofs.PlainKnownGroups.{IsChosen, among_first, chosen_is, parts_of, take_prefix}
-use Rattle.sc_live_plain.proofs.RowsProofs.Lists.{map_among}
+use Rattle.sc_live_plain.proofs.PlainRowsProofs.Lists.{map_among}
 use Rattle.sc_live_plain.proofs.PlainProofs.PlainKnownGroups.{map_push as map_last}
 
 abbrev pub name_in : Draw × Way → Draw

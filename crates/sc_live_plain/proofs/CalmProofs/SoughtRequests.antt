@@ -11,14 +11,14 @@ use Rattle.sc_meaning.specs.sound.Definitions.{Player, player_table, node_seat, 
 use Rattle.sc_live_orderly.specs.Definitions.{IsTidy, rest}
 use Rattle.sc_live_plain.specs.Definitions.{IsAsking, replica_at, IsLinkedSetting, Setting, IsSetting, Frame, IsWaiting}
 use Rattle.sc_live_plain.proofs.PlainProofs.PlainBeginnings.{IsStage}
-use Rattle.sc_live_plain.proofs.RowsProofs.RowViews.{Journal}
+use Rattle.sc_live_plain.proofs.PlainRowsProofs.RowViews.{Journal}
 use Rattle.sc_live_plain.proofs.CalmProofs.CalmClients.{EndsWait}
 use Rattle.sc_live_plain.proofs.PlainProofs.PlainClients.{asking}
 use Rattle.sc_live_plain.proofs.LeadersProofs.LeadingReplicas.{IsHeld}
 use Rattle.sc_live_plain.proofs.PlainProofs.WaitingRequestJournals.{client_is}
-use Rattle.sc_live_plain.proofs.RowsProofs.RepeatedMail.{mail_of}
+use Rattle.sc_live_plain.proofs.PlainRowsProofs.RepeatedMail.{mail_of}
 
-module _ (words : ℕ → ℕ → ℕ × ℕ) (scenario : Scenario) (begins : IsStage scenario) (set : Setting) (is : IsSetting set) (linked : IsLinkedSetting set) where
+module _ (words : ℕ → ℕ → ℕ × ℕ) (scenario : Scenario) (begins : IsStage scenario) (set : Setting) (fact : IsSetting set) (linked : IsLinkedSetting set) where
   abbrev sys : System Player Mail OrderLine
   sys = system_of as_nodes words scenario
 
@@ -57,4 +57,4 @@ module _ (words : ℕ → ℕ → ℕ × ℕ) (scenario : Scenario) (begins : Is
 
   module _ (rows : Journal) (t : IsTidy rows) (j : IsAsking words scenario set begins.first rows) (sought : AreSought rows) where
     pub me_of : (asks : Asks) (client : ClientState) → Among asks scenario.clients → value player_table (client_seat (route_of begins.first) asks) rows ≡ Client client → client.me ≡ asks.client
-    me_of asks client a e = (let c = j.clients asks a in ap (λ (x : ClientState). x.me) (client_is (sym e ∙ c.is)) ∙ c.calm.me_is)
+    me_of asks client a e = (let c = j.clients asks a in ap (λ (x : ClientState). x.me) (client_is (sym e ∙ c.fact)) ∙ c.calm.me_is)

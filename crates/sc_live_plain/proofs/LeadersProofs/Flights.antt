@@ -8,9 +8,9 @@ use Rattle.sc_words.specs.paxos.Definitions.{flight_at, without_flight, with_vot
 use Rattle.sc_node_table.specs.Definitions.{numbers_from, ReplicaState, next, set_at, slots_ahead}
 use Rattle.sc_base.proofs.Lemmas.{length_with as with_one}
 use Rattle.sc_paxos_law.proofs.Lemmas.{member-among}
-use Rattle.sc_live_plain.proofs.RowsProofs.SlotCounts.{one_yes, one_no, count-cons}
+use Rattle.sc_live_plain.proofs.PlainRowsProofs.SlotCounts.{one_yes, one_no, count-cons}
 use Rattle.sc_live_plain.proofs.LeadersProofs.LeadingReplicas.{flights_at}
-use Rattle.sc_live_plain.proofs.RowsProofs.Lists.{some_is}
+use Rattle.sc_live_plain.proofs.PlainRowsProofs.Lists.{some_is}
 
 -- ---- the flights
 
@@ -73,9 +73,9 @@ module _ (slot : ℕ) (voters : Option (List ℕ)) where
 -- one in flight stands at its slot
 pub flight_stands : (slot : ℕ) (fs : Flights) (g : Flight Command) → Among g fs → g.slot ≡ slot → 1 ≤ flights_at slot fs
 flight_stands slot [] g a at = absurd a
-flight_stands slot (x ∷ fs) g (inl is) at =
+flight_stands slot (x ∷ fs) g (inl fact) at =
     let c = count-cons (λ (y : Flight Command). eqb y.slot slot) x fs in
-    let here = one_yes (eqb x.slot slot) (eq-eqb x.slot slot (ap (λ (y : Flight Command). y.slot) is ∙ at)) in omega (arith, c, here)
+    let here = one_yes (eqb x.slot slot) (eq-eqb x.slot slot (ap (λ (y : Flight Command). y.slot) fact ∙ at)) in omega (arith, c, here)
 flight_stands slot (x ∷ fs) g (inr a) at = (let c = count-cons (λ (y : Flight Command). eqb y.slot slot) x fs in let more = flight_stands slot fs g a at in omega (arith, c, more))
 
 -- where one flight has a slot, that one is found there
@@ -85,9 +85,9 @@ only_flight slot (x ∷ fs) f g one e a at =
     let c = count-cons (λ (y : Flight Command). eqb y.slot slot) x fs in
     cond_both (eqb x.slot slot) (Some x) (flight_at slot fs) (λ o. o ≡ Some f → f ≡ g)
     (λ t k. (let here = one_yes (eqb x.slot slot) t in
-    elim a [ inl is ↦ sym (some_is k) ∙ is | inr b ↦ (let more = flight_stands slot fs g b at in absurd (omega (arith, c, here, one, more))) ]))
+    elim a [ inl fact ↦ sym (some_is k) ∙ fact | inr b ↦ (let more = flight_stands slot fs g b at in absurd (omega (arith, c, here, one, more))) ]))
     (λ n k. (let none = one_no (eqb x.slot slot) n in
-    elim a [ inl is ↦ absurd (both_ways (eqb x.slot slot) n (eq-eqb x.slot slot (ap (λ (y : Flight Command). y.slot) is ∙ at))) | inr b ↦ only_flight slot fs f g (omega (arith, c, none, one)) k b at ])) e
+    elim a [ inl fact ↦ absurd (both_ways (eqb x.slot slot) n (eq-eqb x.slot slot (ap (λ (y : Flight Command). y.slot) fact ∙ at))) | inr b ↦ only_flight slot fs f g (omega (arith, c, none, one)) k b at ])) e
 
 -- nothing is found where nothing stands
 pub no_flight_at : (slot : ℕ) (fs : Flights) (f : Flight Command) → flights_at slot fs ≡ 0 → flight_at slot fs ≡ Some f → ⊥

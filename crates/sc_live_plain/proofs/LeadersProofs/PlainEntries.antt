@@ -9,7 +9,7 @@ use Rattle.sc_node_table.specs.Definitions.{entered, answer_of, answered_or_put_
 use Rattle.sc_law_walks.proofs.Lemmas.{floor_under, entered_next, cleared}
 use Rattle.sc_paxos_law.proofs.Lemmas.{among-member}
 use Rattle.sc_live_plain.specs.Definitions.{Frame, IsFrame, Requests, IsPlainGroup, IsPlainReplica}
-use Rattle.sc_live_steps.proofs.CalmProofs.CountedPotential.{left_stays, looked_stays}
+use Rattle.sc_live_steps.proofs.CalmStepsProofs.CountedPotential.{left_stays, looked_stays}
 use Rattle.sc_live_steps.proofs.FollowingProofs.FollowerTables.{left_same as left_stopped}
 
 -- ---- members
@@ -24,7 +24,7 @@ none_new before now e = none_passes (λ node. not (is_member before node)) now (
 
 -- ---- the log
 
-module _ (begun : Requests) (frame : Frame) (is : IsFrame frame) where
+module _ (begun : Requests) (frame : Frame) (fact : IsFrame frame) where
   waits_none : (lock : Lock) (waits : ℕ) → lock ≡ Free → waits_in lock waits ≡ 0
   waits_none lock waits e = ap (λ l. waits_in l waits) e
 
@@ -32,7 +32,7 @@ module _ (begun : Requests) (frame : Frame) (is : IsFrame frame) where
   sets_next : (n : ℕ) (sets : List (List ℕ)) (members : List ℕ) → frame.from ≤ n → sets ≡ map frame.at (numbers_from n slots_ahead) → members ≡ frame.core.members
       → rest_of sets ++ members ∷ [] ≡ map frame.at (numbers_from (n + 1) slots_ahead)
   sets_next n sets members low e m =
-      let last : frame.at (n + 1 + 1 + 1 + 1) ≡ members = is.later (n + 1 + 1 + 1 + 1) (omega (arith, low)) ∙ sym m in
+      let last : frame.at (n + 1 + 1 + 1 + 1) ≡ members = fact.later (n + 1 + 1 + 1 + 1) (omega (arith, low)) ∙ sym m in
       ap (λ s. rest_of s ++ members ∷ []) e ∙ ap (λ set. frame.at (n + 1) ∷ frame.at (n + 1 + 1) ∷ frame.at (n + 1 + 1 + 1) ∷ set ∷ []) (sym last)
 
   pub entered_plain : (me : ℕ) (command : Command) (r : ReplicaState) → IsPlainGroup begun frame (applied r.group command).0 → IsPlainReplica begun frame me r → IsPlainReplica begun frame me (entered command r)
@@ -52,7 +52,7 @@ module _ (begun : Requests) (frame : Frame) (is : IsFrame frame) where
         begins = omega (arith, up, begins);
         sets_are = sets_next (next r) r.sets (applied r.group command).0.core.members p.begins p.sets_are (ap (λ (core : Core). core.members) g.core_is) ∙ ap (λ n. map frame.at (numbers_from n slots_ahead)) (sym up);
         acts = p.acts;
-        waits = waits_none (applied r.group command).0.core.lock r.waits (ap (λ (core : Core). core.lock) g.core_is ∙ is.free);
+        waits = waits_none (applied r.group command).0.core.lock r.waits (ap (λ (core : Core). core.lock) g.core_is ∙ fact.free);
       }
 
 -- ---- the parts of an execution, where nothing but a call happens

@@ -19,24 +19,24 @@ use Rattle.sc_live_orderly.proofs.Lemmas.{IsPaid, pays, TakesFirst, takes_first,
 use Rattle.sc_live_plain.specs.Definitions.{Frame, IsFrame, Mark, Other, mark, mark_of, marks_for, marks_at, IsOther, IsTaken, player_owes, mail_owes, begun_ones, waiting_ones, begun_of, IsBegun, IsPlainClient, Requests, IsPlainBody, IsPlainMail}
 use Rattle.sc_live_plain.proofs.PlainProofs.PlainInduction.{owing_of, IsClientAt, IsPlainJournal}
 use Rattle.sc_live_plain.proofs.PlainProofs.MorePlainRequests.{IsMore}
-use Rattle.sc_live_plain.proofs.RowsProofs.LeaderMailOfGroups.{group_idle}
+use Rattle.sc_live_plain.proofs.PlainRowsProofs.LeaderMailOfGroups.{group_idle}
 use Rattle.sc_live_plain.proofs.PlainProofs.BegunRequestCounts.{begun_right, got_grows}
-use Rattle.sc_live_plain.proofs.RowsProofs.LeaderMarks.{each_mark}
+use Rattle.sc_live_plain.proofs.PlainRowsProofs.LeaderMarks.{each_mark}
 use Rattle.sc_live_plain.proofs.PlainProofs.PlainBeginnings.{frames_of, IsStage}
 use Rattle.sc_live_plain.proofs.PlainProofs.PlainSteps.{client_number, each_numbered, value_others, started_still, node_stays, client_stays, sent_more, begun_more, same_client, node_away}
-use Rattle.sc_live_plain.proofs.RowsProofs.RowViews.{Journal, replica_others, replica_none}
+use Rattle.sc_live_plain.proofs.PlainRowsProofs.RowViews.{Journal, replica_others, replica_none}
 use Rattle.sc_live_plain.proofs.PlainProofs.PlainClients.{asking, DidAsk, DidEnd, ClientRow, TakesMail, Goes, client_row, go_row, unasked}
 use Rattle.sc_live_plain.proofs.PlainProofs.PlainKnownGroups.{IsRound}
 
 -- a mail for one who is no node is nothing to a group
-pub client_mark : (begun : Requests) (frame : Frame) (name : Draw) (is : IsFrame frame) (from to : ℕ) (body : MailBody) → is_node to ≡ false → IsPlainBody begun frame from to body → mark_of name from body ≡ Other
-client_mark begun frame name is from to (Accept group ballot slot command) no_node b = absurd (both_ways (is_node to) no_node (is.nodes slot to b.2.to_in))
-client_mark begun frame name is from to (Accepted group ballot slot) no_node b =
-    absurd (both_ways (is_node to) no_node (is.nodes (frame.from + slots_ahead) to (ap (λ ms. is_member ms to) (is.later (frame.from + slots_ahead) (omega arith)) ∙ (ap (is_member frame.core.members) b.2 ∙ is.leads))))
-client_mark begun frame name is from to (Learn group slot command) no_node b =
-    absurd (both_ways (is_node to) no_node (is.nodes (frame.from + slots_ahead) to (ap (λ ms. is_member ms to) (is.later (frame.from + slots_ahead) (omega arith)) ∙ b.1.to_in)))
-client_mark begun frame name is from to (Request group client seq op) no_node b = refl
-client_mark begun frame name is from to _ no_node b = refl
+pub client_mark : (begun : Requests) (frame : Frame) (name : Draw) (fact : IsFrame frame) (from to : ℕ) (body : MailBody) → is_node to ≡ false → IsPlainBody begun frame from to body → mark_of name from body ≡ Other
+client_mark begun frame name fact from to (Accept group ballot slot command) no_node b = absurd (both_ways (is_node to) no_node (fact.nodes slot to b.2.to_in))
+client_mark begun frame name fact from to (Accepted group ballot slot) no_node b =
+    absurd (both_ways (is_node to) no_node (fact.nodes (frame.from + slots_ahead) to (ap (λ ms. is_member ms to) (fact.later (frame.from + slots_ahead) (omega arith)) ∙ (ap (is_member frame.core.members) b.2 ∙ fact.leads))))
+client_mark begun frame name fact from to (Learn group slot command) no_node b =
+    absurd (both_ways (is_node to) no_node (fact.nodes (frame.from + slots_ahead) to (ap (λ ms. is_member ms to) (fact.later (frame.from + slots_ahead) (omega arith)) ∙ b.1.to_in)))
+client_mark begun frame name fact from to (Request group client seq op) no_node b = refl
+client_mark begun frame name fact from to _ no_node b = refl
 
 -- what a client sends is nothing to a group
 asked_others : (name : Draw) (who : ℕ) (after : ClientStep) → DidAsk after → Each IsOther (marks_for name who after.1)
@@ -89,9 +89,9 @@ module _ (words : ℕ → ℕ → ℕ × ℕ) (scenario : Scenario) (stage : IsS
 
     pub more : IsMore (IsBegun scenario rows) (IsBegun scenario (rows ++ row_of player_table (client_seat (route_of stage.first) asks) rows event ∷ []))
     more = begun_more words scenario stage rows (row_of player_table (cseat asks) rows event) (λ other b. elim (cases_eq (client_actor other.client) (client_actor asks.client)) [
-      | inl is ↦ (let same : other ≡ asks = same_client scenario stage asks other a b is in
+      | inl fact ↦ (let same : other ≡ asks = same_client scenario stage asks other a b fact in
           subst (λ (x : Asks). begun_of (value player_table (cseat x) rows) ≤ begun_of (value player_table (cseat x) (rows ++ row_of player_table (cseat asks) rows event ∷ []))) (sym same)
-          (let before = ap begun_of c.is in let now_ = ap begun_of became in omega (arith, before, now_, grows)))
+          (let before = ap begun_of c.fact in let now_ = ap begun_of became in omega (arith, before, now_, grows)))
       | inr ne ↦ (let same = ap begun_of (value_others words scenario stage rows (row_of player_table (cseat asks) rows event) (cseat other) ne) in omega (arith, same))
     ])
 
@@ -106,7 +106,7 @@ module _ (words : ℕ → ℕ → ℕ × ℕ) (scenario : Scenario) (stage : IsS
       client_is = sym c.plain.me_is;
       from_one = one;
       op_is = ap (λ (ops : List Op). slice_get ops (n - 1)) (sym c.plain.requests_are) ∙ at;
-      low = (let is = ap begun_of became in omega (arith, is, low));
+      low = (let fact = ap begun_of became in omega (arith, fact, low));
     }
 
     -- the journal after it
@@ -123,15 +123,15 @@ module _ (words : ℕ → ℕ → ℕ × ℕ) (scenario : Scenario) (stage : IsS
         record {
           nodes = λ node low high. node_stays words scenario stage rows j r more node (node_away words scenario stage asks no_node node low high) (j.nodes node low high);
           clients = λ other b. elim (cases_eq (client_actor other.client) (client_actor asks.client)) [
-            | inl is ↦ subst (IsClientAt words scenario stage (rows ++ r ∷ [])) (sym (same_client scenario stage asks other a b is))
-                (record { client = after.0; is = became; plain = subst (λ g. IsPlainClient (frames_of scenario) asks g after.0) (sym is_gone) out.plain })
+            | inl fact ↦ subst (IsClientAt words scenario stage (rows ++ r ∷ [])) (sym (same_client scenario stage asks other a b fact))
+                (record { client = after.0; fact = became; plain = subst (λ g. IsPlainClient (frames_of scenario) asks g after.0) (sym is_gone) out.plain })
             | inr ne ↦ client_stays words scenario stage rows j r other ne (j.clients other b)
           ];
           sent = sent_more words scenario stage rows j r more (subst (Each (IsPlainMail (IsBegun scenario (rows ++ r ∷ [])) (frames_of scenario))) (sym sent_is) out.said);
           groups = λ frame b.
               group_idle words scenario rows r rest_after frame (j.groups frame b)
               (λ node. elim (cases_eq node (client_actor asks.client)) [
-                | inl is ↦ (let none : is_node node ≡ false = ap is_node is ∙ no_node in replica_none words scenario (rows ++ r ∷ []) frame.core.id node none ∙ sym (replica_none words scenario rows frame.core.id node none))
+                | inl fact ↦ (let none : is_node node ≡ false = ap is_node fact ∙ no_node in replica_none words scenario (rows ++ r ∷ []) frame.core.id node none ∙ sym (replica_none words scenario rows frame.core.id node none))
                 | inr ne ↦ replica_others words scenario rows r frame.core.id node ne
               ])
               (takes frame.core.id) (λ who. subst (λ l. Each IsOther (marks_for frame.core.id who l)) (sym sent_is) (sends frame.core.id who));
@@ -150,7 +150,7 @@ module _ (words : ℕ → ℕ → ℕ × ℕ) (scenario : Scenario) (stage : IsS
     pub got_is : acted player_table (value player_table (client_seat (route_of stage.first) asks) rows) (input_of {O = OrderLine} (mails rows) (Deliver number)) ≡ (Client (table c.client (Got first.mail)).0, (table c.client (Got first.mail)).1)
     got_is =
         ap (λ o. acted player_table (value player_table (cseat asks) rows) (option_map Got o)) first.sent
-        ∙ ap (λ p. acted player_table p (Some (Got first.mail))) c.is
+        ∙ ap (λ p. acted player_table p (Some (Got first.mail))) c.fact
 
     pub got_more : begun_ones c.client ≤ begun_ones (table c.client (Got first.mail)).0
     got_more = got_grows first.mail.from first.mail.body c.client
@@ -179,13 +179,13 @@ module _ (words : ℕ → ℕ → ℕ × ℕ) (scenario : Scenario) (stage : IsS
         (λ mail sent. (
         let same : first.mail ≡ mail = (let e : Some first.mail ≡ Some mail = sym first.sent ∙ sent in cc) in
         subst (λ m. 1 + owed_by (owing_of scenario) (player_table (value player_table (cseat asks) rows) (Got m)) ≤ player_owes (length (frames_of scenario)) (value player_table (cseat asks) rows) + mail_owes m) same
-        (subst (λ p. 1 + owed_by (owing_of scenario) (player_table p (Got first.mail)) ≤ player_owes (length (frames_of scenario)) p + mail_owes first.mail) (sym c.is) takes.owed)))
+        (subst (λ p. 1 + owed_by (owing_of scenario) (player_table p (Got first.mail)) ≤ player_owes (length (frames_of scenario)) p + mail_owes first.mail) (sym c.fact) takes.owed)))
 
   -- ---- a client starts
 
   module _ (fine : has_started rows (client_actor asks.client) ≡ false) where
     pub go_is : acted player_table (value player_table (client_seat (route_of stage.first) asks) rows) (input_of {O = OrderLine} (mails rows) Go) ≡ (Client (table c.client GoInput).0, (table c.client GoInput).1)
-    go_is = ap (λ p. acted player_table p (Some GoInput)) c.is
+    go_is = ap (λ p. acted player_table p (Some GoInput)) c.fact
 
     pub fresh : IsPlainClient (frames_of scenario) asks false c.client
     fresh = subst (λ g. IsPlainClient (frames_of scenario) asks g c.client) fine c.plain
@@ -209,7 +209,7 @@ module _ (words : ℕ → ℕ → ℕ × ℕ) (scenario : Scenario) (stage : IsS
     client_go =
         client_after Go fine (table c.client GoInput) go_is go_more true gone_now goes.row (λ name. inr (refl, sym (at_zero (marks_at words scenario rows name (client_actor asks.client)))))
         (λ name who. elim (goes.response) [ inl asked ↦ asked_others name who (table c.client GoInput) asked | inr ended ↦ ended_others name who (table c.client GoInput) ended ])
-        (subst (λ p. owed_by (owing_of scenario) (player_table p GoInput) ≤ player_owes (length (frames_of scenario)) p) (sym c.is) goes.owed)
+        (subst (λ p. owed_by (owing_of scenario) (player_table p GoInput) ≤ player_owes (length (frames_of scenario)) p) (sym c.fact) goes.owed)
       where
         at_zero : (xs : List Mark) → drop 0 xs ≡ xs
         at_zero [] = refl

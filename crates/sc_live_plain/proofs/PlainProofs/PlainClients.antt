@@ -15,8 +15,8 @@ use Rattle.sc_client_table.specs.table.Definitions.{Client, request_at, waiting_
 use Rattle.sc_scenario.specs.declared.scenario.scenarios.Asks.{Asks}
 use Rattle.sc_live_plain.specs.Definitions.{Frame, body_owes, mail_owes, waiting_ones, begun_ones, client_owes, way_of, IsWaiting, IsResting, IsPlainClient, Requests, IsPlainBody, IsPlainMail}
 use Rattle.sc_live_plain.proofs.PlainProofs.PlainKnownGroups.{IsRound, chosen_frame, target_leads, one_chosen, known_grows, among_first}
-use Rattle.sc_live_plain.proofs.RowsProofs.RepeatedMail.{mail_of}
-use Rattle.sc_live_plain.proofs.RowsProofs.Lists.{some_is}
+use Rattle.sc_live_plain.proofs.PlainRowsProofs.RepeatedMail.{mail_of}
+use Rattle.sc_live_plain.proofs.PlainRowsProofs.Lists.{some_is}
 
 -- the mail of a client's request
 abbrev pub asking : ℕ → ℕ → Draw → ℕ → Op → Mail
@@ -45,8 +45,8 @@ pub record DidIgnore (before : Client) (mail : Mail) (after : ClientStep) : Type
 
 -- a client that has not started has asked nothing
 pub unasked : (client : Client) → IsResting false client ⊎ ((false ≡ true) × IsWaiting client) → (client.waiting ≡ None) × (client.replies ≡ [])
-unasked client (inl rests) = elim (rests.replies) [ inl is ↦ (rests.waits, is.1) | inr is ↦ (let bad : false ≡ true = is.0 in cc) ]
-unasked client (inr is) = (let bad : false ≡ true = is.0 in cc)
+unasked client (inl rests) = elim (rests.replies) [ inl fact ↦ (rests.waits, fact.1) | inr fact ↦ (let bad : false ≡ true = fact.0 in cc) ]
+unasked client (inr fact) = (let bad : false ≡ true = fact.0 in cc)
 
 module _ (frames : List Frame) (round : IsRound frames) (asks : Asks) where
   abbrev groups : ℕ

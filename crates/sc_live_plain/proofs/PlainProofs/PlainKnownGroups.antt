@@ -14,7 +14,7 @@ use Rattle.sc_client_table.specs.lookup.Definitions.{far, target_of, KnownGroups
 use Rattle.sc_paxos_law.proofs.Lemmas.{from_map}
 use Rattle.sc_paxos_law.proofs.Lemmas.{Among-left}
 use Rattle.sc_live_plain.specs.Definitions.{Frame, AreNamedApart, way_of}
-use Rattle.sc_live_plain.proofs.RowsProofs.Lists.{map_among}
+use Rattle.sc_live_plain.proofs.PlainRowsProofs.Lists.{map_among}
 
 -- ---- the nearest
 
@@ -226,4 +226,4 @@ module _ (frames : List Frame) (round : IsRound frames) (reached : ℕ) (low : r
       let in_prefix : Among frame prefix = subst (λ (f : Frame). Among f prefix) same c.is_frame in
       let split = parts_of prefix frame in_prefix in
       let whole : frames ≡ split.0 ++ frame ∷ (split.1 ++ back) = parts ∙ ap (λ (l : List Frame). l ++ back) split.2 ∙ append_assoc split.0 (frame ∷ split.1) back in
-      behind p frame in_prefix (λ other b. (let le = c.each other b in let is = ap (λ (f : Frame). far p (way_of f).1) same in omega (arith, le, is))) lacks split.0 split.1 back refl split.2 whole
+      behind p frame in_prefix (λ other b. (let le = c.each other b in let fact = ap (λ (f : Frame). far p (way_of f).1) same in omega (arith, le, fact))) lacks split.0 split.1 back refl split.2 whole

@@ -14,12 +14,12 @@ use Rattle.sc_live_steps.proofs.FollowingProofs.LeaderRows.{both_no as true_fals
 
 -- the last entry takes a node to the newest state, and promises nothing
 pub last_next : (newest next : ℕ) (mark : Mark) → IsLast newest mark → next_by next mark ≡ newest
-last_next newest next mark (slot, is, inl tells) = ap (next_by next) tells ∙ is
-last_next newest next mark (slot, is, inr installs) = ap (next_by next) installs ∙ is
+last_next newest next mark (slot, fact, inl tells) = ap (next_by next) tells ∙ fact
+last_next newest next mark (slot, fact, inr installs) = ap (next_by next) installs ∙ fact
 
 pub last_promise : (newest : ℕ) (promise : Ballot) (mark : Mark) → IsLast newest mark → promise_by promise mark ≡ promise
-last_promise newest promise mark (slot, is, inl tells) = ap (promise_by promise) tells
-last_promise newest promise mark (slot, is, inr installs) = ap (promise_by promise) installs
+last_promise newest promise mark (slot, fact, inl tells) = ap (promise_by promise) tells
+last_promise newest promise mark (slot, fact, inr installs) = ap (promise_by promise) installs
 
 none_some : {X : Type 0} {o : Option X} {x : X} → o ≡ None → o ≡ Some x → ⊥
 none_some e f = cc
@@ -78,7 +78,7 @@ module _ (at : Sets) (now after : Progress) (node : ℕ) (taken : Option Mark) (
 
   left_of : (who : ℕ) → (left : List Mark) × IsLeft who left
   left_of who = elim (cases_eq who node) [
-    | inl is ↦ (row.left, subst (λ n. IsLeft n row.left) (sym is) (record { mail = row.own; in_time = own_fit; reaches = own_reached; pledges = own_pledged }))
+    | inl fact ↦ (row.left, subst (λ n. IsLeft n row.left) (sym fact) (record { mail = row.own; in_time = own_fit; reaches = own_reached; pledges = own_pledged }))
     | inr ne ↦ (
       marks who,
       record {
@@ -139,7 +139,7 @@ module _ (at : Sets) (now after : Progress) (node : ℕ) (taken : Option Mark) (
   self_election-keeps = record {
     fits = fit_after;
     within = λ who. subst (λ n. n ≤ after.course.newest) (sym (reached_after who)) (subst (λ n. reached (now.next who) (marks who) ≤ n) (sym e.newest) (was.within who));
-    members = λ who is. reached_after who ∙ (was.members who (subst (λ n. is_member (members_at at n) who ≡ true) e.newest is) ∙ sym e.newest);
+    members = λ who fact. reached_after who ∙ (was.members who (subst (λ n. is_member (members_at at n) who ≡ true) e.newest fact) ∙ sym e.newest);
     ready = λ who o. (let old = subst (λ n. IsOpen at n who) e.newest o in
         record { replica = subst (λ n. 1 ≤ n) (sym (reached_after who)) (was.ready who old).replica; promised = pledged_after who old });
     some = subst (λ n. 1 ≤ n) (sym e.newest) was.some;
@@ -151,7 +151,7 @@ module _ (at : Sets) (now after : Progress) (node : ℕ) (taken : Option Mark) (
     asked = λ who. asked-row now after node taken sent marks marks_after row who (was.asked who) (was.known who) (elects-each at now after node taken sent e (IsLater now.course.bound) tt who) (sent_first who);
     undone = λ r b slot a. absurd (nothing_asked b slot (subst (λ n. Among (Asks b slot) (marks_after n)) e.mine a));
     flying = λ slot voters v. absurd (none_some (e.voters slot) v);
-    votes = λ slot voters v who is. absurd (none_some (e.voters slot) v);
+    votes = λ slot voters v who fact. absurd (none_some (e.voters slot) v);
     promises = λ r f who o. inl (goes now after node taken sent marks marks_after row who (Prepares ballot) (subst (Among (Prepares ballot)) (sym (e.asks who (subst (λ n. IsOpen at n who) e.newest o))) (inl refl)));
     pledges = λ r f who same. absurd (never (now.promise who) (was.promised who) (sym (promise-row now after node taken sent marks marks_after row e.promise who) ∙ same));
     leads = λ r. record {

@@ -48,21 +48,21 @@ module _ (at : Sets) (course : Course) (command : Command) (place : Place) (led 
 
   on_orderly : IsOn command place.0 mid.0 → IsOrderly mid.0
   on_orderly on = record {
-    apart = subst (λ (q : ReplicaState). AreApart q.leader.flights) (sym on.is) (apart_without (next place.0) place.0.leader.flights o.apart);
+    apart = subst (λ (q : ReplicaState). AreApart q.leader.flights) (sym on.fact) (apart_without (next place.0) place.0.leader.flights o.apart);
     single = λ s from some. flights_same s (ne s from) ∙ o.single s (above s from) (ap is_some (sym (on_ready command place.0 mid.0 on s (ne s from))) ∙ some);
     alone = λ s other c from e act from_other some. o.alone s other c (above s from) (sym (same s (ne s from)) ∙ e) act (above other from_other) (ap is_some (sym (same other (ne other from_other))) ∙ some);
-    plain = ap (λ (q : ReplicaState). q.leader.reports) on.is ∙ o.plain;
-    asked = λ s from some. subst HasBallot (sym on.is) (o.asked s (above s from) (ap is_some (sym (same s (ne s from))) ∙ some));
+    plain = ap (λ (q : ReplicaState). q.leader.reports) on.fact ∙ o.plain;
+    asked = λ s from some. subst HasBallot (sym on.fact) (o.asked s (above s from) (ap is_some (sym (same s (ne s from))) ∙ some));
   }
     where
       above : (s : ℕ) → next mid.0 ≤ s → next place.0 ≤ s
       above s from = (let up = on_next command place.0 mid.0 on in omega (arith, from, up))
 
       ne : (s : ℕ) → next mid.0 ≤ s → s ≡ next place.0 → ⊥
-      ne s from is = (let up = on_next command place.0 mid.0 on in omega (arith, from, up, is))
+      ne s from fact = (let up = on_next command place.0 mid.0 on in omega (arith, from, up, fact))
 
       flights_same : (s : ℕ) → (s ≡ next place.0 → ⊥) → flight_at s mid.0.leader.flights ≡ flight_at s place.0.leader.flights
-      flights_same s apart = ap (λ (q : ReplicaState). flight_at s q.leader.flights) on.is ∙ flight_out (next place.0) s place.0.leader.flights apart
+      flights_same s apart = ap (λ (q : ReplicaState). flight_at s q.leader.flights) on.fact ∙ flight_out (next place.0) s place.0.leader.flights apart
 
       same : (s : ℕ) → (s ≡ next place.0 → ⊥) → taken_at mid.0 s ≡ taken_at place.0 s
       same s apart =
@@ -80,7 +80,7 @@ module _ (at : Sets) (course : Course) (command : Command) (place : Place) (led 
           | inl still ↦ λ _. pump_orderly (executed_ready es mid).0.0 (executed_ready es mid).0.1 (rest (on_leads at course command place.0 led ready is_next mid.0 on) (on_orderly on) still.led.running) (led_bounded at _ (executed_ready es mid).0.0 still.led.may)
           | inr stopped ↦ λ goes. absurd (true≢false (sym goes ∙ (ap (λ (p : Place). p.0.running) (idle_pump (executed_ready es mid).0 stopped.0.running) ∙ stopped.0.running)))
         ])
-    | inr off ↦ (let still : mid.0.running ≡ false = ap (λ (q : ReplicaState). q.running) off.is in
+    | inr off ↦ (let still : mid.0.running ≡ false = ap (λ (q : ReplicaState). q.running) off.fact in
         subst (λ (s : Executed). Orderly (pumped s.0)) (sym (idle_ready es mid still)) (subst Orderly (sym (idle_pump mid still)) (λ goes. absurd (true≢false (sym goes ∙ still)))))
   ]
 

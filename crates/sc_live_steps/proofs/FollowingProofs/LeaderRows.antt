@@ -6,7 +6,7 @@ use Rattle.sc_node_table.specs.Values.{Ballot}
 use Rattle.sc_node_table.specs.Definitions.{listed, slots_ahead}
 use Rattle.sc_words.specs.paxos.Definitions.{IsAtLeast}
 use Rattle.sc_words.proofs.PaxosProofs.Lemmas.{at_least_itself, Each-append, Each-weaker}
-use Rattle.sc_live_steps.specs.following.Definitions.{Mark, Asks, Votes, Tells, Installs, Prepares, Promises, reached, pledged, AreFit, AreAskedFirst, Progress, Sets, members_at, IsOpen, IsKnown, IsVoting, HasPromised, IsPromising, IsFollowing, IsRow, IsCount, IsElsewhere, told_from, IsCounted, IsKept, Leads}
+use Rattle.sc_live_steps.specs.following.Definitions.{Mark, Asks, Votes, Teaches, Installs, Prepares, Promises, reached, pledged, AreFit, AreAskedFirst, Progress, Sets, members_at, IsOpen, IsKnown, IsVoting, HasPromised, IsPromising, IsFollowing, IsRow, IsCount, IsElsewhere, taught_from, IsCounted, IsKept, Leads}
 use Rattle.sc_live_steps.proofs.FollowingProofs.Marks.{known_later, among-left, among-right, among-either, reached-append, pledged-append, fit-append, reached-least, pledged-most, stands, count-reached, count-pledged, IsLater, IsNoVote, asked-none, asked-votes, offers-fit, offers-reached, offers-pledged, offers-each, told-each, told-own, told-prepares, IsTold, told-all}
 use Rattle.sc_live_steps.proofs.FollowingProofs.NodeMarks.{promise-row, goes, stays, each-row, asked-row}
 
@@ -21,7 +21,7 @@ fit_left next promise None left c f = f
 fit_left next promise (Some (Votes node ballot slot)) left c f = f.1
 fit_left next promise (Some (Promises node ballot)) left c f = f.1
 fit_left next promise (Some (Asks ballot slot)) left c f = absurd c.0
-fit_left next promise (Some (Tells slot)) left c f = absurd c.0
+fit_left next promise (Some (Teaches slot)) left c f = absurd c.0
 fit_left next promise (Some (Installs slot)) left c f = absurd c.0
 fit_left next promise (Some (Prepares ballot)) left c f = absurd c.0
 
@@ -31,7 +31,7 @@ elsewhere None left o ballot slot a = tt
 elsewhere (Some (Votes node other at)) left o ballot slot a = (asked-votes node other at left o ballot slot a, tt)
 elsewhere (Some (Promises node other)) left o ballot slot a = (tt, tt)
 elsewhere (Some (Asks other at)) left o ballot slot a = (tt, tt)
-elsewhere (Some (Tells at)) left o ballot slot a = (tt, tt)
+elsewhere (Some (Teaches at)) left o ballot slot a = (tt, tt)
 elsewhere (Some (Installs at)) left o ballot slot a = (tt, tt)
 elsewhere (Some (Prepares other)) left o ballot slot a = (tt, tt)
 
@@ -54,10 +54,10 @@ module _ (at : Sets) (now after : Progress) (node : ℕ) (taken : Option Mark) (
   newest_after = after.course.newest
 
   abbrev told : ℕ → List Mark
-  told who = told_from at now.course newest l.executed who
+  told who = taught_from at now.course newest l.executed who
 
   apart : (who : ℕ) → (who ≡ node → ⊥) → who ≡ lead → ⊥
-  apart who ne is = ne (is ∙ sym l.mine)
+  apart who ne fact = ne (fact ∙ sym l.mine)
 
   led : now.next node ≡ newest
   led = ap now.next l.mine ∙ (was.leads l.runs).executed
@@ -85,9 +85,9 @@ module _ (at : Sets) (now after : Progress) (node : ℕ) (taken : Option Mark) (
       let same : reached (now.next node) (marks node) ≡ reached (now.next node) row.left =
       (ap (reached (now.next node)) row.takes ∙ (reached-append (now.next node) (listed taken) row.left ∙ ap (λ n. reached n row.left) (count-reached (now.next node) (listed taken) l.takes))) in
       let most = was.within node in
-      let is = led in
+      let fact = led in
       let up = l.newest in
-      stands (now.next node) (now.promise node) row.left fit (omega (arith, same, most, is)) newest_after (omega (arith, is, up)) (λ ballot slot a. (kept_asks ballot slot a).from)
+      stands (now.next node) (now.promise node) row.left fit (omega (arith, same, most, fact)) newest_after (omega (arith, fact, up)) (λ ballot slot a. (kept_asks ballot slot a).from)
 
   own_pledged : pledged (now.promise node) row.left ≡ now.course.ballot
   own_pledged =
@@ -129,12 +129,12 @@ module _ (at : Sets) (now after : Progress) (node : ℕ) (taken : Option Mark) (
   own_after =
       let some = was.some in
       let up = l.newest in
-      let is = own_reached in
+      let fact = own_reached in
       record {
         fit = own_fit;
-        within = omega (arith, is);
+        within = omega (arith, fact);
         member = λ _. own_reached;
-        opens = λ _. (omega (arith, is, some, up), own_pledged_after);
+        opens = λ _. (omega (arith, fact, some, up), own_pledged_after);
         first = λ _. own_pledged_after;
       }
 
@@ -192,22 +192,22 @@ module _ (at : Sets) (now after : Progress) (node : ℕ) (taken : Option Mark) (
     other_after : IsAfter who
     other_after =
         let up = l.newest in
-        let is = other_reached in
+        let fact = other_reached in
         let low = told_there.1.low in
         record {
           fit = other_fit;
-          within = omega (arith, up, is, low);
+          within = omega (arith, up, fact, low);
           member = λ m. other_reached ∙ (told_there.1.member (subst (λ n. is_member (members_at at n) who ≡ true) up m) ∙ sym up);
-          opens = λ o. (let r = other_opens o.slot (let f = o.from in omega (arith, f, up)) o.to o.decides in let some = r.0 in (omega (arith, some, is), other_pledged ∙ r.1));
+          opens = λ o. (let r = other_opens o.slot (let f = o.from in omega (arith, f, up)) o.to o.decides in let some = r.0 in (omega (arith, some, fact), other_pledged ∙ r.1));
           first = λ f. other_pledged ∙ told_there.1.first f;
         }
 
   after_is : (who : ℕ) → IsAfter who
-  after_is who = elim (cases_eq who node) [ inl is ↦ subst IsAfter (sym is) own_after | inr ne ↦ other_after who ne ]
+  after_is who = elim (cases_eq who node) [ inl fact ↦ subst IsAfter (sym fact) own_after | inr ne ↦ other_after who ne ]
 
   -- ---- what is sent
 
-  sent_each : (P : Mark → Type 0) → ((slot : ℕ) → P (Tells slot)) → ((slot : ℕ) → P (Installs slot)) → P (Prepares now.course.ballot)
+  sent_each : (P : Mark → Type 0) → ((slot : ℕ) → P (Teaches slot)) → ((slot : ℕ) → P (Installs slot)) → P (Prepares now.course.ballot)
       → ((ballot : Ballot) (slot : ℕ) → now.course.bound ≤ slot → slot < after.course.bound → P (Asks ballot slot)) → (who : ℕ) → Each P (sent who)
   sent_each P tells installs prepares asks who =
       subst (Each P) (sym (l.sends who))
@@ -220,20 +220,20 @@ module _ (at : Sets) (now after : Progress) (node : ℕ) (taken : Option Mark) (
 
   voting : (slot : ℕ) (voters : List ℕ) (who : ℕ) → is_member (at slot) who ≡ true → (c : IsCounted at now.course taken slot voters) → IsVoting now.course.ballot who slot c.before (marks who) (marks lead)
       → IsVoting now.course.ballot who slot voters (marks_after who) (marks_after lead)
-  voting slot voters who is c (inl v) = inl (c.keeps who v)
-  voting slot voters who is c (inr (inl a)) = elim (stays now after node taken sent marks marks_after row who (Asks now.course.ballot slot) a) [
+  voting slot voters who fact c (inl v) = inl (c.keeps who v)
+  voting slot voters who fact c (inr (inl a)) = elim (stays now after node taken sent marks marks_after row who (Asks now.course.ballot slot) a) [
     | inl both ↦ absurd (taken_no (Asks now.course.ballot slot) (λ n. n) both.1)
     | inr b ↦ inr (inl b)
   ]
-  voting slot voters who is c (inr (inr a)) = elim (stays now after node taken sent marks marks_after row lead (Votes who now.course.ballot slot) a) [
-    | inl both ↦ inl (c.counts who both.1 is)
+  voting slot voters who fact c (inr (inr a)) = elim (stays now after node taken sent marks marks_after row lead (Votes who now.course.ballot slot) a) [
+    | inl both ↦ inl (c.counts who both.1 fact)
     | inr b ↦ inr (inr b)
   ]
 
   voting_after : (slot : ℕ) (voters : List ℕ) → after.course.voters slot ≡ Some voters → (who : ℕ) → is_member (at slot) who ≡ true → IsVoting now.course.ballot who slot voters (marks_after who) (marks_after lead)
-  voting_after slot voters e who is = elim (l.grown slot voters e) [
-    | inl o ↦ inr (inl (goes now after node taken sent marks marks_after row who (Asks now.course.ballot slot) (o.asks who is)))
-    | inr c ↦ voting slot voters who is c (was.votes slot c.before c.flew who is)
+  voting_after slot voters e who fact = elim (l.grown slot voters e) [
+    | inl o ↦ inr (inl (goes now after node taken sent marks marks_after row who (Asks now.course.ballot slot) (o.asks who fact)))
+    | inr c ↦ voting slot voters who fact c (was.votes slot c.before c.flew who fact)
   ]
 
   abbrev HasPromisedAfter : ℕ → Ballot → Type 0
@@ -256,7 +256,7 @@ module _ (at : Sets) (now after : Progress) (node : ℕ) (taken : Option Mark) (
   -- one that decides an open slot did so before, or came by an entry, and is asked
   open_before : now.course.is_first ≡ false → (who : ℕ) → IsOpen at newest_after who → IsOpen at newest who ⊎ Among (Prepares now.course.ballot) (sent who)
   open_before later who o = elim (cases_eq who node) [
-    | inl is ↦ inl (subst (IsOpen at newest) (sym is) lead_open)
+    | inl fact ↦ inl (subst (IsOpen at newest) (sym fact) lead_open)
     | inr ne ↦ elim (cases_lt o.slot (newest + slots_ahead)) [
       | inl lt ↦ inl (record { slot = o.slot; from = (let f = o.from in let up = l.newest in omega (arith, f, up)); to = lt; decides = o.decides })
       | inr ge ↦ (let to = o.to in
@@ -302,7 +302,7 @@ module _ (at : Sets) (now after : Progress) (node : ℕ) (taken : Option Mark) (
         (asked-none (sent who) (sent_each IsNoVote (λ _. tt) (λ _. tt) tt (λ _ _ _ _. tt) who));
     undone = λ r ballot slot a. undone_after r ballot slot (subst (λ n. Among (Asks ballot slot) (marks_after n)) same_lead a);
     flying = l.flying;
-    votes = λ slot voters e who is. subst (λ (b : Ballot). IsVoting b who slot voters (marks_after who) (marks_after b.node)) (sym l.ballot) (voting_after slot voters e who is);
+    votes = λ slot voters e who fact. subst (λ (b : Ballot). IsVoting b who slot voters (marks_after who) (marks_after b.node)) (sym l.ballot) (voting_after slot voters e who fact);
     promises = λ r later who o. subst (λ (b : Ballot). Among (Prepares b) (marks_after who) ⊎ HasPromisedAfter who b) (sym l.ballot) (promising_after r (sym l.first ∙ later) who o);
     pledges = λ r later who e. subst (HasPromisedAfter who) (sym l.ballot) (promised_after r who (was.pledges l.runs (sym l.first ∙ later) who (sym (promise-row now after node taken sent marks marks_after row l.promise who) ∙ (e ∙ l.ballot))));
     leads = λ r. (let stay = l.stays r in
@@ -311,7 +311,7 @@ module _ (at : Sets) (now after : Progress) (node : ℕ) (taken : Option Mark) (
     self_election = λ r g. (let heir = least_of (members_at at newest_after) in
         let member = least_in (members_at at newest_after) (rosters (newest_after + 3)).some in
         elim (cases_eq heir node) [
-          | inl is ↦ absurd (both_no (subst (λ n. is_member (members_at at newest_after) n ≡ true) is member) (l.leaves r g))
+          | inl fact ↦ absurd (both_no (subst (λ n. is_member (members_at at newest_after) n ≡ true) fact member) (l.leaves r g))
           | inr ne ↦ (let same = row.next heir ne in
               let rises = reached-least (now.next heir) (now.promise heir) (marks heir) (was.fits heir) in
               let within = was.within heir in

@@ -6,7 +6,7 @@ use Rattle.sc_node_table.specs.Values.{Ballot}
 use Rattle.sc_node_table.specs.Definitions.{listed, next}
 use Rattle.sc_words.specs.paxos.Definitions.{below, IsAtLeast}
 use Rattle.sc_words.proofs.PaxosProofs.Lemmas.{at_least_below, at_least_from_below, not_both, Each-append, Each-split, Each-weaker}
-use Rattle.sc_live_steps.specs.following.Definitions.{Course, IsNoPrepare, Mark, Asks, Votes, Tells, Installs, Prepares, Promises, Progress, Sets, IsKnown, IsFollowing, IsOtherPrepare, IsOwnPrepare, IsHome, ArePromisedLast, AreLearntLast, IsOwnFirst, CountsOwn, CountsNone, OwnIsKept, LeadersCountOwn, IsRow, IsIdle, IsCount, answered, Takes, told_from, Leads, Elects}
+use Rattle.sc_live_steps.specs.following.Definitions.{Course, IsNoPrepare, Mark, Asks, Votes, Teaches, Installs, Prepares, Promises, Progress, Sets, IsKnown, IsFollowing, IsOtherPrepare, IsOwnPrepare, IsHome, ArePromisedLast, AreLearntLast, IsOwnFirst, CountsOwn, CountsNone, OwnIsKept, LeadersCountOwn, IsRow, IsIdle, IsCount, answered, Takes, taught_from, Leads, Elects}
 use Rattle.sc_live_steps.proofs.FollowingProofs.ElectionRows.{elects-each}
 use Rattle.sc_live_steps.proofs.FollowingProofs.NodeMarks.{counts_of, each-row, idle_marks}
 use Rattle.sc_live_steps.proofs.FollowingProofs.Marks.{offers-each, told-each, told-own}
@@ -25,11 +25,11 @@ module _ (at : Sets) (now after : Progress) (node : ℕ) (taken : Option Mark) (
 
   order_row : (who : ℕ) → Each (Behind (sent who)) (marks who) → ArePromisedLast (sent who) → ArePromisedLast (marks_after who)
   order_row who behind g = elim (cases_eq who node) [
-    | inl is ↦ (let behind_node = subst (λ n. Each (Behind (sent n)) (marks n)) is behind in
-        subst (λ n. ArePromisedLast (marks_after n)) (sym is)
+    | inl fact ↦ (let behind_node = subst (λ n. Each (Behind (sent n)) (marks n)) fact behind in
+        subst (λ n. ArePromisedLast (marks_after n)) (sym fact)
         (subst ArePromisedLast (sym row.own)
         (promised_append row.left (sent node) (promised_left taken row.left (subst ArePromisedLast row.takes (o.order node))) (Each-split (Behind (sent node)) (listed taken) row.left (subst (Each (Behind (sent node))) row.takes behind_node)).1
-        (subst (λ n. ArePromisedLast (sent n)) is g))))
+        (subst (λ n. ArePromisedLast (sent n)) fact g))))
     | inr ne ↦ subst ArePromisedLast (sym (row.others who ne)) (promised_append (marks who) (sent who) (o.order who) behind g)
   ]
 
@@ -65,7 +65,7 @@ module _ (at : Sets) (now after : Progress) (node : ℕ) (taken : Option Mark) (
 
     stop_row : now.course.runs ≡ false → (who : ℕ) → AreLearntLast now.course.newest (marks_after who)
     stop_row off who = elim (cases_eq who node) [
-      | inl is ↦ subst (λ n. AreLearntLast now.course.newest (marks_after n)) (sym is) (subst (AreLearntLast now.course.newest) (sym row.own)
+      | inl fact ↦ subst (λ n. AreLearntLast now.course.newest (marks_after n)) (sym fact) (subst (AreLearntLast now.course.newest) (sym row.own)
           (last_counts now.course.newest row.left (sent node) (last_left taken row.left now.course.newest (subst (AreLearntLast now.course.newest) row.takes (o.stop off node))) (counts node)))
       | inr ne ↦ subst (AreLearntLast now.course.newest) (sym (row.others who ne)) (last_counts now.course.newest (marks who) (sent who) (o.stop off who) (counts who))
     ]
@@ -88,9 +88,9 @@ module _ (at : Sets) (now after : Progress) (node : ℕ) (taken : Option Mark) (
     own_none : Each IsNoPrepare (sent lead)
     own_none = subst (λ n. Each IsNoPrepare (sent n)) l.mine (subst (Each IsNoPrepare) (sym (l.sends node ∙ ap (λ t. t ++ l.offers node) (told-own at now.course node l.mine l.executed now.course.newest))) (offers_none node))
 
-    sent_each : (P : Mark → Type 0) → ((slot : ℕ) → P (Tells slot)) → ((slot : ℕ) → P (Installs slot)) → P (Prepares now.course.ballot) → ((ballot : Ballot) (slot : ℕ) → P (Asks ballot slot)) → (who : ℕ) → Each P (sent who)
+    sent_each : (P : Mark → Type 0) → ((slot : ℕ) → P (Teaches slot)) → ((slot : ℕ) → P (Installs slot)) → P (Prepares now.course.ballot) → ((ballot : Ballot) (slot : ℕ) → P (Asks ballot slot)) → (who : ℕ) → Each P (sent who)
     sent_each P tells installs prepares asks who =
-        subst (Each P) (sym (l.sends who)) (Each-append P (told_from at now.course now.course.newest l.executed who) (l.offers who) (told-each at now.course who P tells installs prepares l.executed now.course.newest)
+        subst (Each P) (sym (l.sends who)) (Each-append P (taught_from at now.course now.course.newest l.executed who) (l.offers who) (told-each at now.course who P tells installs prepares l.executed now.course.newest)
         (offers-each P at after.course now.course.bound who (λ ballot s least most. asks ballot s) (l.offers who) (l.asks who)))
 
     behind_sent : (who : ℕ) → (who ≡ lead → ⊥) → (mark : Mark) → IsHome now.course who mark → Behind (sent who) mark
@@ -99,7 +99,7 @@ module _ (at : Sets) (now after : Progress) (node : ℕ) (taken : Option Mark) (
 
     order_then : (who : ℕ) → ArePromisedLast (marks_after who)
     order_then who = order_row who (elim (cases_eq who lead) [
-      | inl is ↦ subst (λ n. Each (Behind (sent n)) (marks n)) (sym is) (each_all (Behind (sent lead)) (behind_none (sent lead) own_none) (marks lead))
+      | inl fact ↦ subst (λ n. Each (Behind (sent n)) (marks n)) (sym fact) (each_all (Behind (sent lead)) (behind_none (sent lead) own_none) (marks lead))
       | inr ne ↦ Each-weaker (IsHome now.course who) (Behind (sent who)) (behind_sent who ne) (marks who) (o.home who)
     ]) (no_promised (sent who) (sent_each IsNoPromise (λ _. tt) (λ _. tt) tt (λ _ _. tt) who))
 
@@ -124,9 +124,9 @@ module _ (at : Sets) (now after : Progress) (node : ℕ) (taken : Option Mark) (
         let old = not_last now.course.newest after.course.newest (now.next who) (now.promise who) (marks who) (was.fits who) (was.within who) later in
         let new = subst (AreLearntLast after.course.newest) (sym (l.sends who)) (last_told at now.course after.course now.course.bound who after.course.newest (l.offers who) (l.asks who) l.executed now.course.newest (sym up)) in
         elim (cases_eq who node) [
-          | inl is ↦ subst (λ n. AreLearntLast after.course.newest (marks_after n)) (sym is) (subst (AreLearntLast after.course.newest) (sym row.own)
-              (last_append after.course.newest row.left (sent node) (Each-split (IsNotLast after.course.newest) (listed taken) row.left (subst (Each (IsNotLast after.course.newest)) row.takes (subst (λ n. Each (IsNotLast after.course.newest) (marks n)) is old))).1
-              (subst (λ n. AreLearntLast after.course.newest (sent n)) is new)))
+          | inl fact ↦ subst (λ n. AreLearntLast after.course.newest (marks_after n)) (sym fact) (subst (AreLearntLast after.course.newest) (sym row.own)
+              (last_append after.course.newest row.left (sent node) (Each-split (IsNotLast after.course.newest) (listed taken) row.left (subst (Each (IsNotLast after.course.newest)) row.takes (subst (λ n. Each (IsNotLast after.course.newest) (marks n)) fact old))).1
+              (subst (λ n. AreLearntLast after.course.newest (sent n)) fact new)))
           | inr ne ↦ subst (AreLearntLast after.course.newest) (sym (row.others who ne)) (last_append after.course.newest (marks who) (sent who) old new)
         ]
 

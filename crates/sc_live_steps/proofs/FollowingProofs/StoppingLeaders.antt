@@ -45,7 +45,7 @@ ReadyAlone course r = (slot : ℕ) (command : Command) → next r ≤ slot → a
 pub alone_on : (at : Sets) (course : Course) (command : Command) (r after : ReplicaState) → IsLed at course r → IsOn command r after → ReadyAlone course r → ReadyAlone course after
 alone_on at course command r after led on alone slot other least e act =
     let up = on_next command r after on in
-    let old : at_slot r.ready slot ≡ Some other = sym (on_ready command r after on slot (λ is. omega (arith, least, up, is))) ∙ e in
+    let old : at_slot r.ready slot ≡ Some other = sym (on_ready command r after on slot (λ fact. omega (arith, least, up, fact))) ∙ e in
     let bound = alone slot other (omega (arith, least, up)) old act in
     let none : None ≡ Some other = sym (none_taken r slot (led.may.free slot (omega (arith, bound, least, up)))).1 ∙ old in
     cc
@@ -59,7 +59,7 @@ module _ (at : Sets) (course : Course) (command : Command) (place : Place) (led 
 
   off_bound : IsOff command place.0 mid.0 → next mid.0 ≡ course.bound
   off_bound off = (let bound = alone (next place.0) command (omega arith) ready (off_acts at course place.0 mid.0 led command off) in
-      let up : next mid.0 ≡ next place.0 + 1 = ap next off.is ∙ entered_next command place.0 in
+      let up : next mid.0 ≡ next place.0 + 1 = ap next off.fact ∙ entered_next command place.0 in
       omega (arith, bound, up))
 
   -- an entry, those that are ready behind it, and a pump
@@ -67,10 +67,10 @@ module _ (at : Sets) (course : Course) (command : Command) (place : Place) (led 
   step_alone es are rest = elim (past.state) [
     | inl on ↦ (let b : LeadsBy at course mid (executed_ready es mid).0 = ready_leads at course es mid (on_leads at course command place.0 led ready is_next mid.0 on) are in
         elim (b.state) [
-          | inl still ↦ λ off. absurd (true≢false (sym (ap (λ (q : ReplicaState). q.running) (pumps_offer at _ (executed_ready es mid).0 still.led.may).is ∙ still.led.running) ∙ off))
+          | inl still ↦ λ off. absurd (true≢false (sym (ap (λ (q : ReplicaState). q.running) (pumps_offer at _ (executed_ready es mid).0 still.led.may).fact ∙ still.led.running) ∙ off))
           | inr stopped ↦ subst (λ (p : Place). StopsAlone course p.0) (sym (idle_pump (executed_ready es mid).0 stopped.0.running)) (rest (on_leads at course command place.0 led ready is_next mid.0 on) (alone_on at course command place.0 mid.0 led on alone))
         ])
-    | inr off ↦ (let still : mid.0.running ≡ false = ap (λ (q : ReplicaState). q.running) off.is in
+    | inr off ↦ (let still : mid.0.running ≡ false = ap (λ (q : ReplicaState). q.running) off.fact in
         subst (λ (s : Executed). StopsAlone course (pumped s.0).0) (sym (idle_ready es mid still)) (subst (λ (p : Place). StopsAlone course p.0) (sym (idle_pump mid still)) (λ _. off_bound off)))
   ]
 

@@ -136,7 +136,7 @@ kept_after command r = (refl, refl, refl)
 
 -- A replica that learns an entry by which it is to lead next elects itself, if it has a later round, and by any other entry it does not.
 pub heirs_elect : HeirsElect
-heirs_elect at by now hints marks slot rest command r h is told = elim (nodes_heed.told at by now hints marks r.me slot rest h told.other is) [
+heirs_elect at by now hints marks slot rest command r h fact told = elim (nodes_heed.told at by now hints marks r.me slot rest h told.other fact) [
   | inl m ↦ inl (inl (hinted ∙ m))
   | inr (inl least) ↦ inl (inr (inl (λ e. least (ap least_of told.members_are ∙ (e ∙ kept.1)))))
   | inr (inr last) ↦ by_gone last (entered command r).group.core.gone refl
@@ -160,7 +160,7 @@ heirs_elect at by now hints marks slot rest command r h is told = elim (nodes_he
             last = last.1;
             may = λ round. record {
               stands = e;
-              hint = hinted ∙ subst (λ n. is_among (members_at at n) (hints r.me) ≡ false) newest (nodes_heed.last at by now hints marks r.me slot rest h last.0 stands is last.1);
+              hint = hinted ∙ subst (λ n. is_among (members_at at n) (hints r.me) ≡ false) newest (nodes_heed.last at by now hints marks r.me slot rest h last.0 stands fact last.1);
               least = mine;
               round = (let same = ap (λ (b : Ballot). b.round) kept.2 in omega (arith, same, round));
             };
@@ -173,6 +173,6 @@ heirs_elect at by now hints marks slot rest command r h is told = elim (nodes_he
 pub leaders_leave_last : LeadersLeaveLast
 leaders_leave_last at by now taken r after was l counts alone = record {
   counts = counts;
-  stayed = λ slot least most. ap (is_member (members_at at (slot + 1))) was.led.mine ∙ l.stayed slot (let is = was.newest in omega (arith, least, is)) most;
+  stayed = λ slot least most. ap (is_member (members_at at (slot + 1))) was.led.mine ∙ l.stayed slot (let fact = was.newest in omega (arith, least, fact)) most;
   alone = alone;
 }

@@ -1,11 +1,11 @@
 use Rattle.std.proofs.Common.{rules, ◌≡◌, ◌∙◌, ap, sym, subst, None, true, false}
 use Rattle.sc_actor.specs.declared.rows.Event.TheVariants.{Told}
-use Rattle.sc_thread_workers.proofs.Lists.{get_any}
+use Rattle.sc_thread_workers.proofs.ChangedLists.{get_any}
 use Rattle.sc_thread_drive.specs.Acts.{HasHalted}
 use Rattle.sc_thread_drive.specs.Rows.{row_made}
 use Rattle.sc_thread_drive.specs.Stepping.{IsPlace, IsNowhere, unless_crashed}
-use Rattle.sc_thread_drive.specs.Working.{RowEnds}
-use Rattle.sc_thread_drive.proofs.Working.{happens_crashed, happens_not, happens_out, happens_so}
+use Rattle.sc_thread_drive.specs.CompanyRows.{RowEnds}
+use Rattle.sc_thread_drive.proofs.CompanyActs.{happens_crashed, happens_not, happens_out, happens_so}
 use Rattle.sc_thread_drive.proofs.actor_lines.tell.Goals as goal
 
 pub returns-in_default : goal.returns-in_default
