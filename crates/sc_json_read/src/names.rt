@@ -6,7 +6,7 @@ ghost use Rattle.sc_json_text.specs.rows.Names.{draw_json, FitsDraw, ballot_json
 
 use crate::errors::RowError;
 use crate::from_json::{FromJson, Present};
-use crate::reading::pair_in;
+use crate::items::pair_in;
 use sc_base::{Ballot, Draw, read_number};
 use serde_json::Value as Json;
 use std::alloc::Global;

@@ -12,8 +12,8 @@ ghost use Rattle.sc_json_read.specs.Reading.{Finds, Shows};
 
 use crate::errors::RowError;
 use crate::from_json::{FromJson, Present};
+use crate::items::{pair_in, triple_in};
 use crate::lists::items_of;
-use crate::reading::{pair_in, triple_in};
 use sc_base::{Key, Members, Noted, Ordered, OutOfMemory, RingArc, Value};
 use serde_json::Value as Json;
 use std::alloc::Global;

@@ -4,7 +4,7 @@ use Rattle.serde_json.specs.View.{members_view}
 use Rattle.sc_json_read.specs.Reading.{Finds}
 use Rattle.sc_json_read.proofs.Finding.{failed}
 use Rattle.sc_json_read.proofs.Rests.{inside, behind_six}
-use Rattle.sc_json_read.proofs.reading.twelve_of.Goals as goal
+use Rattle.sc_json_read.proofs.objects.twelve_of.Goals as goal
 
 pub returns-in_err-ended-clause-finds : goal.returns-in_err-ended-clause-finds
 returns-in_err-ended-clause-finds g c = λ a b c' d e f g' h i j k l fa fb fc fd fe ff fg fh fi fj fk fl same.

@@ -2,7 +2,7 @@ use Rattle.std.proofs.Common.{◌≡◌, true, false, ◌<◌, btree_map_len, sy
 use Rattle.serde_json.specs.View.{view}
 use Rattle.sc_json_read.specs.Reading.{Spells}
 use Rattle.sc_json_read.proofs.Members.{parts_of_first, spells_only}
-use Rattle.sc_json_read.proofs.reading.variant_parts.Goals as goal
+use Rattle.sc_json_read.proofs.tagged.variant_parts.Goals as goal
 
 pub returns-in-Some-clause-finds : goal.returns-in-Some-clause-finds
 returns-in-Some-clause-finds c = λ may. let parts = parts_of_first c.args.json.now c.in-Object.members c.in-Some.name.now c.in-Some.content.now c.in-Object.is c.in-Some.ensures.first in (c.as_str-in-Some.ensures.value ∙ parts.0, parts.1)
