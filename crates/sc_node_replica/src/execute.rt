@@ -256,9 +256,9 @@ impl Replica {
     }
 
     /// Stops a replica that runs, where its group is gone or its node is no longer a member:
-    /// clients with a call in flight, ready or queued are answered so, and the desk gets a result of
-    /// each queued order. Does nothing for a replica that does not run. Mails are appended to those that
-    /// are there. After `Err(OutOfMemory)` the replica may only be dropped.
+    /// clients with a request in flight, ready or queued are answered so, and the desk gets a result
+    /// of each queued order. Does nothing for a replica that does not run. Mails are appended to those
+    /// that are there. After `Err(OutOfMemory)` the replica may only be dropped.
     #[tactic(auto, unfolding(sc_node_table::specs::Execute::left))]
     pub fn leave(&mut self, out: &mut Sequence<Mail>) -> Result<(), OutOfMemory>
         ensures row { OnOk result ((self.new, out.new) ≡ left (self.old, out.old)) }
