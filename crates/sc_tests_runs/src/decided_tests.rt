@@ -2,7 +2,7 @@
 //! compared with a second implementation of the rules: the ring, which covers the circle, the
 //! history, which is legal, and the effective record of each group. Stored scenarios show the other
 //! changes of groups, by what `explain` says of them.
-use crate::replay_tests::{Question, tells};
+use crate::replay_tests::{Question, holds_of_run};
 use sc_base::Draw;
 use sc_meaning::Cut;
 use sc_words::Base;
@@ -23,7 +23,7 @@ const BEFORE_A: u32 = 1_610_612_736;
 
 /// A group of the decided ring: the beginning and the length of its cut, and of its effective
 /// record the neighbours, the members, and the number of pairs.
-pub struct Told {
+pub struct ExpectedGroup {
     group: Draw,
     lo: u32,
     len: u64,
@@ -35,13 +35,13 @@ pub struct Told {
 
 // A scenario, the groups of the ring that its run leaves, and the number of requests that took
 // effect.
-type Case = (&'static [u8], &'static [Told], usize);
+type Case = (&'static [u8], &'static [ExpectedGroup], usize);
 
 // Of two groups one is left.
 const MERGE: Case = (
     b"scatter 1\nnodes 2\ngroup 0 1\ngroup 2147483648 2\nclient 1\nput a x\nget a\nend\n\
         go 1\nsettle 100\norder 1 merge 0.1\nsettle 100\n",
-    &[Told {
+    &[ExpectedGroup {
         group: LOWER,
         lo: 0,
         len: 4_294_967_296,
@@ -58,7 +58,7 @@ const REPART: Case = (
     b"scatter 1\nnodes 2\ngroup 0 1\ngroup 2147483648 2\nclient 1\nput a x\nend\n\
         go 1\nsettle 100\norder 1 repart 0.1 1610612736\nsettle 7\n",
     &[
-        Told {
+        ExpectedGroup {
             group: LOWER,
             lo: 0,
             len: 1_610_612_736,
@@ -67,7 +67,7 @@ const REPART: Case = (
             members: &[1],
             pairs: 0,
         },
-        Told {
+        ExpectedGroup {
             group: UPPER,
             lo: BEFORE_A,
             len: 2_684_354_560,
@@ -80,23 +80,23 @@ const REPART: Case = (
     1,
 );
 
-fn is_cut(cut: &Cut, told: &Told) -> bool {
-    cut.group == told.group && cut.arc.lo() == told.lo && cut.arc.len() == told.len
+fn is_cut(cut: &Cut, group: &ExpectedGroup) -> bool {
+    cut.group == group.group && cut.arc.lo() == group.lo && cut.arc.len() == group.len
 }
 
-fn has_cut(ring: &[Cut], told: &Told) -> bool {
-    ring.iter().any(|cut| is_cut(cut, told))
+fn has_cut(ring: &[Cut], group: &ExpectedGroup) -> bool {
+    ring.iter().any(|cut| is_cut(cut, group))
 }
 
 // Returns whether the cuts of a ring that covers are those of the groups.
-fn is_ring(ring: &[Cut], tolds: &[Told]) -> bool {
-    let has_each = tolds.iter().all(|told| has_cut(ring, told));
-    has_each && ring.len() == tolds.len() && covers(ring)
+fn is_ring(ring: &[Cut], expected: &[ExpectedGroup]) -> bool {
+    let has_each = expected.iter().all(|group| has_cut(ring, group));
+    has_each && ring.len() == expected.len() && covers(ring)
 }
 
-fn has_ring(rt: &impl Abort, alloc: Global, world: &World<'_>, tolds: &[Told]) -> bool {
+fn has_ring(rt: &impl Abort, alloc: Global, world: &World<'_>, expected: &[ExpectedGroup]) -> bool {
     let ring = decided_ring(alloc, world).expect(rt, "memory");
-    is_ring(ring.as_slice(), tolds)
+    is_ring(ring.as_slice(), expected)
 }
 
 // Returns whether a history is legal and has this number of entries.
@@ -108,29 +108,34 @@ fn has_history(rt: &impl Abort, alloc: Global, world: &World<'_>, count: usize) 
     is_legal && is_long
 }
 
-fn is_record(base: &Base, told: &Told) -> bool {
+fn is_record(base: &Base, group: &ExpectedGroup) -> bool {
     let core = &base.core;
-    core.arc.lo() == told.lo
-        && core.arc.len() == told.len
-        && core.succ.group == told.succ
-        && core.pred.group == told.pred
-        && core.members.as_slice() == told.members
-        && base.pairs.len() == told.pairs
+    core.arc.lo() == group.lo
+        && core.arc.len() == group.len
+        && core.succ.group == group.succ
+        && core.pred.group == group.pred
+        && core.members.as_slice() == group.members
+        && base.pairs.len() == group.pairs
 }
 
-fn has_record(rt: &impl Abort, alloc: Global, world: &World<'_>, told: &Told) -> bool {
-    let base = effective(alloc, world, told.group).expect(rt, "memory");
+fn has_record(rt: &impl Abort, alloc: Global, world: &World<'_>, group: &ExpectedGroup) -> bool {
+    let base = effective(alloc, world, group.group).expect(rt, "memory");
     let is = match &base {
-        Some(base) => is_record(base, told),
+        Some(base) => is_record(base, group),
         None => false,
     };
     forget(base);
     is
 }
 
-fn has_records(rt: &impl Abort, alloc: Global, world: &World<'_>, tolds: &[Told]) -> bool {
-    for told in tolds {
-        if !has_record(rt, alloc, world, told) {
+fn has_records(
+    rt: &impl Abort,
+    alloc: Global,
+    world: &World<'_>,
+    expected: &[ExpectedGroup],
+) -> bool {
+    for group in expected {
+        if !has_record(rt, alloc, world, group) {
             return false;
         }
     }
@@ -142,18 +147,18 @@ pub fn has_groups(
     rt: &impl Abort,
     alloc: Global,
     world: &World<'_>,
-    tolds: &[Told],
+    expected: &[ExpectedGroup],
     count: usize,
 ) -> bool {
-    has_ring(rt, alloc, world, tolds)
-        && has_records(rt, alloc, world, tolds)
+    has_ring(rt, alloc, world, expected)
+        && has_records(rt, alloc, world, expected)
         && has_history(rt, alloc, world, count)
 }
 
 // Returns whether the rows of a run decide these groups and this number of requests.
 fn leaves<R: Abort + Threads + Wait + Sync>(rt: &R, alloc: Global, case: &Case) -> bool {
-    let (input, tolds, count) = *case;
-    tells(rt, alloc, input, Question::Groups(tolds, count))
+    let (input, expected, count) = *case;
+    holds_of_run(rt, alloc, input, Question::Groups(expected, count))
 }
 
 #[test]
