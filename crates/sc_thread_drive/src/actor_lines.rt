@@ -50,7 +50,7 @@ pub(crate) fn happen<A: Actor, R: Wait>(
 
 /// Lets an order be given to an actor, unless it has crashed or has no shell. Returns whether a row
 /// was made.
-pub(crate) fn tell<A: Actor, R: Wait>(
+pub(crate) fn give_order<A: Actor, R: Wait>(
     rt: &R,
     alloc: Global,
     company: &mut Company<A>,

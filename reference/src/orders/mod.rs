@@ -8,7 +8,7 @@ mod queue;
 mod results;
 mod rows;
 mod run;
-mod told;
+mod happened;
 
 pub use causes::*;
 pub use marks::*;

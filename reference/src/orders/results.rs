@@ -3,7 +3,7 @@
 use super::causes::words;
 use super::marks::Marks;
 use super::rows::Step;
-use super::told::{put_back, reported};
+use super::happened::{put_back, reported};
 use crate::values::*;
 use std::collections::{BTreeMap, BTreeSet};
 

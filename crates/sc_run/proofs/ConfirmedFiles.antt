@@ -38,13 +38,13 @@ not_unlawful file scenario rows is lawful source left what text read those reads
     let also : Lawful as_nodes two_words read those = subst (λ s. Lawful as_nodes two_words s those) same.0 (subst (Lawful as_nodes two_words scenario) same.1 lawful) in
     holds.unlawful.not_with (prefix_lawful read those holds.at also)
 
-pub told : FilesHaveOneVerdict → LawfulFilesAreConfirmed
-told one file scenario rows is lawful source left what text (inl (inl fails)) = inr fails.said_is
-told one file scenario rows is lawful source left what text (inl (inr names)) = absurd (not_bad one file scenario rows is source left what text names)
-told one file scenario rows is lawful source left what text (inr reads) =
+pub confirmed_if_lawful : FilesHaveOneVerdict → LawfulFilesAreConfirmed
+confirmed_if_lawful one file scenario rows is lawful source left what text (inl (inl fails)) = inr fails.said_is
+confirmed_if_lawful one file scenario rows is lawful source left what text (inl (inr names)) = absurd (not_bad one file scenario rows is source left what text names)
+confirmed_if_lawful one file scenario rows is lawful source left what text (inr reads) =
     elim reads.audits as (λ _. SaysYes what) [ inl lawful_is ↦ inl lawful_is.said_is | inr bad ↦ absurd (not_unlawful file scenario rows is lawful source left what text reads.scenario reads.rows reads.read bad) ]
 
 pub printed_confirmed : FilesHaveOneVerdict → PrintedFilesAreFiles → PrintedJournalsAreConfirmed
 printed_confirmed one files bytes scenario rows printed read reports few source left what text says =
     let lines = ap concat reports.lines.0 in
-    told one (file_text bytes rows) scenario rows (files bytes scenario rows read reports.lines.1 (subst (λ file. length file ≤ most_file_bytes) lines few)) reports.lawful source (left ∙ ap Some lines) what text says
+    confirmed_if_lawful one (file_text bytes rows) scenario rows (files bytes scenario rows read reports.lines.1 (subst (λ file. length file ≤ most_file_bytes) lines few)) reports.lawful source (left ∙ ap Some lines) what text says

@@ -56,7 +56,7 @@ def tell_each(ended):
         print(f"order {number}: " + counted(said))
 
 
-def tell_worst(text, ended, worst):
+def report_worst(text, ended, worst):
     """Prints the runs that answered the fewest requests."""
     for outcome in sorted(ended, key=Outcome.rank)[:worst]:
         said = f"answered {outcome.answered} of {len(outcome.requests)}"
@@ -67,7 +67,7 @@ def tell_worst(text, ended, worst):
         )
 
 
-def tell(file, text, outcomes, lost):
+def report(file, text, outcomes, lost):
     """Prints what the runs of one file came to, and gives those that ended."""
     print(f"{file}: {len(outcomes)} runs with {len(STORM.findall(text))} storms each")
     if lost:

@@ -6,7 +6,7 @@ use Rattle.sc_thread_drive.specs.Rows.{row_made}
 use Rattle.sc_thread_drive.specs.Stepping.{IsPlace, IsNowhere, unless_crashed}
 use Rattle.sc_thread_drive.specs.CompanyRows.{RowEnds}
 use Rattle.sc_thread_drive.proofs.CompanyActs.{happens_crashed, happens_not, happens_out, happens_so}
-use Rattle.sc_thread_drive.proofs.actor_lines.tell.Goals as goal
+use Rattle.sc_thread_drive.proofs.actor_lines.give_order.Goals as goal
 
 pub returns-in_default : goal.returns-in_default
 returns-in_default g c =
