@@ -1,10 +1,10 @@
 //! The rows of a run, one after another, with the node before and after each.
 
+use super::happened;
 use super::marks::Marks;
 use super::patience::Patience;
 use super::queue::Queue;
 use super::results::Results;
-use super::happened;
 use crate::decided::Decided;
 use crate::mail::*;
 use crate::node::Node;
