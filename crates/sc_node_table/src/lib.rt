@@ -55,7 +55,7 @@ pub struct Before {
 }
 
 /// States that the table's test of two commands is true exactly where they are equal.
-pub fn commands_are_distinguished()
+pub fn commands_are_told_apart()
     ensures { DecidesCommands }
 {}
 
