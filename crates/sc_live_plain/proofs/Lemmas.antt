@@ -39,7 +39,7 @@ pub use Rattle.sc_live_plain.proofs.CalmProofs.RequestsAfterQuiet.{quiet_ask}
 pub use Rattle.sc_live_plain.proofs.CalmProofs.CalmWaitingRequests.{sought_row}
 pub use Rattle.sc_live_plain.proofs.CalmProofs.SoughtRequests.{AreSought, IsSought}
 pub use Rattle.sc_live_plain.proofs.CalmProofs.RequestLines.{lines_answered, asked_node}
-pub use Rattle.sc_live_plain.proofs.LeadersProofs.Flights.{numbered_get, numbered_past, only_flight, voted_count, closed_set, flight_stands, vote_kept}
+pub use Rattle.sc_live_plain.proofs.LeadersProofs.Flights.{numbered_get, numbered_past, only_flight, voted_count, closed_set, flight_stands}
 pub use Rattle.sc_live_plain.proofs.Laws.{plain_lines_end_quiet, requests_go_on, quiet_journals_ask}
 pub use Rattle.sc_live_plain.proofs.BudgetProofs.LastLineEnds.{all_plain, last_lines_quiet}
 pub use Rattle.sc_live_plain.proofs.BudgetProofs.PlainLineEnds.{lines_plain}
