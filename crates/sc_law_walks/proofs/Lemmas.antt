@@ -23,8 +23,8 @@ pub use Rattle.sc_law_walks.proofs.TableRows.{put_there, taken_runs, leads_on, e
 pub use Rattle.sc_law_walks.proofs.CommandWalks.{VoteWalk, vote_step, decided_walk, WatchWalk, watch_step, FinishWalk, finish_step}
 pub use Rattle.sc_law_walks.proofs.Routes.{takes_by}
 pub use Rattle.sc_law_walks.proofs.AscendingMembers.{none_below}
-pub use Rattle.sc_law_walks.proofs.ReplicaNodes.{FoundOne, found_one, EachReplica, ReplicaRows, node_step}
-pub use Rattle.sc_law_walks.proofs.Replays.{replay_keeps, got_no_go}
+pub use Rattle.sc_law_walks.proofs.ReplicaNodes.{FoundOne, found_one, replaced_each, added_each, EachReplica, ReplicaRows, node_step}
+pub use Rattle.sc_law_walks.proofs.Replays.{StepsHold, replay_keeps, got_no_go}
 pub use Rattle.sc_law_walks.proofs.Lists.{Each-drop, map_among}
 pub use Rattle.sc_law_walks.proofs.RefusedOrders.{order_refused}
 pub use Rattle.sc_law_walks.proofs.TransactionRows.{TransactionParts}

@@ -2,18 +2,19 @@
 use Rattle.std.proofs.Common.{◌≡◌, ℕ, nat_lt, eqb, Bool, List, [], ◌∷◌, ◌++◌, length, Option, Some, None, sym, ◌∙◌, subst, ap, append_assoc}
 use Rattle.std.specs.Prelude.{is_some}
 use Rattle.std.proofs.lemmas.Bool.{eqb-true}
-use Rattle.sc_base.specs.Definitions.{Drawer, Each, same_draw}
+use Rattle.sc_base.specs.Definitions.{Drawer, Each}
 use Rattle.sc_node_table.specs.Values.{Draw, Input, Got, Base, OrderLine, Mail, MailBody, NotLeader, Request, Prepare, Accept, Learn, Ask, Install, TxPrepare, TxElsewhere, TxWatch, Told as ToldMail, Refused}
 use Rattle.sc_actor.specs.declared.rows.Input.TheVariants.{Tick, Go, Told}
 use Rattle.sc_words.specs.declared.commands.orders.OrderRefusal.TheVariants.{NotLeader as OrderNotLeader}
 use Rattle.sc_words.proofs.PaxosProofs.Lemmas.{Each-weaker}
-use Rattle.sc_node_table.specs.Definitions.{sent, NodeState, replica_of, with_replica, is_before, with_new, group_of_mail, with_made, unknown, may_come, with_born, with_children, taken_by, routed, on_mail, group_of_order, ordered_of, node_table, ordered_row, ReplicaState, Place, Executed, name_of, last_slot, born_replica, made_by, mailed, slots_ahead, ticked, on_tick, tick_row, names_after_tick}
+use Rattle.sc_node_table.specs.Definitions.{sent, NodeState, replica_of, with_replica, with_new, group_of_mail, with_made, unknown, may_come, with_born, with_children, taken_by, routed, on_mail, group_of_order, ordered_of, node_table, ordered_row, ReplicaState, Place, Executed, last_slot, born_replica, made_by, mailed, slots_ahead, ticked, on_tick, tick_row, names_after_tick}
 use Rattle.sc_law_walks.proofs.Ways.{either_way, unless_so}
 use Rattle.sc_law_walks.proofs.PlaceWalks.{PlaceWalk, PlaceBirths, PlaceTicks, Before, After, Hears}
 use Rattle.sc_law_walks.proofs.PlaceParts.{on_late}
 use Rattle.sc_law_walks.proofs.PlaceRows.{takes_mail, orders, creation, makes}
 use Rattle.sc_law_walks.proofs.PlaceTicks.{ticks}
 use Rattle.sc_law_walks.proofs.MailsGrow.{Begins, begins_itself, tick_grows}
+use Rattle.sc_law_walks.proofs.ReplicaNodes.{FoundOne, found_one, replaced_each, added_each}
 
 -- a node's step on any input that it may take keeps what holds of the node
 abbrev pub NodeSteps : (Input Mail OrderLine → Type 0) → (NodeState → Type 0) → (NodeState × List Mail → Type 0) → Type 0
@@ -25,6 +26,12 @@ module _ (w : PlaceWalk) (b : PlaceBirths w.facts) where
   abbrev pub AllEarly : List ReplicaState → Type 0
   AllEarly replicas = Each (λ r. Before w.facts (r, [])) replicas
 
+  abbrev AfterWith : List Mail → ReplicaState → Type 0
+  AfterWith mails r = After w.facts (r, mails)
+
+  abbrev Early : ReplicaState → Type 0
+  Early r = Before w.facts (r, [])
+
   abbrev pub AllLate : List Mail → List ReplicaState → Type 0
   AllLate mails replicas = Each (λ r. After w.facts (r, mails)) replicas
 
@@ -34,22 +41,6 @@ module _ (w : PlaceWalk) (b : PlaceBirths w.facts) where
   -- the mails of another replica are put beside
   all_beside : (mails : List Mail) (replicas : List ReplicaState) → b.Rest mails → AllLate [] replicas → AllLate mails replicas
   all_beside mails replicas rest k = Each-weaker (λ r. After w.facts (r, [])) (λ r. After w.facts (r, mails)) (λ r l. (l.0, b.beside r [] mails rest l.1)) replicas k
-
-  put_late : (group : Draw) (new : ReplicaState) (mails : List Mail) (replicas : List ReplicaState) → After w.facts (new, mails) → AllLate mails replicas → AllLate mails (with_replica group new replicas)
-  put_late group new mails [] n k = tt
-  put_late group new mails (r ∷ replicas) n k = either_way (AllLate mails) (same_draw (name_of r) group) _ _ (n, k.1) (k.0, put_late group new mails replicas n k.1)
-
-  new_late : (new : ReplicaState) (mails : List Mail) (replicas : List ReplicaState) → After w.facts (new, mails) → AllLate mails replicas → AllLate mails (with_new new replicas)
-  new_late new mails [] n k = (n, tt)
-  new_late new mails (r ∷ replicas) n k = either_way (AllLate mails) (is_before (name_of r) (name_of new)) _ _ (k.0, new_late new mails replicas n k.1) (n, k)
-
-  abbrev Found : Option ReplicaState → Type 0
-  Found None = Unit {0}
-  Found (Some r) = Before w.facts (r, [])
-
-  found_early : (group : Draw) (replicas : List ReplicaState) → AllEarly replicas → Found (replica_of group replicas)
-  found_early group [] k = tt
-  found_early group (r ∷ replicas) k = either_way Found (same_draw (name_of r) group) (Some r) (replica_of group replicas) k.0 (found_early group replicas k.1)
 
   -- ---- a node of this number
 
@@ -69,7 +60,7 @@ module _ (w : PlaceWalk) (b : PlaceBirths w.facts) where
   rests node k = (k.0, all_late node.replicas k.1)
 
   made_step : (place : Place) (node : NodeState) → After w.facts place → Stands [] node → Step (with_made place node)
-  made_step (r, mails) node n k = (let rest = b.rest (r, mails) n.1 in ((k.0, new_late r mails node.replicas n (all_beside mails node.replicas rest k.1)), rest))
+  made_step (r, mails) node n k = (let rest = b.rest (r, mails) n.1 in ((k.0, added_each (AfterWith mails) r node.replicas n (all_beside mails node.replicas rest k.1)), rest))
 
   -- what is answered where there is no replica
   sent_one : (node : NodeState) (to : ℕ) (body : MailBody) → Stands [] node → b.Rest (sent node.me to body []) → Step (node, sent node.me to body [])
@@ -92,7 +83,7 @@ module _ (w : PlaceWalk) (b : PlaceBirths w.facts) where
       let born = creation w b child in
       let beside : After w.facts (born_replica slots_ahead w.facts.me child, mails) = (born.0, b.beside (born_replica slots_ahead w.facts.me child) [] mails rest born.1) in
       either_way (Stands mails) (is_some (replica_of child.core.id node.replicas)) node (record node { replicas = with_new (born_replica slots_ahead node.me child) node.replicas }) k
-      (k.0, new_late (born_replica slots_ahead node.me child) mails node.replicas (subst (λ m. After w.facts (born_replica slots_ahead m child, mails)) (sym k.0) beside) k.1)
+      (k.0, added_each (AfterWith mails) (born_replica slots_ahead node.me child) node.replicas (subst (λ m. After w.facts (born_replica slots_ahead m child, mails)) (sym k.0) beside) k.1)
 
   children_step : (children : List Base) (mails : List Mail) (node : NodeState) → b.Rest mails → Stands mails node → Stands mails (with_children children node)
   unfolding with_children
@@ -101,9 +92,9 @@ module _ (w : PlaceWalk) (b : PlaceBirths w.facts) where
 
   -- a replica's row, beside the other replicas
   put_step : (group : Draw) (r : ReplicaState) (mails : List Mail) (node : NodeState) → After w.facts (r, mails) → Stands [] node → AllLate mails (with_replica group r node.replicas) × b.Rest mails
-  put_step group r mails node n k = (let rest = b.rest (r, mails) n.1 in (put_late group r mails node.replicas n (all_beside mails node.replicas rest k.1), rest))
+  put_step group r mails node n k = (let rest = b.rest (r, mails) n.1 in (replaced_each (AfterWith mails) group r node.replicas n (all_beside mails node.replicas rest k.1), rest))
 
-  taken_step : (o : Option ReplicaState) (group : Draw) (from : ℕ) (body : MailBody) (node : NodeState) → Found o → Hears w.facts body → Stands [] node → Step (taken_by o group from body node)
+  taken_step : (o : Option ReplicaState) (group : Draw) (from : ℕ) (body : MailBody) (node : NodeState) → FoundOne Early o → Hears w.facts body → Stands [] node → Step (taken_by o group from body node)
   taken_step None group from body node f h k = unknown_step from body node h k
   taken_step (Some r) group from body node f h k =
       let after : Executed = mailed from body (r, []) in
@@ -112,12 +103,12 @@ module _ (w : PlaceWalk) (b : PlaceBirths w.facts) where
 
   routed_step : (o : Option Draw) (from : ℕ) (body : MailBody) (node : NodeState) → Hears w.facts body → Starts node → Step (routed o from body node)
   routed_step None from body node h k = idle node (rests node k)
-  routed_step (Some group) from body node h k = taken_step (replica_of group node.replicas) group from body node (found_early group node.replicas k.1) h (rests node k)
+  routed_step (Some group) from body node h k = taken_step (replica_of group node.replicas) group from body node (found_one Early group node.replicas k.1) h (rests node k)
 
   mail_step : (from : ℕ) (body : MailBody) (node : NodeState) → Hears w.facts body → Starts node → Step (on_mail from body node)
   mail_step from body node h k = either_way Step (may_come from body) (routed (group_of_mail body) from body node) (node, []) (routed_step (group_of_mail body) from body node h k) (idle node (rests node k))
 
-  ordered_step : (o : Option ReplicaState) (line : OrderLine) (node : NodeState) → Found o → Stands [] node → Step (ordered_of o line node)
+  ordered_step : (o : Option ReplicaState) (line : OrderLine) (node : NodeState) → FoundOne Early o → Stands [] node → Step (ordered_of o line node)
   ordered_step None line node f k = sent_one node 0 (ToldMail line.number (Refused (OrderNotLeader None))) k (b.refuses node.me line.number (Refused (OrderNotLeader None)) k.0)
   ordered_step (Some r) line node f k =
       let after : Place = ordered_row node.draws line (r, []) in
@@ -135,7 +126,7 @@ module _ (w : PlaceWalk) (b : PlaceBirths w.facts) where
   input_step node (Got mail) h k = mail_step mail.from mail.body node h k
   input_step node Tick h k = absurd h
   input_step node Go h k = idle node (rests node k)
-  input_step node (Told line) h k = ordered_step (replica_of (group_of_order line.order) node.replicas) line node (found_early (group_of_order line.order) node.replicas k.1) (rests node k)
+  input_step node (Told line) h k = ordered_step (replica_of (group_of_order line.order) node.replicas) line node (found_one Early (group_of_order line.order) node.replicas k.1) (rests node k)
 
   -- ---- .. and in ticks
 

@@ -7,7 +7,11 @@ use Rattle.sc_actor.specs.declared.rows.Row.{Row}
 use Rattle.sc_actor.specs.Definitions.{Table, acted, input_of, replay}
 use Rattle.sc_law_walks.proofs.Ways.{either_way}
 
-module _ {A M O : Type 0} (table : Table A M O) (Holds : A → Type 0) (steps : (actor : A) (input : Input M O) → Holds actor → Holds (table actor input).0) where
+-- the steps of an actor keep what holds of it
+abbrev pub StepsHold : {A M O : Type 0} → Table A M O → (A → Type 0) → Type 0
+StepsHold {A} {M} {O} table Holds = (actor : A) (input : Input M O) → Holds actor → Holds (table actor input).0
+
+module _ {A M O : Type 0} (table : Table A M O) (Holds : A → Type 0) (steps : StepsHold table Holds) where
   acted_keeps : (actor : A) (input : Option (Input M O)) → Holds actor → Holds (acted table actor input).0
   acted_keeps actor None k = k
   acted_keeps actor (Some input) k = steps actor input k

@@ -17,6 +17,16 @@ pub found_one : (W : ReplicaState → Type 0) (group : Draw) (replicas : List Re
 found_one W group [] k = tt
 found_one W group (r ∷ replicas) k = either_way (FoundOne W) (same_draw (name_of r) group) (Some r) (replica_of group replicas) k.0 (found_one W group replicas k.1)
 
+-- ---- one that is put in its place, or is new
+
+pub replaced_each : (W : ReplicaState → Type 0) (group : Draw) (new : ReplicaState) (replicas : List ReplicaState) → W new → Each W replicas → Each W (with_replica group new replicas)
+replaced_each W group new [] n all = tt
+replaced_each W group new (r ∷ replicas) n all = either_way (Each W) (same_draw (name_of r) group) _ _ (n, all.1) (all.0, replaced_each W group new replicas n all.1)
+
+pub added_each : (W : ReplicaState → Type 0) (new : ReplicaState) (replicas : List ReplicaState) → W new → Each W replicas → Each W (with_new new replicas)
+added_each W new [] n all = (n, tt)
+added_each W new (r ∷ replicas) n all = either_way (Each W) (is_before (name_of r) (name_of new)) _ _ (all.0, added_each W new replicas n all.1) (n, all)
+
 -- ---- a node
 
 -- a node of this number, of each of whose replicas it holds
@@ -35,18 +45,10 @@ module _ (me : ℕ) (W : ReplicaState → Type 0) (k : ReplicaRows me W) where
   abbrev N : NodeState → Type 0
   N = EachReplica me W
 
-  put : (group : Draw) (new : ReplicaState) (replicas : List ReplicaState) → W new → Each W replicas → Each W (with_replica group new replicas)
-  put group new [] n all = tt
-  put group new (r ∷ replicas) n all = either_way (Each W) (same_draw (name_of r) group) _ _ (n, all.1) (all.0, put group new replicas n all.1)
-
-  one_more : (new : ReplicaState) (replicas : List ReplicaState) → W new → Each W replicas → Each W (with_new new replicas)
-  one_more new [] n all = (n, tt)
-  one_more new (r ∷ replicas) n all = either_way (Each W) (is_before (name_of r) (name_of new)) _ _ (all.0, one_more new replicas n all.1) (n, all)
-
   unknown_step : (from : ℕ) (body : MailBody) (node : NodeState) → N node → N (unknown from body node).0
   unknown_step from (Install group slot base sets) node n =
       either_way (λ (step : NodeState × List Mail). N step.0) (not (eqb (length sets) slots_ahead) || nat_lt last_slot slot) (node, []) (with_made (made_by node.me from group slot base sets) node) n
-      (n.0, one_more _ node.replicas (subst (λ m. W (made_by m from group slot base sets).0) (sym n.0) (k.made from group slot base sets)) n.1)
+      (n.0, added_each W _ node.replicas (subst (λ m. W (made_by m from group slot base sets).0) (sym n.0) (k.made from group slot base sets)) n.1)
   unknown_step from _ node n = n
 
   children_step : (children : List Base) (node : NodeState) → N node → N (with_children children node)
@@ -55,13 +57,13 @@ module _ (me : ℕ) (W : ReplicaState → Type 0) (k : ReplicaRows me W) where
   children_step (child ∷ children) node n =
       children_step children (with_born child node)
       (either_way N (is_some (replica_of child.core.id node.replicas)) node (record node { replicas = with_new (born_replica slots_ahead node.me child) node.replicas }) n
-      (n.0, one_more (born_replica slots_ahead node.me child) node.replicas (subst (λ m. W (born_replica slots_ahead m child)) (sym n.0) (k.born child)) n.1))
+      (n.0, added_each W (born_replica slots_ahead node.me child) node.replicas (subst (λ m. W (born_replica slots_ahead m child)) (sym n.0) (k.born child)) n.1))
 
   taken_step : (o : Option ReplicaState) (group : Draw) (from : ℕ) (body : MailBody) (node : NodeState) → FoundOne W o → N node → N (taken_by o group from body node).0
   taken_step None group from body node f n = unknown_step from body node n
   taken_step (Some r) group from body node f n =
       let after : Executed = mailed from body (r, []) in
-      children_step after.1 (record node { replicas = with_replica group after.0.0 node.replicas }) (n.0, put group after.0.0 node.replicas (k.mail from body r f) n.1)
+      children_step after.1 (record node { replicas = with_replica group after.0.0 node.replicas }) (n.0, replaced_each W group after.0.0 node.replicas (k.mail from body r f) n.1)
 
   routed_step : (o : Option Draw) (from : ℕ) (body : MailBody) (node : NodeState) → N node → N (routed o from body node).0
   routed_step None from body node n = n
@@ -69,7 +71,7 @@ module _ (me : ℕ) (W : ReplicaState → Type 0) (k : ReplicaRows me W) where
 
   ordered_step : (o : Option ReplicaState) (line : OrderLine) (node : NodeState) → FoundOne W o → N node → N (ordered_of o line node).0
   ordered_step None line node f n = n
-  ordered_step (Some r) line node f n = (n.0, put (group_of_order line.order) (ordered_row node.draws line (r, [])).0 node.replicas (k.order node.draws line r f) n.1)
+  ordered_step (Some r) line node f n = (n.0, replaced_each W (group_of_order line.order) (ordered_row node.draws line (r, [])).0 node.replicas (k.order node.draws line r f) n.1)
 
   ticked_step : (on : Bool) (drawer : Drawer) (replicas : List ReplicaState) (mails : List Mail) → Each W replicas → Each W (ticked on drawer replicas mails).0
   unfolding ticked

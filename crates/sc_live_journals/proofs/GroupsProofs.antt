@@ -16,7 +16,7 @@ pub mod SlotLists
 pub mod SlotNodes
 pub mod SlotParts
 pub mod SlotRows
+pub mod PrefixesInTime
 pub mod TaughtGroups
-pub mod WellLedJournals
 pub mod OwnGreatestBallots
 pub mod Lemmas

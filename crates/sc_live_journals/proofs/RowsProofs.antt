@@ -14,7 +14,6 @@ pub mod MailRows
 pub mod SilentMail
 pub mod UnmovedLeaders
 pub mod ReplicaSteps
-pub mod FollowingJournals
 pub mod PlayerRows
 pub mod ReplicaViews
 pub mod Players

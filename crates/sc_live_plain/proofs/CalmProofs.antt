@@ -8,6 +8,7 @@ pub mod MoreCalmRequests
 pub mod RequestPhaseNodes
 pub mod RequestPhaseClients
 pub mod RequestsAfterQuiet
+pub mod RequestsLeftByRows
 pub mod SoughtRequests
 pub mod NodeRowsLeaveRequests
 pub mod CalmWaitingRequests

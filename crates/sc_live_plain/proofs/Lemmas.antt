@@ -9,7 +9,7 @@ pub use Rattle.sc_live_plain.proofs.PlainProofs.PlainBeginnings.{IsStage, stage,
 pub use Rattle.sc_live_plain.proofs.PlainRowsProofs.RowViews.{Journal, replica_is, replica_none, replica_others}
 pub use Rattle.sc_live_plain.proofs.PlainProofs.AnsweredPlainRequests.{replies_more, first_delivery, many_line}
 pub use Rattle.sc_live_plain.proofs.LeadersProofs.IdleLeaders.{leader_idle}
-pub use Rattle.sc_live_plain.proofs.PlainProofs.WaitingRequestJournals.{client_is}
+pub use Rattle.sc_live_plain.proofs.PlainRowsProofs.RowViews.{client_is}
 pub use Rattle.sc_live_plain.proofs.PlainRowsProofs.SlotCounts.{at_found, out_each, with_each, one_if, one_yes, one_no, with_at, at_nothing, count-cons, count-push, entries_at, find_some, one_if_most, out_here, out_length, out_none, out_other, standing, with_count}
 pub use Rattle.sc_live_plain.proofs.LeadersProofs.ExecutedCalls.{IsServed, call_plain, entered_frame}
 pub use Rattle.sc_live_plain.proofs.LeadersProofs.PlainEntries.{none_new, recorded_after, counted_call, learnt_call}

@@ -1,5 +1,6 @@
 pub mod SpacedOrders
 pub mod PlainJournals
+pub mod ActingClients
 pub mod PlainClientRows
 pub mod PlainRows
 pub mod PlainSteps
@@ -8,8 +9,6 @@ pub mod PlainInduction
 pub mod MorePlainRequests
 pub mod PlainBeginnings
 pub mod AnsweredPlainRequests
-pub mod WaitingRequestPlaces
-pub mod WaitingRequestJournals
 pub mod PlainKnownGroups
 pub mod PlainClients
 pub mod GroupCircle

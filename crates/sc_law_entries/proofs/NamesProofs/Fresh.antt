@@ -3,7 +3,7 @@ use Rattle.std.proofs.Common.{◌≡◌, ℕ, zero, suc, ◌+◌, ◌<◌, ◌�
 use Rattle.std.specs.Option.{option_map}
 use Rattle.std.proofs.lemmas.Bool.{cond_both, eqb-true}
 use Rattle.sc_base.specs.Definitions.{Among, Each, next_name, is_member}
-use Rattle.sc_node_table.specs.Values.{Draw, Seat, Row, Event, Deliver, Drop, Again, Go, Tick, Crash, Input, Got, Base, Lock, Route, OrderLine, Outcome, Past, Mail, Node, Client}
+use Rattle.sc_node_table.specs.Values.{Draw, Seat, Row, Event, Deliver, Drop, Again, Go, Tick, Crash, Got, Base, Lock, Route, OrderLine, Outcome, Past, Mail, Node, Client}
 use Rattle.sc_actor.specs.declared.rows.Event.TheVariants.{Told}
 use Rattle.sc_actor.specs.declared.rows.Input.TheVariants.{Tick as TickInput, Go as GoInput, Told as ToldInput}
 use Rattle.sc_actor.specs.Definitions.{mails, numbered, value, replay, acted, input_of, IsStep}
@@ -24,7 +24,7 @@ use Rattle.sc_law_entries.proofs.NamesProofs.Ordered.{it_ticks, it_is_owned}
 use Rattle.sc_law_entries.proofs.NamesProofs.LoggedNames.{decided_names}
 use Rattle.sc_law_entries.proofs.NamesProofs.Owned.{owned_later}
 use Rattle.sc_law_entries.proofs.NamesProofs.Playing.{Brings, node_names, client_names}
-use Rattle.sc_law_walks.proofs.Replays.{replay_keeps}
+use Rattle.sc_law_walks.proofs.Replays.{StepsHold, replay_keeps}
 
 -- ---- a client stays one
 
@@ -32,7 +32,7 @@ abbrev pub IsClient : Player → Type 0
 IsClient (Node node) = ⊥
 IsClient (Client client) = Unit {0}
 
-client_keeps : (p : Player) (input : Input Mail OrderLine) → IsClient p → IsClient (player_table p input).0
+client_keeps : StepsHold player_table IsClient
 client_keeps (Node node) input c = absurd c
 client_keeps (Client client) input c = tt
 

@@ -12,7 +12,7 @@ use Rattle.sc_words.specs.declared.commands.orders.OrderResult.TheVariants as Re
 use Rattle.sc_client_table.specs.declared.lookup.ways.Way.{Way}
 use Rattle.sc_client_table.specs.lookup.Definitions.{KnownGroups, way_to, better, chosen, target_in, changed, preferring, passed_on, starting, group_learnt, learnt_from_not_mine, learnt_from_gone, far, new_way, next_target}
 use Rattle.sc_mail.specs.declared.bodies.AnswerBody.TheVariants as Answers
-use Rattle.sc_node_table.specs.Definitions.{NodeState, replica_of, with_replica, is_before, with_new, group_of_mail, absent, with_made, unknown, may_come, with_born, with_children, taken_by, routed, on_mail, group_of_order, ordered_of, ticked, node_table, takes_name, untaken, ordered_row, names_after_tick, ReplicaState, Place, Executed, name_of, born_replica, last_slot, tick_row, made_by, mailed, slots_ahead}
+use Rattle.sc_node_table.specs.Definitions.{NodeState, replica_of, with_replica, with_new, group_of_mail, absent, with_made, unknown, may_come, with_born, with_children, taken_by, routed, on_mail, group_of_order, ordered_of, ticked, node_table, takes_name, untaken, ordered_row, names_after_tick, ReplicaState, Place, Executed, name_of, born_replica, last_slot, tick_row, made_by, mailed, slots_ahead}
 use Rattle.sc_words.proofs.PaxosProofs.Lemmas.{Each-append}
 use Rattle.sc_law_entries.specs.names.Definitions.{Opt, CoreNames, AnswerNames, BodiesNames, MailNames, ReplicaNames, NodeNames, ClientNames, Owned, waited, wished_at, drawn_wishing, drawn_ticking}
 use Rattle.sc_law_entries.proofs.NamesProofs.EachFound.{opt_find, opt_map}
@@ -20,6 +20,7 @@ use Rattle.sc_law_walks.proofs.Lemmas.{either_way}
 use Rattle.sc_law_entries.proofs.NamesProofs.Sent.{Sent, sent_names}
 use Rattle.sc_law_entries.proofs.NamesProofs.HeldNames.{Fine, born_names}
 use Rattle.sc_law_entries.proofs.NamesProofs.NamesInRows.{Kids, made_names, tick_names, mailed_names, mailed_kids, ordered_row_names, order_names}
+use Rattle.sc_law_walks.proofs.Lemmas.{replaced_each, added_each}
 
 module _ (K : Draw → Type 0) where
   abbrev Rs : List ReplicaState → Type 0
@@ -33,14 +34,6 @@ module _ (K : Draw → Type 0) where
   abbrev NodeStep : NodeState × List Mail → Type 0
   NodeStep p = NodeNames K p.0 × Sent K p.1
 
-  put_names : (group : Draw) (new : ReplicaState) (replicas : List ReplicaState) → ReplicaNames K new → Rs replicas → Rs (with_replica group new replicas)
-  put_names group new [] n k = tt
-  put_names group new (r ∷ replicas) n k = either_way Rs (same_draw (name_of r) group) _ _ (n, k.1) (k.0, put_names group new replicas n k.1)
-
-  new_names : (new : ReplicaState) (replicas : List ReplicaState) → ReplicaNames K new → Rs replicas → Rs (with_new new replicas)
-  new_names new [] n k = (n, tt)
-  new_names new (r ∷ replicas) n k = either_way Rs (is_before (name_of r) (name_of new)) _ _ (k.0, new_names new replicas n k.1) (n, k)
-
   absent_names : (me from : ℕ) (body : MailBody) → BodiesNames K body → Sent K (absent me from body)
   absent_names me from (Request group client seq op) b = sent_names K me _ (Answer group seq (Answers.NotLeader None)) [] (b, tt) tt
   absent_names me from (Prepare group ballot from_slot) b = sent_names K me from (Ask group 0) [] b tt
@@ -51,7 +44,7 @@ module _ (K : Draw → Type 0) where
   absent_names me from _ b = tt
 
   made_step : (place : Place) (node : NodeState) → Fine K place → NodeNames K node → NodeStep (with_made place node)
-  made_step (r, mails) node f k = (new_names r node.replicas f.0 k, f.1)
+  made_step (r, mails) node f k = (added_each (ReplicaNames K) r node.replicas f.0 k, f.1)
 
   unknown_names : (from : ℕ) (body : MailBody) (node : NodeState) → BodiesNames K body → NodeNames K node → NodeStep (unknown from body node)
   unknown_names from (Install group slot base sets) node b k =
@@ -68,7 +61,7 @@ module _ (K : Draw → Type 0) where
   kid_names : (child : Base) (node : NodeState) → CoreNames K child.core → NodeNames K node → NodeNames K (with_born child node)
   kid_names child node c k =
       either_way (NodeNames K) (is_some (replica_of child.core.id node.replicas)) node (record node { replicas = with_new (born_replica slots_ahead node.me child) node.replicas }) k
-      (new_names (born_replica slots_ahead node.me child) node.replicas (born_names K slots_ahead node.me child c) k)
+      (added_each (ReplicaNames K) (born_replica slots_ahead node.me child) node.replicas (born_names K slots_ahead node.me child c) k)
 
   kids_names : (children : List Base) (node : NodeState) → Kids K children → NodeNames K node → NodeNames K (with_children children node)
   unfolding with_children
@@ -80,7 +73,7 @@ module _ (K : Draw → Type 0) where
   taken_names (Some replica) group from body node r b k =
       let after : Executed = mailed from body (replica, []) in
       let f : Fine K after.0 = mailed_names K from body (replica, []) b (r, tt) in (
-        kids_names after.1 (record node { replicas = with_replica group after.0.0 node.replicas }) (mailed_kids K from body (replica, []) b (r, tt)) (put_names group after.0.0 node.replicas f.0 k),
+        kids_names after.1 (record node { replicas = with_replica group after.0.0 node.replicas }) (mailed_kids K from body (replica, []) b (r, tt)) (replaced_each (ReplicaNames K) group after.0.0 node.replicas f.0 k),
         f.1,
       )
 
@@ -99,7 +92,7 @@ module _ (K : Draw → Type 0) where
   order_by None line node e r d k = (k, sent_names K node.me 0 (ToldMail line.number (Results.Refused (Why.NotLeader None))) [] tt tt)
   order_by (Some replica) line node e r d k =
       let f : Fine K (ordered_row node.draws line (replica, [])) = ordered_row_names K node.draws line (replica, []) (λ taken. order_names K (next_name node.draws) line.number line.order (λ named. d replica refl taken named)) (r, tt) in
-      (put_names (group_of_order line.order) (ordered_row node.draws line (replica, [])).0 node.replicas f.0 k, f.1)
+      (replaced_each (ReplicaNames K) (group_of_order line.order) (ordered_row node.draws line (replica, [])).0 node.replicas f.0 k, f.1)
 
   -- whatever each of two lists has
   each_parts : (first later : List Owned) → Drawn (first ++ later) → Drawn first × Drawn later

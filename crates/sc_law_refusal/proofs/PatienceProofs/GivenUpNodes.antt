@@ -7,7 +7,7 @@ use Rattle.sc_base.proofs.Lemmas.{draw_is}
 use Rattle.sc_node_table.specs.Values.{Draw, Input, Got, Base, Body, Lock, Free, Coordinating, Promised, Watching, GiveUp, Heard, OrderLine, Mail, MailBody, Request, Prepare, Promise, Accept, Accepted, Nack, Learn, Install, TxPrepare, TxWatch}
 use Rattle.sc_actor.specs.declared.rows.Input.TheVariants.{Tick, Go, Told}
 use Rattle.sc_words.proofs.PaxosProofs.Lemmas.{Each-append, Each-among, Each-weaker, find_found}
-use Rattle.sc_node_table.specs.Definitions.{NodeState, ReplicaState, Place, name_of, slots_ahead, last_slot, born_replica, installed_replica, forgotten, made_by, named, replica_of, with_replica, is_before, with_new, with_born, with_children, with_made, unknown, may_come, taken_by, routed, group_of_mail, group_of_order, ordered_of, ordered_row, mailed, ticked, tick_row, names_after_tick, node_table, settled, waited_in, with_act, has_act, one_tick_more, patience}
+use Rattle.sc_node_table.specs.Definitions.{NodeState, ReplicaState, Place, name_of, slots_ahead, last_slot, born_replica, installed_replica, forgotten, made_by, named, replica_of, with_replica, with_new, with_born, with_children, with_made, unknown, may_come, taken_by, routed, group_of_mail, group_of_order, ordered_of, ordered_row, mailed, ticked, tick_row, names_after_tick, node_table, settled, waited_in, with_act, has_act, one_tick_more, patience}
 use Rattle.sc_law_walks.proofs.Ways.{either_way, unless_so}
 use Rattle.sc_law_walks.proofs.PlaceWalks.{Before, After, Hears}
 use Rattle.sc_law_walks.proofs.PlaceRows.{takes_mail, orders, looks_up}
@@ -15,6 +15,7 @@ use Rattle.sc_law_walks.proofs.PlaceTicks.{ticks_where}
 use Rattle.sc_law_walks.specs.Definitions.{IsKept}
 use Rattle.sc_law_refusal.proofs.PatienceProofs.GivenUpCommands.{Gives, MailGives, Holds, with_acts, with_waits, forgotten_gives}
 use Rattle.sc_law_refusal.proofs.PatienceProofs.GivenUpRows.{Stands, given_facts, given_walk, given_agains}
+use Rattle.sc_law_walks.proofs.Lemmas.{replaced_each, added_each}
 
 -- a replica with the name of a group
 by_name : (F : Draw → Draw → Type 0) (group : Draw) (r : ReplicaState) → name_of r ≡ group → Holds (F (name_of r)) r → Holds (F group) r
@@ -42,21 +43,13 @@ module _ (F : Draw → Draw → Type 0) (me : ℕ) where
 
   -- ---- the replicas of a node
 
-  put : (group : Draw) (new : ReplicaState) (replicas : List ReplicaState) → Keeps new → All replicas → All (with_replica group new replicas)
-  put group new [] n k = tt
-  put group new (r ∷ replicas) n k = either_way All (same_draw (name_of r) group) (new ∷ replicas) (r ∷ with_replica group new replicas) (n, k.1) (k.0, put group new replicas n k.1)
-
-  add : (new : ReplicaState) (replicas : List ReplicaState) → Keeps new → All replicas → All (with_new new replicas)
-  add new [] n k = (n, tt)
-  add new (r ∷ replicas) n k = either_way All (is_before (name_of r) (name_of new)) (r ∷ with_new new replicas) (new ∷ r ∷ replicas) (k.0, add new replicas n k.1) (n, k)
-
   pub born : (base : Base) → Keeps (born_replica slots_ahead me base)
   born base = ((refl, refl, ((λ off. (refl, refl, refl)), tt, tt)), record { backlog = tt; acts = tt; flights = tt; ready = tt; reports = tt; accepted = tt; log = tt })
 
   child_step : (child : Base) (node : NodeState) (mails : List Mail) → Step (node, mails) → Step (with_born child node, mails)
   child_step child node mails k =
       either_way (λ (n : NodeState). Step (n, mails)) (is_some (replica_of child.core.id node.replicas)) node (record node { replicas = with_new (born_replica slots_ahead node.me child) node.replicas }) k
-      (k.0, add (born_replica slots_ahead node.me child) node.replicas (subst (λ (n : ℕ). Keeps (born_replica slots_ahead n child)) (sym k.0) (born child)) k.1, k.2)
+      (k.0, added_each Keeps (born_replica slots_ahead node.me child) node.replicas (subst (λ (n : ℕ). Keeps (born_replica slots_ahead n child)) (sym k.0) (born child)) k.1, k.2)
 
   children_step : (children : List Base) (node : NodeState) (mails : List Mail) → Step (node, mails) → Step (with_children children node, mails)
   unfolding with_children
@@ -92,7 +85,7 @@ module _ (F : Draw → Draw → Type 0) (me : ℕ) where
       (λ e. (
       let many : length sets ≡ slots_ahead = eqb-true (length sets) slots_ahead e in
       let m = subst (λ (n : ℕ). Keeps (made_by n from group slot base sets).0 × Mails (made_by n from group slot base sets).1) (sym k.0) (makes from group slot base sets many) in
-      (k.0, add (made_by node.me from group slot base sets).0 node.replicas m.0 k.1, m.1)))
+      (k.0, added_each Keeps (made_by node.me from group slot base sets).0 node.replicas m.0 k.1, m.1)))
   unknown_step from (Request group client seq op) node k = (k.0, k.1, (tt, tt))
   unknown_step from (Prepare group ballot from_slot) node k = (k.0, k.1, (tt, tt))
   unknown_step from (Accept group ballot slot command) node k = (k.0, k.1, (tt, tt))
@@ -120,7 +113,7 @@ module _ (F : Draw → Draw → Type 0) (me : ℕ) where
       let same : name_of r ≡ group = draw_is (name_of r) group found.1 in
       let after = mailed from body (r, []) in
       let kept = out group after.0 (takes_mail (given_walk F me group) from body (r, []) (hears group body fact g) (into group r [] same (Each-among Keeps node.replicas r k.1 found.0) tt)) in
-      children_step after.1 (record node { replicas = with_replica group after.0.0 node.replicas }) after.0.1 (k.0, put group after.0.0 node.replicas kept.0 k.1, kept.1)
+      children_step after.1 (record node { replicas = with_replica group after.0.0 node.replicas }) after.0.1 (k.0, replaced_each Keeps group after.0.0 node.replicas kept.0 k.1, kept.1)
 
   routed_step : (o : Option Draw) (from : ℕ) (body : MailBody) (node : NodeState) → group_of_mail body ≡ o → MailGives F body → (node.me ≡ me) × All node.replicas → Step (routed o from body node)
   routed_step None from body node fact g k = (k.0, k.1, tt)
@@ -136,7 +129,7 @@ module _ (F : Draw → Draw → Type 0) (me : ℕ) where
       let same : name_of r ≡ group = draw_is (name_of r) group found.1 in
       let after : Place = ordered_row node.draws line (r, []) in
       let kept = out group after (orders (given_walk F me group) node.draws line (r, []) (into group r [] same (Each-among Keeps node.replicas r k.1 found.0) tt)) in
-      (k.0, put group after.0 node.replicas kept.0 k.1, kept.1)
+      (k.0, replaced_each Keeps group after.0 node.replicas kept.0 k.1, kept.1)
 
   -- ---- a tick
 

@@ -1,12 +1,12 @@
 -- The queues of all replicas of a node, in each of its steps and after any rows.
 use Rattle.std.proofs.Common.{ℕ, subst, List, [], ◌∷◌, map, refl}
 use Rattle.sc_base.specs.Definitions.{Each, is_member}
-use Rattle.sc_node_table.specs.Values.{Input, Base, OrderLine, Mail, Node, Client}
+use Rattle.sc_node_table.specs.Values.{Base, Node, Client}
 use Rattle.sc_node_table.specs.Definitions.{born_replicas, born_node, ReplicaState, born_replica}
 use Rattle.sc_meaning.specs.sound.Definitions.{Player, player_table}
 use Rattle.sc_law_refusal.specs.queue.OneCall.{KeepsOneCall, EachKeepsOneCall, StepsKeepOneCall, QueuesKeepOneCall}
 use Rattle.sc_law_refusal.proofs.QueueProofs.ClientCalls.{one_none}
-use Rattle.sc_law_walks.proofs.Lemmas.{ReplicaRows, node_step, either_way, replay_keeps}
+use Rattle.sc_law_walks.proofs.Lemmas.{ReplicaRows, node_step, either_way, StepsHold, replay_keeps}
 use Rattle.sc_law_refusal.proofs.QueueProofs.QueuedCalls.{ordered_keeps, tick_keeps, mailed_keeps, made_keeps}
 
 abbrev All : List ReplicaState → Type 0
@@ -38,7 +38,7 @@ abbrev Plays : Player → Type 0
 Plays (Node node) = EachKeepsOneCall node
 Plays (Client client) = Unit {0}
 
-steps_keep : (player : Player) (input : Input Mail OrderLine) → Plays player → Plays (player_table player input).0
+steps_keep : StepsHold player_table Plays
 steps_keep (Node node) input k = steps_keep_one_call node input k
 steps_keep (Client client) input k = tt
 

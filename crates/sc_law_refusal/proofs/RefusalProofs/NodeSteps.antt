@@ -18,6 +18,7 @@ use Rattle.sc_law_refusal.proofs.RefusalProofs.Inputs.{still_step, step_shown}
 use Rattle.sc_law_refusal.proofs.RefusalProofs.Locking.{allowed}
 use Rattle.sc_law_refusal.proofs.RefusalProofs.Strangers.{unknown_says}
 use Rattle.sc_law_refusal.proofs.RefusalProofs.Taking.{takes_requests}
+use Rattle.sc_law_walks.proofs.Lemmas.{replaced_each, added_each}
 
 -- ---- replicas in their order
 
@@ -51,14 +52,6 @@ module _ (T : ReplicaState → Type 0) where
   abbrev Rs : List ReplicaState → Type 0
   Rs replicas = Each T replicas
 
-  put_each : (group : Draw) (new : ReplicaState) (replicas : List ReplicaState) → T new → Rs replicas → Rs (with_replica group new replicas)
-  put_each group new [] n k = tt
-  put_each group new (r ∷ replicas) n k = either_way Rs (same_draw (name_of r) group) _ _ (n, k.1) (k.0, put_each group new replicas n k.1)
-
-  new_each : (new : ReplicaState) (replicas : List ReplicaState) → T new → Rs replicas → Rs (with_new new replicas)
-  new_each new [] n k = (n, tt)
-  new_each new (r ∷ replicas) n k = either_way Rs (is_before (name_of r) (name_of new)) _ _ (k.0, new_each new replicas n k.1) (n, k)
-
   children_each : (me : ℕ) → ((child : Base) → T (born_replica slots_ahead me child)) → (children : List Base) (node : NodeState) → node.me ≡ me → Rs node.replicas → Rs (with_children children node).replicas
   unfolding with_children
   children_each me born [] node fact k = k
@@ -66,7 +59,7 @@ module _ (T : ReplicaState → Type 0) where
       let more : NodeState = record node { replicas = with_new (born_replica slots_ahead node.me child) node.replicas } in
       let there : Bool = is_some (replica_of child.core.id node.replicas) in
       children_each me born children (with_born child node) (either_way (λ (n : NodeState). n.me ≡ me) there node more fact fact)
-      (either_way (λ (n : NodeState). Rs n.replicas) there node more k (new_each (born_replica slots_ahead node.me child) node.replicas (subst (λ (n : ℕ). T (born_replica slots_ahead n child)) (sym fact) (born child)) k))
+      (either_way (λ (n : NodeState). Rs n.replicas) there node more k (added_each T (born_replica slots_ahead node.me child) node.replicas (subst (λ (n : ℕ). T (born_replica slots_ahead n child)) (sym fact) (born child)) k))
 
 -- ---- a replica that is made of a state that is sent has waited for nothing, and has no act
 
@@ -180,7 +173,7 @@ module _ (me : ℕ) (W W' : Draw → Ballot → Draw → ℕ) (grows : (name : D
         let place : Place = made_by node.me from group slot base sets in
         let new = made_new node.me from group slot base sets in
         either_way (λ (step : NodeState × List Mail). Ks step.0.replicas) (not (eqb (length sets) slots_ahead) || nat_lt last_slot slot) (node, []) (with_made place node) (still_all node.replicas keep)
-        (new_each (Keeps me W') place.0 node.replicas (new_keeps place.0 (new.me_is ∙ own) new.waits) (still_all node.replicas keep))
+        (added_each (Keeps me W') place.0 node.replicas (new_keeps place.0 (new.me_is ∙ own) new.waits) (still_all node.replicas keep))
     unknown_keep from _ = still_all node.replicas keep
 
     taken_keep : (mail : Mail) (o : Option ReplicaState) (group : Draw) → replica_of group node.replicas ≡ o → Ks (taken_by o group mail.from mail.body node).0.replicas
@@ -192,7 +185,7 @@ module _ (me : ℕ) (W W' : Draw → Ballot → Draw → ℕ) (grows : (name : D
         let kept : Keeps me W' new.0 = step_keeps node.policy node.draws r (Given.Got mail) some (λ tick. cc) (Each-among (Keeps me W) node.replicas r keep stood) in
         let children : List Base = (mailed mail.from mail.body (r, [])).1 in
         let put : NodeState = record node { replicas = with_replica group new.0 node.replicas } in
-        children_each (Keeps me W') node.me (λ child. new_keeps (born_replica slots_ahead node.me child) own refl) children put refl (put_each (Keeps me W') group new.0 node.replicas kept (still_all node.replicas keep))
+        children_each (Keeps me W') node.me (λ child. new_keeps (born_replica slots_ahead node.me child) own refl) children put refl (replaced_each (Keeps me W') group new.0 node.replicas kept (still_all node.replicas keep))
 
     routed_keep : (mail : Mail) (o : Option Draw) → Ks (routed o mail.from mail.body node).0.replicas
     routed_keep mail None = still_all node.replicas keep
@@ -204,7 +197,7 @@ module _ (me : ℕ) (W W' : Draw → Ballot → Draw → ℕ) (grows : (name : D
     ordered_keep line (Some r) e =
         let group : Draw = group_of_order line.order in
         let stood : Among r node.replicas = (find_found (λ (other : ReplicaState). same_draw (name_of other) group) node.replicas r e).0 in
-        put_each (Keeps me W') group (ordered_row node.draws line (r, [])).0 node.replicas (step_keeps node.policy node.draws r (Given.Told line) some (λ tick. cc) (Each-among (Keeps me W) node.replicas r keep stood)) (still_all node.replicas keep)
+        replaced_each (Keeps me W') group (ordered_row node.draws line (r, [])).0 node.replicas (step_keeps node.policy node.draws r (Given.Told line) some (λ tick. cc) (Each-among (Keeps me W) node.replicas r keep stood)) (still_all node.replicas keep)
 
     -- a node's step keeps it, if its ticks are counted
     pub node_keeps : (input : Input Mail OrderLine) → (input ≡ Tick → (r : ReplicaState) → Among r node.replicas → CountsTick W W' r) → Ks (node_table node input).0.replicas
@@ -304,7 +297,7 @@ module _ (node : NodeState) (numbered : Each (λ (r : ReplicaState). 1 ≤ r.me)
       let place : Place = made_by node.me from group slot base sets in
       let t = untouched node numbered after (Got mail) in
       either_way (λ (step : NodeState × List Mail). Each (T node numbered after (Got mail)) step.0.replicas) (not (eqb (length sets) slots_ahead) || nat_lt last_slot slot) (node, []) (with_made place node) t
-      (new_each (T node numbered after (Got mail)) place.0 node.replicas (none_queued node numbered after (Got mail) place.0 (made_new node.me from group slot base sets).acts) t)
+      (added_each (T node numbered after (Got mail)) place.0 node.replicas (none_queued node numbered after (Got mail) place.0 (made_new node.me from group slot base sets).acts) t)
   unknown_acts mail from _ after = untouched node numbered after (Got mail)
 
   -- who takes a mail for a group
@@ -334,7 +327,7 @@ module _ (node : NodeState) (numbered : Each (λ (r : ReplicaState). 1 ≤ r.me)
         answers = one_sends node numbered after (Got mail) r new.1 (takers node (Got mail)) who (step_mails node numbered after node.draws input r stood stands);
         acts = all_acts node numbered after (Got mail)
             (children_each t node.me (λ child here tx queued. absurd queued) children put refl
-            (put_each t group new.0 node.replicas (λ here. step_acts node numbered after node.draws input r stood takes here) (untouched node numbered after (Got mail))));
+            (replaced_each t group new.0 node.replicas (λ here. step_acts node numbered after node.draws input r stood takes here) (untouched node numbered after (Got mail))));
       }
 
   routed_causes : (mail : Mail) (o : Option Draw) → group_of_mail mail.body ≡ o → Step (Got mail) (routed o mail.from mail.body node)
@@ -358,7 +351,7 @@ module _ (node : NodeState) (numbered : Each (λ (r : ReplicaState). 1 ≤ r.me)
       record {
         answers = one_sends node numbered after (Told line) r new.1 (takers node (Told line)) who (step_mails node numbered after node.draws input r stood stands);
         acts = all_acts node numbered after (Told line)
-            (put_each (T node numbered after (Told line)) group new.0 node.replicas (λ here. step_acts node numbered after node.draws input r stood takes here) (untouched node numbered after (Told line)));
+            (replaced_each (T node numbered after (Told line)) group new.0 node.replicas (λ here. step_acts node numbered after node.draws input r stood takes here) (untouched node numbered after (Told line)));
       }
 
   -- ---- a tick

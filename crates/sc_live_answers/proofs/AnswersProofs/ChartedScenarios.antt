@@ -72,9 +72,6 @@ module _ (segment : SegmentLaws) (rows_laws : RowLaws) (laws : LineLaws) (words 
   abbrev s : System Player Mail OrderLine
   s = players words (births as_nodes scenario)
 
-  abbrev far : ℕ
-  far = orders_of scenario + 1
-
   abbrev begins : IsStage scenario
   begins = stage scenario (rows_laws.all_bounded scenario valid)
 

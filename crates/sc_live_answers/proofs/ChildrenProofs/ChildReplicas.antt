@@ -1,13 +1,13 @@
 -- The members of children have them, row by row.
-use Rattle.std.proofs.Common.{◌≡◌, ℕ, zero, suc, ◌+◌, ◌-◌, ◌<◌, ◌≤◌, ◌⊎◌, eqb, true, List, [], ◌∷◌, ◌++◌, take, Option, Some, None, inl, inr, refl, sym, ◌∙◌, ap, subst, append_assoc, append-nil, arith}
+use Rattle.sc_live_journals.proofs.GroupsProofs.PrefixesInTime.{kept_by_all}
+use Rattle.std.proofs.Common.{◌≡◌, ℕ, zero, suc, ◌+◌, ◌-◌, ◌<◌, ◌≤◌, ◌⊎◌, eqb, true, List, [], ◌∷◌, ◌++◌, take, Option, Some, None, inl, inr, refl, sym, ◌∙◌, ap, subst, arith}
 use Rattle.std.specs.Prelude.{is_some}
 use Rattle.std.proofs.lemmas.Bool.{cases_eq, cases_lt, cond-true, cond-false, ne_eqb}
 use Rattle.sc_base.specs.Definitions.{Among, is_member}
-use Rattle.sc_node_table.specs.Values.{Draw, Base, OrderLine, Mail, Seat, Event, Row}
+use Rattle.sc_node_table.specs.Values.{Draw, Base, OrderLine, Seat, Event}
 use Rattle.sc_group_table.specs.machine.Definitions.{group_of, state_after}
 use Rattle.sc_actor.specs.Definitions.{mails, row_of}
 use Rattle.sc_live_orderly.specs.Definitions.{IsCalmEvent, AreInTime}
-use Rattle.sc_live_orderly.proofs.Lemmas.{by_time, last_in_time}
 use Rattle.sc_paxos_law.proofs.Lemmas.{Among-left, Among-right, Among-either}
 use Rattle.sc_scenario.specs.scenario.Definitions.{ValidScenariosAreBounded}
 use Rattle.sc_scenario.specs.declared.scenario.scenarios.Scenario.{Scenario}
@@ -156,25 +156,14 @@ module _ (bear : EntriesCreateChildren) (wb : ScenariosAreWellBorn) (words : ℕ
         first : (n : ℕ) → n < 1 → n ≡ 0
         first n lt = omega (arith, lt)
 
-    abbrev Begin : Rows → Type 0
-    Begin rows = (more : Rows) → prefix ≡ rows ++ more → IsBornOn by words scenario journal rows base
-
-    after_row : (rows : Rows) (row : Row Mail OrderLine) → AreInTime (players words (births as_nodes scenario)) (rows ++ row ∷ []) → Begin rows → Begin (rows ++ row ∷ [])
-    after_row rows row timely was more fact =
-        let calm = (last_in_time (players words seats) rows row timely).0 in
-        let old = was (row ∷ more) (fact ∙ append_assoc rows (row ∷ []) more) in
-        let timely_too = subst (λ (r : Row Mail OrderLine). AreInTime (players words seats) (rows ++ r ∷ [])) calm.row_is timely in
-        let place : IsRowOf prefix rows calm.seat calm.event = record { more = more; fact = fact ∙ ap (λ (r : Row Mail OrderLine). (rows ++ r ∷ []) ++ more) calm.row_is } in
-        let step = events_go_on at (over_at as_nodes base journal) by words seats prefix base (wb scenario) one so rows calm.seat calm.event old.course place calm.born calm.calm timely_too old.led in
-        subst (λ (r : Row Mail OrderLine). IsBornOn by words scenario journal (rows ++ r ∷ []) base) (sym calm.row_is)
-        (record {
+    pub all_born : AreInTime (players words (births as_nodes scenario)) prefix → IsBornOn by words scenario journal prefix base
+    all_born = kept_by_all words seats prefix (λ rows. IsBornOn by words scenario journal rows base) (λ rows seat event place born calm timely old. (
+        let step = events_go_on at (over_at as_nodes base journal) by words seats prefix base (wb scenario) one so rows seat event old.course place born calm timely old.led in
+        record {
           course = step.later;
           led = step.led;
-          born = λ slot child who b low member. after_all rows calm.seat calm.event old.course step.later place calm.born calm.calm timely_too old.led step.row old.born slot child who b member low;
-        })
-
-    pub all_born : AreInTime (players words (births as_nodes scenario)) prefix → IsBornOn by words scenario journal prefix base
-    all_born timely = by_time (players words seats) Begin (λ more e. record { course = begun_course base; led = begun_led; born = none_born }) after_row prefix timely [] (sym (append-nil prefix))
+          born = λ slot child who b low member. after_all rows seat event old.course step.later place born calm timely old.led step.row old.born slot child who b member low;
+        })) (record { course = begun_course base; led = begun_led; born = none_born })
 
 pub children_are_made : ValidScenariosAreBounded → GroupsAreBornOrNot → ScenariosAreWellBorn → EntriesCreateChildren → ChildrenAreMade
 children_are_made bounded born_or_not wb bear words by scenario journal prefix more base group split timely one so = all_born bear wb words by scenario journal prefix more base group split one so bounded born_or_not timely

@@ -2,7 +2,7 @@
 use Rattle.std.proofs.Common.{◌≡◌, ℕ, eqb, true≢false, List, [], Option, Some, None, inl, inr, refl, sym, ◌∙◌, ap, subst}
 use Rattle.std.proofs.lemmas.Bool.{cases_Bool, eq-eqb, eqb-true}
 use Rattle.sc_base.specs.Definitions.{Drawer, next_name}
-use Rattle.sc_node_table.specs.Values.{Draw, Command, OrderLine, OrderRefusal, Mail, Node, Client, Seat, Go}
+use Rattle.sc_node_table.specs.Values.{Draw, OrderLine, OrderRefusal, Mail, Node, Client, Seat, Go}
 use Rattle.sc_actor.specs.declared.rows.Event.TheVariants.{Told}
 use Rattle.sc_actor.specs.declared.rows.Input.TheVariants.{Told as ToldInput}
 use Rattle.sc_actor.specs.Definitions.{value, row_of}
@@ -27,9 +27,6 @@ ordered_same : (drawer : Drawer) (line : OrderLine) (r : ReplicaState) → (orde
 unfolding ordered_row
 ordered_same drawer line r = by (untaken drawer line r)
   where
-    command : Command
-    command = ordered_command (next_name drawer) line.number line.order
-
     by : (o : Option OrderRefusal) → (queued_or_refused o line.number (ordered_command (next_name drawer) line.number line.order) (r, [])).0.group ≡ r.group
     by (Some why) = refl
     by None = (pumps (At r.group r.me (next r)) (λ x acceptor hint top running leader ready acts backlog waits q. q) (with_order_queued (ordered_command (next_name drawer) line.number line.order) r, []) (refl, refl, refl)).0

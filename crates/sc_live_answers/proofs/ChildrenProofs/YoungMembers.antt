@@ -3,14 +3,14 @@ use Rattle.std.proofs.Common.{◌≡◌, ◌==◌, ℕ, zero, suc, ◌+◌, ◌-
 use Rattle.std.specs.List.{list_any}
 use Rattle.std.proofs.lemmas.Bool.{cases_Bool}
 use Rattle.sc_base.specs.Definitions.{Among, is_member}
-use Rattle.sc_node_table.specs.Values.{Draw, Base, OrderLine, Seat}
+use Rattle.sc_node_table.specs.Values.{Draw, Base, OrderLine}
 use Rattle.sc_actor.specs.Definitions.{is_quiet}
 use Rattle.sc_live_orderly.specs.Definitions.{is_born, AreInTime}
 use Rattle.sc_live_orderly.proofs.Lemmas.{in_time_tidy, quiet-empty}
 use Rattle.sc_group_table.specs.machine.Definitions.{Group, group_of, state_after, staying, right_members}
 use Rattle.sc_scenario.specs.declared.scenario.scenarios.Scenario.{Scenario}
 use Rattle.sc_node_table.specs.Definitions.{ReplicaState, next}
-use Rattle.sc_meaning.specs.sound.Definitions.{groups_at, decided_log, Player, births, as_nodes}
+use Rattle.sc_meaning.specs.sound.Definitions.{groups_at, decided_log, births, as_nodes}
 use Rattle.sc_live_steps.specs.calm.Definitions.{players, HasReplica, Rows}
 use Rattle.sc_live_steps.specs.following.Definitions.{Mark, marks_of, reached, QuietMembersKnow}
 use Rattle.sc_live_journals.specs.mail.Definitions.{SlotsAreLeft, ReplicasLast}
@@ -48,9 +48,6 @@ pub record OfMembers : Type 0 where
 module _ (laws : OfJournals) (more_laws : OfMembers) (words : ℕ → ℕ → ℕ × ℕ) (scenario : Scenario) (first : Base) (journal quiet rows more : Rows) (line : OrderLine) (task : Task) (calm : IsCalmJournal words scenario journal) (under : IsUnder words scenario first journal quiet rows)
     (at : rows ≡ quiet ++ more) (is_calm : is_quiet (players words (births as_nodes scenario)) rows ≡ true) (named : AreOfGroups scenario journal rows) (of : IsTaskOf (births as_nodes scenario) quiet line task) (prior : AreCreatedByOrder scenario journal quiet rows task)
     (strangers : (base : Base) (who : ℕ) → Among base (groups_at as_nodes scenario.groups journal) → is_born (players words (births as_nodes scenario)) who ≡ false → marks_at (players words (births as_nodes scenario)) rows base.core.id who ≡ []) where
-  abbrev all : List (Seat Player)
-  all = births as_nodes scenario
-
   timely : AreInTime (players words (births as_nodes scenario)) rows
   timely = prefix_in_time words (births as_nodes scenario) journal rows under.prefix.more under.prefix.fact calm.timely
 

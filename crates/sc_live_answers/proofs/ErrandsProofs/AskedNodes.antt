@@ -78,9 +78,6 @@ module _ (words : ℕ → ℕ → ℕ × ℕ) (births : List (Seat Player)) (row
   may : IsUnbound r → waiting.work ≡ [] → MayFile r
   may unbound none = record { running = c.leads.running; unbound = unbound; idle = sym (tell.led births rows group seat.who r c.leads).1.1 ∙ none }
 
-  none_some : {X : Type 0} {x : X} → None ≡ Some x → ⊥
-  none_some e = cc
-
   abbrev By : MailBody → Type 0
   By body = IsSending mail r (mailed mail.from body (r, [])).0
 

@@ -1,5 +1,5 @@
 -- Refusals go to nodes, which alone ask to promise or to accept; and errands that go to nodes go to players.
-use Rattle.std.proofs.Common.{◌≡◌, ℕ, eqb, List, [], ◌∷◌, ◌++◌, map, find, Option, Some, None, inl, inr, refl, sym, subst, arith}
+use Rattle.std.proofs.Common.{◌≡◌, ℕ, eqb, [], ◌∷◌, ◌++◌, map, find, Option, Some, None, inl, inr, refl, sym, subst, arith}
 use Rattle.std.specs.Option.{option_map}
 use Rattle.sc_base.specs.Definitions.{Each}
 use Rattle.sc_node_table.specs.Values.{Ballot, Draw, Command, OrderLine, Mail, MailBody, Request, Node, Client, Seat, Event, Deliver, Go, Got, Row}
@@ -31,9 +31,6 @@ clients_unrefused me state (Request group client seq op) c r = r
 clients_unrefused me state _ c r = c
 
 module _ (scenario : Scenario) where
-  abbrev all : List (Seat Player)
-  all = births as_nodes scenario
-
   -- a player that was born a node is one of the scenario's
   born_node : (seat : Seat Player) (node : NodeState) → IsSeat (births as_nodes scenario) seat → seat.actor ≡ Node node → IsNodeOf scenario seat.who
   born_node seat node born fact =

@@ -122,9 +122,6 @@ module _ (r : ReplicaState) (command : Command) (asked tx coord : Draw) (watch :
   pub opens_least : (child : Draw) → r.group.core.lock ≡ Free → work_by command ≡ Some (Opens child) → IsTrueEntry r.me r.group command → (asked ≡ r.group.core.succ.group) × (node ≡ least_of r.group.core.succ.members)
   opens_least child free w t = of command refl w t
     where
-      leaves_as : (c : Command) → command ≡ c → EntryLeaves bond ((asked, Question tx coord watch by node ∷ []) ∷ []) c r.me r.group
-      leaves_as c e = subst (λ x. EntryLeaves bond ((asked, Question tx coord watch by node ∷ []) ∷ []) x r.me r.group) e leaves
-
       moved : (b : Bond) (sent : List (Draw × List Errand)) (c : Command) → command ≡ c → EntryLeaves b sent c r.me r.group → IsOnly [] sent (λ name. errands_for name (went_on r.me (applied r.group command).0 (before_of r.group.core) (applied r.group command).1 command []))
       moved b sent c e l = (subst (λ x. EntryLeaves b sent x r.me r.group) (sym e) l).sends
 

@@ -1,16 +1,18 @@
 -- No mail of a group goes to who is no actor: members are nodes of the scenario, and what is no group's is sent no mail at all.
-use Rattle.std.proofs.Common.{◌≡◌, ℕ, ◌≤◌, eqb, not, nat_lt, Bool, true, false, true≢false, cond, List, [], ◌∷◌, ◌++◌, length, Option, Some, None, inl, inr, refl, sym, ◌∙◌, ap, subst, append_assoc, append-nil, arith, ◌||◌}
+use Rattle.sc_live_journals.specs.groups.Definitions.{IsRowOf}
+use Rattle.sc_live_journals.proofs.GroupsProofs.PrefixesInTime.{kept_by_all}
+use Rattle.std.proofs.Common.{◌≡◌, ℕ, ◌≤◌, eqb, not, nat_lt, Bool, true, false, true≢false, cond, List, [], ◌∷◌, ◌++◌, length, Option, Some, None, inl, inr, refl, sym, ◌∙◌, ap, subst, append_assoc, arith, ◌||◌}
 use Rattle.std.specs.Prelude.{find}
 use Rattle.std.proofs.lemmas.Bool.{cases_Bool, cond-true, eqb-true, eq-eqb}
 use Rattle.std.proofs.lemmas.Option.{none-some}
 use Rattle.sc_base.specs.Definitions.{Among, same_draw, is_member}
-use Rattle.sc_node_table.specs.Values.{Draw, Base, OrderLine, Refused, Mail, MailBody, Request, Prepare, Accept, Learn, Install, TxPrepare, TxVote, TxOutcome, TxElsewhere, TxWatch, TxWatched, Node, Client, Seat, Event, Deliver, Tick, Go, Input, Got, Row}
+use Rattle.sc_node_table.specs.Values.{Draw, Base, OrderLine, Refused, Mail, MailBody, Request, Prepare, Accept, Learn, Install, TxPrepare, TxVote, TxOutcome, TxElsewhere, TxWatch, TxWatched, Node, Client, Seat, Event, Deliver, Tick, Go, Input, Got}
 use Rattle.sc_base.proofs.Lemmas.{draw_is, same_name}
 use Rattle.sc_words.specs.declared.commands.orders.OrderRefusal.TheVariants.{NotLeader}
 use Rattle.sc_actor.specs.declared.rows.Event.TheVariants.{Told}
 use Rattle.sc_actor.specs.Definitions.{mails, value, input_of, acted, row_of}
 use Rattle.sc_live_orderly.specs.Definitions.{is_born, IsCalmEvent, AreInTime}
-use Rattle.sc_live_orderly.proofs.Lemmas.{by_time, in_time_before, in_time_tidy, last_in_time, takes_first, is_born-from}
+use Rattle.sc_live_orderly.proofs.Lemmas.{in_time_before, in_time_tidy, takes_first, is_born-from}
 use Rattle.sc_words.proofs.PaxosProofs.Lemmas.{find_found}
 use Rattle.sc_scenario.specs.scenario.Definitions.{base_at}
 use Rattle.sc_scenario.specs.declared.scenario.scenarios.Scenario.{Scenario}
@@ -153,32 +155,23 @@ module _ (finds : PrefixesAreFound) (home : MembersAreHome) (words : ℕ → ℕ
       silent rows more begins seat Tick born fine timely none (Node node) at who = absurd fine
       silent rows more begins seat _ born fine timely none (Node node) at who = absurd fine
 
-      abbrev Begin : Rows → Type 0
-      Begin rows = (more : Rows) → prefix ≡ rows ++ more → (who : ℕ) → marks_at (players words (births as_nodes scenario)) rows dummy.core.id who ≡ []
-
-      after_row : (rows : Rows) (row : Row Mail OrderLine) → AreInTime (players words (births as_nodes scenario)) (rows ++ row ∷ []) → Begin rows → Begin (rows ++ row ∷ [])
-      after_row rows row timely was more e =
-          let c = (last_in_time (players words all) rows row timely).0 in
-          let begins = e ∙ append_assoc rows (row ∷ []) more in
-          let before = was (row ∷ more) begins in
-          let timely_too = subst (λ (r : Row Mail OrderLine). AreInTime (players words all) (rows ++ r ∷ [])) c.row_is timely in
-          subst (λ (r : Row Mail OrderLine). (who : ℕ) → marks_at (players words all) (rows ++ r ∷ []) name who ≡ []) (sym c.row_is) (after_event rows (row ∷ more) begins c.seat c.event c.born c.calm timely_too before)
-        where
-          after_event : (rows_ more_ : Rows) → prefix ≡ rows_ ++ more_ → (seat : Seat Player) (event : Event OrderLine) → IsSeat all seat → IsCalmEvent (players words all) rows_ seat.who event → AreInTime (players words all) (with_event rows_ seat event)
-              → ((who : ℕ) → marks_at (players words all) rows_ name who ≡ []) → (who : ℕ) → marks_at (players words all) (with_event rows_ seat event) name who ≡ []
-          after_event rows_ more_ b seat event born fine t none who =
-              let m = moved rows_ more_ b seat event born fine t none in
-              let quiet = silent rows_ more_ b seat event born fine t none (value player_table seat rows_) refl who in
-              elim (cases_Bool (eqb who seat.who)) [
-                | inl is_ ↦ (let same = eqb-true who seat.who is_ in
-                    ap (marks_at (players words all) (with_event rows_ seat event) name) same
-                    ∙ (m.own ∙ (ap (λ l. l ++ marks_for name seat.who (row_of player_table seat rows_ event).sent) (taken_none rows_ more_ b seat event born fine t none).1
-                    ∙ silent rows_ more_ b seat event born fine t none (value player_table seat rows_) refl seat.who)))
-                | inr no_ ↦ m.others who (λ e2. true≢false (sym (eq-eqb who seat.who e2) ∙ no_)) ∙ (ap (λ l. l ++ marks_for name who (row_of player_table seat rows_ event).sent) (none who) ∙ quiet)
-              ]
+      silent_row : (rows : Rows) (seat : Seat Player) (event : Event OrderLine) → IsRowOf prefix rows seat event → IsSeat all seat → IsCalmEvent (players words all) rows seat.who event → AreInTime (players words all) (with_event rows seat event)
+          → ((who : ℕ) → marks_at (players words all) rows name who ≡ []) → (who : ℕ) → marks_at (players words all) (with_event rows seat event) name who ≡ []
+      silent_row rows seat event place born fine t none who =
+          let row = row_of player_table seat rows event in
+          let more : Rows = row ∷ place.more in
+          let b : prefix ≡ rows ++ more = place.fact ∙ append_assoc rows (row ∷ []) place.more in
+          let m = moved rows more b seat event born fine t none in
+          let quiet = silent rows more b seat event born fine t none (value player_table seat rows) refl who in
+          elim (cases_Bool (eqb who seat.who)) [
+            | inl is_ ↦ (let same = eqb-true who seat.who is_ in
+                ap (marks_at (players words all) (with_event rows seat event) name) same
+                ∙ (m.own ∙ (ap (λ l. l ++ marks_for name seat.who row.sent) (taken_none rows more b seat event born fine t none).1 ∙ silent rows more b seat event born fine t none (value player_table seat rows) refl seat.who)))
+            | inr no_ ↦ m.others who (λ e. true≢false (sym (eq-eqb who seat.who e) ∙ no_)) ∙ (ap (λ l. l ++ marks_for name who row.sent) (none who) ∙ quiet)
+          ]
 
       no_group : AreInTime (players words (births as_nodes scenario)) prefix → (who : ℕ) → marks_at (players words (births as_nodes scenario)) prefix dummy.core.id who ≡ []
-      no_group timely who = by_time (players words all) Begin (λ more e w. refl) after_row prefix timely [] (sym (append-nil prefix)) who
+      no_group = kept_by_all words all prefix (λ rows. (who : ℕ) → marks_at (players words all) rows name who ≡ []) silent_row (λ who. refl)
 
     -- ---- any name
 

@@ -1,4 +1,5 @@
 -- No state of a group that is gone is sent: nobody comes to it by the entry by which it goes.
+use Rattle.sc_live_journals.proofs.GroupsProofs.PrefixesInTime.{prefix_in_time, kept_through}
 use Rattle.std.proofs.Common.{◌≡◌, ℕ, zero, suc, ◌+◌, ◌-◌, eqb, true, false, true≢false, take, List, [], ◌∷◌, ◌++◌, inl, inr, sym, ◌∙◌, ap, subst, arith, append_assoc}
 use Rattle.std.specs.Prelude.{is_some}
 use Rattle.std.proofs.lemmas.Bool.{cases_Bool, cond_both}
@@ -6,8 +7,7 @@ use Rattle.sc_base.specs.Definitions.{Among, Each, is_member}
 use Rattle.sc_node_table.specs.Values.{Ballot, Draw, Command, Base, OrderLine, Mail, Install, Seat, Event, Deliver, Row}
 use Rattle.sc_actor.specs.Definitions.{mails, row_of}
 use Rattle.sc_actor.proofs.Lemmas.{mails-snoc}
-use Rattle.sc_live_orderly.specs.Definitions.{AreInTime}
-use Rattle.sc_live_orderly.proofs.Lemmas.{by_time, last_in_time}
+use Rattle.sc_live_orderly.specs.Definitions.{IsCalmEvent, AreInTime}
 use Rattle.sc_words.proofs.PaxosProofs.Lemmas.{Each-among, Each-append}
 use Rattle.sc_group_table.specs.machine.Definitions.{group_of, state_after}
 use Rattle.sc_scenario.specs.declared.scenario.scenarios.Scenario.{Scenario}
@@ -16,7 +16,7 @@ use Rattle.sc_live_steps.specs.calm.Definitions.{players, Rows}
 use Rattle.sc_law_groups.proofs.GroupProofs.Lemmas.{number_among}
 use Rattle.sc_live_steps.specs.following.Definitions.{Mark, Teaches, Installs, Prepares, mark_of, Course, Sets, members_at, SlotLeaders, reported_of, taught_from, welcome, marks_for}
 use Rattle.sc_live_steps.proofs.FollowingProofs.Lemmas.{among-either, same_mark}
-use Rattle.sc_live_journals.specs.rows.Definitions.{led_course}
+use Rattle.sc_live_journals.specs.rows.Definitions.{with_event, IsSeat, led_course}
 use Rattle.sc_live_journals.specs.logs.Definitions.{logged_sets, IsGroupOf}
 use Rattle.sc_live_journals.specs.groups.Definitions.{IsGroupRow, RowPasses, RowRests, RowTakes, RowMakes, RowLeads, RowElects, Ends, IsRowOf, Delivers, IsSentSo}
 use Rattle.sc_live_journals.proofs.GroupsProofs.Lemmas.{each_among, among_marks}
@@ -138,25 +138,15 @@ module _ (go_on : LedRowsGoOn) (words : ℕ → ℕ → ℕ × ℕ) (scenario : 
           | inr offered ↦ absurd (offers_none at (led_course l.led.bound course after.0) course.bound mail.to slot (l.led.leads.offers mail.to) (l.led.leads.asks mail.to) offered)
         ]
 
-  abbrev Standing : Rows → Type 0
-  Standing rows = (more : Rows) → prefix ≡ rows ++ more → Each IsStanding (mails rows)
-
-  after_row : (rows : Rows) (row : Row Mail OrderLine) → AreInTime (players words (births as_nodes scenario)) (rows ++ row ∷ []) → Standing rows → Standing (rows ++ row ∷ [])
-  after_row rows row in_time was more fact =
-      let calm = (last_in_time (players words all) rows row in_time).0 in
-      let in_prefix : IsRowOf prefix rows calm.seat calm.event = record { more = more; fact = fact ∙ ap (λ (r : Row Mail OrderLine). (rows ++ r ∷ []) ++ more) calm.row_is } in
-      let led = go_on words scenario journal prefix rest base group timely few split so rows calm.seat calm.event in_prefix calm.born calm.calm in
+  standing_row : (rows : Rows) (seat : Seat Player) (event : Event OrderLine) → IsRowOf prefix rows seat event → IsSeat all seat → IsCalmEvent (players words all) rows seat.who event → Each IsStanding (mails rows) → Each IsStanding (mails (with_event rows seat event))
+  standing_row rows seat event in_prefix born calm was =
+      let led = go_on words scenario journal prefix rest base group timely few split so rows seat event in_prefix born calm in
+      let row = row_of player_table seat rows event in
       subst (Each IsStanding) (sym (mails-snoc rows row))
-      (Each-append IsStanding (mails rows) row.sent (was (row ∷ more) (fact ∙ append_assoc rows (row ∷ []) more))
-      (each_among IsStanding row.sent (λ mail a slot state sets body.
-      stands_row rows calm.seat calm.event led.0 mail (subst (λ (r : Row Mail OrderLine). Among mail r.sent) calm.row_is a) slot state sets body led.2.later led.2.row)))
-
-  prefix_in_time : AreInTime (players words (births as_nodes scenario)) prefix
-  prefix_in_time before row after e = timely before row (after ++ rest) (split ∙ (ap (λ l. l ++ rest) e ∙ append_assoc before (row ∷ after) rest))
+      (Each-append IsStanding (mails rows) row.sent was (each_among IsStanding row.sent (λ mail a slot state sets body. stands_row rows seat event led.0 mail a slot state sets body led.2.later led.2.row)))
 
   standing : (rows more : Rows) → prefix ≡ rows ++ more → Each IsStanding (mails rows)
-  standing rows more fact =
-      by_time (players words all) Standing (λ more e. tt) after_row rows (λ before row after e. prefix_in_time before row (after ++ more) (fact ∙ (ap (λ l. l ++ more) e ∙ append_assoc before (row ∷ after) more))) more fact
+  standing = kept_through words all prefix (λ rows. Each IsStanding (mails rows)) (λ rows seat event place born calm t. standing_row rows seat event place born calm) tt (prefix_in_time words all journal timely prefix rest split)
 
   stands_sent : (rows : Rows) (seat : Seat Player) (number : ℕ) (mail : Mail) → Delivers prefix rows seat number mail → IsStanding mail
   stands_sent rows seat number mail d =

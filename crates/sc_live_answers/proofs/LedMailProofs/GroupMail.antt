@@ -244,10 +244,6 @@ module _ (bounds : ValidScenariosAreBounded) (idle : JournalsKeepIdle) (wb : Sce
           same = refl;
         }
 
-    module _ (quiet : (rows more : Rows) → journal ≡ rows ++ more → IsQuietWhileYoung words (births as_nodes scenario) rows base) where
-      abbrev Begin : Rows → Type 0
-      Begin rows = (more : Rows) → journal ≡ rows ++ more → Through rows
-
   pub begin_sent : GroupsBeginSent
   begin_sent words scenario journal base group timely few = first_rows words scenario journal base group timely few
 

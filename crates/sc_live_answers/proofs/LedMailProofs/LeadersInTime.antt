@@ -1,4 +1,5 @@
 -- A group of a journal whose rows come in time has leaders, and is well led after each of them.
+use Rattle.sc_live_journals.proofs.GroupsProofs.PrefixesInTime.{kept_by_all}
 use Rattle.std.proofs.Common.{◌≡◌, ℕ, ◌+◌, ◌≤◌, true, false, List, [], ◌∷◌, ◌++◌, Option, Some, None, inl, inr, refl, sym, ◌∙◌, ap, subst, arith, append_assoc, append-nil}
 use Rattle.std.proofs.lemmas.Bool.{lt-ltb, le-ltb}
 use Rattle.sc_base.specs.Definitions.{Among, Each}
@@ -6,7 +7,6 @@ use Rattle.sc_node_table.specs.Values.{Draw, Base, OrderLine, Mail, Install, Sea
 use Rattle.sc_actor.specs.Definitions.{mails, row_of}
 use Rattle.sc_actor.proofs.Lemmas.{mails-append, mails-snoc}
 use Rattle.sc_live_orderly.specs.Definitions.{IsCalmEvent, AreInTime}
-use Rattle.sc_live_orderly.proofs.Lemmas.{by_time, last_in_time}
 use Rattle.sc_words.proofs.PaxosProofs.Lemmas.{Each-among, Each-append}
 use Rattle.sc_scenario.specs.declared.scenario.scenarios.Scenario.{Scenario}
 use Rattle.sc_node_table.specs.Definitions.{ReplicaState, next, last_slot}
@@ -222,18 +222,12 @@ module _ (well : ScenariosAreWellBorn) (kept : ScenariosAreKeptBorn) (keeps : Re
 
     -- ---- all rows
 
-    after_row : (rows : Rows) (row : Row Mail OrderLine) → AreInTime (players words all) (rows ++ row ∷ []) → ((more : Rows) → prefix ≡ rows ++ more → Goes rows) → (more : Rows) → prefix ≡ (rows ++ row ∷ []) ++ more → Goes (rows ++ row ∷ [])
-    after_row rows row timely was more fact =
-        let calm = (last_in_time (players words all) rows row timely).0 in
-        subst (λ (r : Row Mail OrderLine). Goes (rows ++ r ∷ [])) (sym calm.row_is)
-        (goes_on rows calm.seat calm.event more (fact ∙ ap (λ (r : Row Mail OrderLine). (rows ++ r ∷ []) ++ more) calm.row_is) calm.born calm.calm
-        (subst (λ (r : Row Mail OrderLine). AreInTime (players words all) (rows ++ r ∷ [])) calm.row_is timely) (was (row ∷ more) (fact ∙ append_assoc rows (row ∷ []) more)))
-
     begin : IsLedOn at over by words all [] base → Goes []
     begin led = record { course = led.0; led = led.1; fresh = λ slot least. refl; sent = tt; counted = λ before seat event r after i. absurd (none_behind before (row_of player_table seat before event) i.more i.fact) }
 
     goes_through : AreInTime (players words (births as_nodes scenario)) prefix → IsLedOn at over by words all [] base → Goes prefix
-    goes_through timely led = by_time (players words all) (λ rows. (more : Rows) → prefix ≡ rows ++ more → Goes rows) (λ more e. begin led) after_row prefix timely [] (sym (append-nil prefix))
+    goes_through timely led =
+        kept_by_all words all prefix Goes (λ rows seat event place born calm timely_ was. goes_on rows seat event place.more place.fact born calm timely_ was) (begin led) timely
 
     pub led_through : AreInTime (players words (births as_nodes scenario)) prefix → IsLedOn at over by words all [] base → IsLedOn at over by words all prefix base × HasLeaders as_nodes by scenario journal prefix base
     led_through timely led =

@@ -1,5 +1,6 @@
 -- What calls leave of a replica as they are executed and offered: what it saw and promised, and what it leads with but for its flights.
 use Rattle.std.proofs.Common.{◌≡◌, ℕ, ◌+◌, ◌&&◌, eqb, Bool, true, false, cond, List, [], ◌∷◌, ◌++◌, length, Option, Some, None, refl, sym, ◌∙◌, ap, subst}
+use Rattle.std.proofs.lemmas.Bool.{cond_both, eqb-true, and_parts}
 use Rattle.std.specs.Prelude.{is_some, nat_le}
 use Rattle.std.specs.List.{list_any}
 use Rattle.sc_base.specs.Definitions.{Among, Each, same_ballot, is_majority, is_member}
@@ -116,6 +117,42 @@ leaves_entry first r mails command l = record {
   accepted = λ report a. l.accepted report (from_filter _ r.acceptor.accepted report a).0;
 }
 
+-- ---- a vote
+
+-- a replica with the value of a flight chosen
+abbrev pub with_chosen : ℕ → Flight Command → ReplicaState → ReplicaState
+with_chosen slot flight r = record r { leader = without_flight_at slot r.leader; ready = with_slot r.ready slot flight.value }
+
+-- a vote is noted, or the value of its flight is chosen, and is executed at once if it is next
+module _ (F : Place → Type 0) (r : ReplicaState) (from : ℕ) (ballot : Ballot) (slot : ℕ) (stays : F (r, [])) (noted : (voters : Option (List ℕ)) → F (record r { leader = record r.leader { flights = with_voters slot voters r.leader.flights } }, []))
+    (chosen : (flight : Flight Command) → flight_at slot r.leader.flights ≡ Some flight → F (with_chosen slot flight r, []))
+    (executes : (flight : Flight Command) → flight_at slot r.leader.flights ≡ Some flight → slot ≡ next r → F (executed true flight.value (with_chosen slot flight r, [])).0) where
+  abbrev FAfter : Executed → Type 0
+  FAfter step = F step.0
+
+  readies : (flight : Flight Command) → flight_at slot r.leader.flights ≡ Some flight → F (readied slot flight.value (record r { leader = without_flight_at slot r.leader }, [])).0
+  unfolding readied
+  readies flight e =
+      cond_both (eqb slot (next r) && has_room (with_chosen slot flight r)) (executed true flight.value (with_chosen slot flight r, [])) (childless (with_chosen slot flight r, [])) FAfter
+      (λ t. executes flight e (eqb-true slot (next r) (and_parts (eqb slot (next r)) (has_room (with_chosen slot flight r)) t).0)) (λ _. chosen flight e)
+
+  tallies : (set : List ℕ) (o : Option (Flight Command)) → flight_at slot r.leader.flights ≡ o → F (vote_tallied slot (vote_at from slot set o r.leader) (r, [])).0
+  tallies set None e = stays
+  tallies set (Some flight) e =
+      let voters : Option (List ℕ) = voters_after set from flight.voters in
+      either_way (λ (x : Counted Command × LeaderState Command). F (vote_tallied slot x (r, [])).0) (is_majority set (kept_voters voters)) (Chosen flight.value, without_flight_at slot r.leader)
+      (NotYet (length (kept_voters voters)), record r.leader { flights = with_voters slot voters r.leader.flights }) (readies flight e) (noted voters)
+
+  votes : (o : Option (List ℕ)) → F (voted from ballot slot o (r, [])).0
+  votes None = stays
+  votes (Some set) =
+      either_way (λ (x : Counted Command × LeaderState Command). F (vote_tallied slot x (r, [])).0) (same_ballot ballot r.leader.ballot) (vote_at from slot set (flight_at slot r.leader.flights) r.leader) (NotYet 0, r.leader)
+      (tallies set (flight_at slot r.leader.flights) refl) stays
+
+  pub vote_row : F (accepted_row from ballot slot (r, [])).0
+  unfolding accepted_row
+  vote_row = either_way FAfter (leads ballot r) (voted from ballot slot (set_at slot r) (r, [])) (childless (r, [])) (votes (set_at slot r)) stays
+
 -- ---- a leader that executes calls
 
 module _ (begun : Requests) (frame : Frame) (fact : IsFrame frame) (first : ReplicaState) where
@@ -179,37 +216,21 @@ module _ (begun : Requests) (frame : Frame) (fact : IsFrame frame) (first : Repl
   -- ---- a vote is counted
 
   module _ (r : ReplicaState) (g : Goes r) (flights : Each (IsPlainFlight begun frame) r.leader.flights) (from : ℕ) (ballot : Ballot) (slot : ℕ) where
-    abbrev G : Executed → Type 0
-    G step = F step.0
-
-    chosen : (flight : Flight Command) → flight_at slot r.leader.flights ≡ Some flight → G (readied slot flight.value (record r { leader = without_flight_at slot r.leader }, []))
-    unfolding readied
+    chosen : (flight : Flight Command) → flight_at slot r.leader.flights ≡ Some flight → IsPlainCommand begun frame flight.value × Goes (with_chosen slot flight r)
     chosen flight e =
-        let after : ReplicaState = record r { leader = without_flight_at slot r.leader; ready = with_slot r.ready slot flight.value } in
-        let flies = Each-among (IsPlainFlight begun frame) r.leader.flights flight flights (find_found (λ (f : Flight Command). eqb f.slot slot) r.leader.flights flight e).0 in
-        let goes : Goes after = record {
-          group = g.group;
-          me_is = g.me_is;
-          running = g.running;
-          ready = with_each slot flight.value (λ (x : ℕ × Command). IsPlainCommand begun frame x.1) r.ready flies.is_call g.ready;
-          leaves = record { top = g.leaves.top; promised = g.leaves.promised; leader = g.leaves.leader; accepted = g.leaves.accepted };
-        } in
-        either_way G (eqb slot (next r) && has_room after) (executed true flight.value (after, [])) (childless (after, [])) (all_go flight.value (after, []) flies.is_call goes) goes
-
-    by_flight : (set : List ℕ) (o : Option (Flight Command)) → flight_at slot r.leader.flights ≡ o → G (vote_tallied slot (vote_at from slot set o r.leader) (r, []))
-    by_flight set None e = g
-    by_flight set (Some flight) e =
-        let v : Option (List ℕ) = voters_after set from flight.voters in
-        either_way (λ (x : Counted Command × LeaderState Command). G (vote_tallied slot x (r, []))) (is_majority set (kept_voters v)) (Chosen flight.value, without_flight_at slot r.leader)
-        (NotYet (length (kept_voters v)), record r.leader { flights = with_voters slot v r.leader.flights }) (chosen flight e)
-        (record { group = g.group; me_is = g.me_is; running = g.running; ready = g.ready; leaves = record { top = g.leaves.top; promised = g.leaves.promised; leader = g.leaves.leader; accepted = g.leaves.accepted } })
-
-    by_set : (o : Option (List ℕ)) → G (voted from ballot slot o (r, []))
-    by_set None = g
-    by_set (Some set) =
-        either_way (λ (x : Counted Command × LeaderState Command). G (vote_tallied slot x (r, []))) (same_ballot ballot r.leader.ballot) (vote_at from slot set (flight_at slot r.leader.flights) r.leader) (NotYet 0, r.leader)
-        (by_flight set (flight_at slot r.leader.flights) refl) g
+        let flies = Each-among (IsPlainFlight begun frame) r.leader.flights flight flights (find_found (λ (f : Flight Command). eqb f.slot slot) r.leader.flights flight e).0 in (
+          flies.is_call,
+          record {
+            group = g.group;
+            me_is = g.me_is;
+            running = g.running;
+            ready = with_each slot flight.value (λ (x : ℕ × Command). IsPlainCommand begun frame x.1) r.ready flies.is_call g.ready;
+            leaves = record { top = g.leaves.top; promised = g.leaves.promised; leader = g.leaves.leader; accepted = g.leaves.accepted };
+          },
+        )
 
     pub vote_goes : Goes (accepted_row from ballot slot (r, [])).0.0
-    unfolding accepted_row
-    vote_goes = either_way G (leads ballot r) (voted from ballot slot (set_at slot r) (r, [])) (childless (r, [])) (by_set (set_at slot r)) g
+    vote_goes =
+        vote_row F r from ballot slot g
+        (λ voters. record { group = g.group; me_is = g.me_is; running = g.running; ready = g.ready; leaves = record { top = g.leaves.top; promised = g.leaves.promised; leader = g.leaves.leader; accepted = g.leaves.accepted } })
+        (λ flight e. (chosen flight e).1) (λ flight e here. (let x = chosen flight e in all_go flight.value (with_chosen slot flight r, []) x.0 x.1))

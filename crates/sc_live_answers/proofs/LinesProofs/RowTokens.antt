@@ -1,16 +1,15 @@
 -- No row of a replica raises tokens while clients ask.
-use Rattle.std.proofs.Common.{◌≡◌, ℕ, ◌+◌, ◌≤◌, ◌&&◌, eqb, Bool, true, false, cond, List, [], ◌∷◌, ◌++◌, length, sum_by, Option, Some, None, refl, sym, ◌∙◌, ap, subst, arith}
-use Rattle.std.proofs.lemmas.Bool.{eqb-true, and_parts}
-use Rattle.sc_base.specs.Definitions.{Each, client_actor, same_ballot, is_majority, is_member}
-use Rattle.sc_node_table.specs.Values.{Ballot, Draw, Op, Command, Call, Core, AnswerBody, Mail, MailBody, Request, Answer, Accept, Accepted, Learn, Chosen, NotYet, Flight}
-use Rattle.sc_words.specs.paxos.Definitions.{must, flight_at, without_flight_at, kept_voters, voters_after, with_voters, vote_at}
+use Rattle.std.proofs.Common.{◌≡◌, ℕ, ◌+◌, ◌≤◌, eqb, true, List, [], ◌∷◌, ◌++◌, sum_by, Option, Some, None, refl, sym, ◌∙◌, ap, subst, arith}
+use Rattle.sc_base.specs.Definitions.{Each, client_actor, is_member}
+use Rattle.sc_node_table.specs.Values.{Ballot, Draw, Op, Command, Call, Core, AnswerBody, Mail, MailBody, Request, Answer, Accept, Accepted, Learn, Flight}
+use Rattle.sc_words.specs.paxos.Definitions.{must, flight_at, with_voters}
 use Rattle.sc_words.proofs.PaxosProofs.Lemmas.{Each-among, find_found}
-use Rattle.sc_node_table.specs.Definitions.{entered, executed_one, has_room, next_child, next_ready, ending, executed_ready, executed, pumped, ReplicaState, Place, Executed, childless, name_of, next, members, set_at, last_slot, forgotten, mailed, at_slot, with_slot, slots_ahead, leads, readied, vote_tallied, voted, accepted_row}
-use Rattle.sc_law_walks.proofs.Lemmas.{entered_next, cleared, either_way}
+use Rattle.sc_node_table.specs.Definitions.{entered, executed_one, next_child, next_ready, ending, executed_ready, executed, pumped, ReplicaState, Place, Executed, childless, name_of, next, members, last_slot, forgotten, mailed, at_slot, with_slot, slots_ahead, accepted_row}
+use Rattle.sc_law_walks.proofs.Lemmas.{entered_next, cleared}
 use Rattle.sc_live_plain.specs.Definitions.{Frame, IsFrame, Requests, IsPlainCommand, IsPlainCall, IsPlainBody, IsPlainFlight, IsPlainReplica, IsPlainFollower, IsPlainLeader, IsPlainAt, IsDue}
 use Rattle.sc_live_plain.proofs.Lemmas.{learn_is, learnt_plain, learnt_follower, at_found, with_at, with_each, recorded_after, counted_call, call_is, leading_at, following_at, none_stops, call_plain, entered_frame}
 use Rattle.sc_live_answers.specs.Definitions.{command_token, body_token, flight_tokens, ready_tokens, replica_tokens, place_tokens}
-use Rattle.sc_live_answers.proofs.LinesProofs.CallEffects.{Goes, pumps, pump_kept, entry_goes, leaves_itself}
+use Rattle.sc_live_answers.proofs.LinesProofs.CallEffects.{with_chosen, vote_row, Goes, pumps, pump_kept, entry_goes, leaves_itself}
 use Rattle.sc_live_plain.proofs.Lemmas.{accept_is}
 use Rattle.sc_live_plain.proofs.PlainRowsProofs.PlainAcceptAndLearnRows.{accepted_state}
 use Rattle.sc_live_answers.proofs.LinesProofs.PumpTokens.{IsFree, sent_token, others_token, answer_token, without_flight_tokens, taken_flight_tokens, with_voters_tokens, taken_slot_tokens, with_slot_tokens, pump_tokens, request_tokens}
@@ -36,9 +35,6 @@ module _ (c : ℕ) (begun : Requests) (frame : Frame) (fact : IsFrame frame) (fi
       let low = h.low in
       let most = h.most in
       record { goes = pumps begun frame fact first place h.goes; low = omega (arith, low, same); most = omega (arith, le, most) }
-
-  abbrev later : ReplicaState → ℕ → ℕ → Op → ReplicaState
-  later r client seq op = entered (Call client seq op) r
 
   -- an entry is answered
   entry_tokens : (r : ReplicaState) (mails : List Mail) (client seq : ℕ) (op : Op) (answer : AnswerBody) → at_slot r.ready (next r) ≡ Some (Call client seq op)
@@ -105,68 +101,40 @@ module _ (c : ℕ) (begun : Requests) (frame : Frame) (fact : IsFrame frame) (fi
   -- ---- a vote
 
   module _ (r : ReplicaState) (h : Holds (r, [])) (flights : Each (IsPlainFlight begun frame) r.leader.flights) (from : ℕ) (ballot : Ballot) (slot : ℕ) where
-    abbrev G : Executed → Type 0
-    G step = Holds step.0
+    chosen : (flight : Flight Command) → flight_at slot r.leader.flights ≡ Some flight → Holds (with_chosen slot flight r, [])
+    chosen flight e =
+        let g = h.goes in
+        let flies = Each-among (IsPlainFlight begun frame) r.leader.flights flight flights (find_found (λ (f : Flight Command). eqb f.slot slot) r.leader.flights flight e).0 in
+        let out = taken_flight_tokens c slot r.leader.flights flight e in
+        let in_ = with_slot_tokens c slot flight.value r.ready in
+        let most = h.most in
+        record {
+          goes = record {
+            group = g.group;
+            me_is = g.me_is;
+            running = g.running;
+            ready = with_each slot flight.value (λ (x : ℕ × Command). IsPlainCommand begun frame x.1) r.ready flies.is_call g.ready;
+            leaves = record { top = g.leaves.top; promised = g.leaves.promised; leader = g.leaves.leader; accepted = g.leaves.accepted };
+          };
+          low = h.low;
+          most = omega (arith, out, in_, most);
+        }
 
-    chosen : (flight : Flight Command) → flight_at slot r.leader.flights ≡ Some flight → G (readied slot flight.value (record r { leader = without_flight_at slot r.leader }, []))
-    unfolding readied
-    chosen flight e = by (eqb slot (next r) && has_room after) refl
-      where
-        after : ReplicaState
-        after = record r { leader = without_flight_at slot r.leader; ready = with_slot r.ready slot flight.value }
-
-        held : Holds (record r { leader = without_flight_at slot r.leader; ready = with_slot r.ready slot flight.value }, [])
-        held =
-            let g = h.goes in
-            let flies = Each-among (IsPlainFlight begun frame) r.leader.flights flight flights (find_found (λ (f : Flight Command). eqb f.slot slot) r.leader.flights flight e).0 in
-            let out = taken_flight_tokens c slot r.leader.flights flight e in
-            let in_ = with_slot_tokens c slot flight.value r.ready in
-            let most = h.most in
-            record {
-              goes = record {
-                group = g.group;
-                me_is = g.me_is;
-                running = g.running;
-                ready = with_each slot flight.value (λ (x : ℕ × Command). IsPlainCommand begun frame x.1) r.ready flies.is_call g.ready;
-                leaves = record { top = g.leaves.top; promised = g.leaves.promised; leader = g.leaves.leader; accepted = g.leaves.accepted };
-              };
-              low = h.low;
-              most = omega (arith, out, in_, most);
-            }
-
-        by : (b : Bool) → (eqb slot (next r) && has_room after) ≡ b → G (cond {A = Executed} b (executed true flight.value (after, [])) (childless (after, [])))
-        by true t =
-            let here = eqb-true slot (next r) (and_parts (eqb slot (next r)) (has_room after) t).0 in
-            executes_on flight.value (after, []) (subst (λ n. at_slot (with_slot r.ready slot flight.value) n ≡ Some flight.value) here (with_at slot flight.value r.ready)) held
-        by false t = held
-
-    by_flight : (set : List ℕ) (o : Option (Flight Command)) → flight_at slot r.leader.flights ≡ o → G (vote_tallied slot (vote_at from slot set o r.leader) (r, []))
-    by_flight set None e = h
-    by_flight set (Some flight) e = by (is_majority set (kept_voters (voters_after set from flight.voters)))
-      where
-        by : (b : Bool) → G (vote_tallied slot (cond b (Chosen flight.value, without_flight_at slot r.leader) (NotYet (length (kept_voters (voters_after set from flight.voters))), record r.leader { flights = with_voters slot (voters_after set from flight.voters) r.leader.flights })) (r, []))
-        by true = chosen flight e
-        by false =
-            let g = h.goes in
-            let same = with_voters_tokens c slot (voters_after set from flight.voters) r.leader.flights in
-            let most = h.most in
-            record {
-              goes = record { group = g.group; me_is = g.me_is; running = g.running; ready = g.ready; leaves = record { top = g.leaves.top; promised = g.leaves.promised; leader = g.leaves.leader; accepted = g.leaves.accepted } };
-              low = h.low;
-              most = omega (arith, same, most);
-            }
-
-    by_set : (o : Option (List ℕ)) → G (voted from ballot slot o (r, []))
-    by_set None = h
-    by_set (Some set) = by (same_ballot ballot r.leader.ballot) (by_flight set (flight_at slot r.leader.flights) refl)
-      where
-        by : (b : Bool) → G (vote_tallied slot (vote_at from slot set (flight_at slot r.leader.flights) r.leader) (r, [])) → G (vote_tallied slot (cond b (vote_at from slot set (flight_at slot r.leader.flights) r.leader) (NotYet 0, r.leader)) (r, []))
-        by true more = more
-        by false more = h
+    noted : (voters : Option (List ℕ)) → Holds (record r { leader = record r.leader { flights = with_voters slot voters r.leader.flights } }, [])
+    noted voters =
+        let g = h.goes in
+        let same = with_voters_tokens c slot voters r.leader.flights in
+        let most = h.most in
+        record {
+          goes = record { group = g.group; me_is = g.me_is; running = g.running; ready = g.ready; leaves = record { top = g.leaves.top; promised = g.leaves.promised; leader = g.leaves.leader; accepted = g.leaves.accepted } };
+          low = h.low;
+          most = omega (arith, same, most);
+        }
 
     vote_holds : Holds (accepted_row from ballot slot (r, [])).0
-    unfolding accepted_row
-    vote_holds = either_way G (leads ballot r) (voted from ballot slot (set_at slot r) (r, [])) (childless (r, [])) (by_set (set_at slot r)) h
+    vote_holds =
+        vote_row Holds r from ballot slot h noted chosen
+        (λ flight e here. executes_on flight.value (with_chosen slot flight r, []) (subst (λ n. at_slot (with_slot r.ready slot flight.value) n ≡ Some flight.value) here (with_at slot flight.value r.ready)) (chosen flight e))
 
 -- ---- each mail
 

@@ -1,5 +1,5 @@
 -- What is said of the link and the route of a group, and of the stories, where they name nodes; and that an outcome leaves it.
-use Rattle.std.proofs.Common.{◌≡◌, ℕ, ◌≤◌, ◌⊎◌, Bool, true, false, ◌||◌, ◌++◌, filter, arith, eqb, nat_lt, length, List, [], ◌∷◌, Some, inl, inr, refl, sym, ◌∙◌, ap, subst}
+use Rattle.std.proofs.Common.{◌≡◌, ℕ, ◌≤◌, ◌⊎◌, Bool, true, ◌||◌, ◌++◌, filter, arith, eqb, nat_lt, length, List, [], ◌∷◌, Some, inl, inr, refl, sym, ◌∙◌, ap, subst}
 use Rattle.std.specs.List.{list_any}
 use Rattle.std.proofs.lemmas.Bool.{cond_both, eqb-true, eq-eqb, or_right}
 use Rattle.sc_base.specs.Definitions.{is_member, with_member, united}
@@ -9,6 +9,7 @@ use Rattle.sc_words.specs.declared.commands.votes.Vote.TheVariants as Ballot
 use Rattle.sc_group_table.specs.machine.Definitions.{Group}
 use Rattle.sc_law_entries.specs.ring.Definitions.{Sources, Story, Stories}
 use Rattle.sc_meaning.proofs.EntriesProofs.Lemmas.{one_of as or_true}
+use Rattle.std.proofs.lemmas.List.Folds.{list_any-append}
 
 -- some nodes, of each of which something holds with a group's name
 abbrev pub Good : (Draw → ℕ → Type 0) → Draw → List ℕ → Type 0
@@ -17,14 +18,6 @@ Good P name nodes = (1 ≤ length nodes) × ((node : ℕ) → is_member nodes no
 -- ---- a call changes no record
 
 -- ---- sets of nodes
-
-any_append : (p : ℕ → Bool) (xs ys : List ℕ) → list_any p (xs ++ ys) ≡ (list_any p xs || list_any p ys)
-any_append p [] ys = refl
-any_append p (x ∷ xs) ys = ap (λ b. p x || b) (any_append p xs ys) ∙ sym (or_assoc (p x) (list_any p xs) (list_any p ys))
-  where
-    or_assoc : (a b c : Bool) → ((a || b) || c) ≡ (a || (b || c))
-    or_assoc true b c = refl
-    or_assoc false b c = refl
 
 any_filter : (p q : ℕ → Bool) (xs : List ℕ) → list_any p (filter q xs) ≡ true → list_any p xs ≡ true
 any_filter p q [] = λ e. e
@@ -37,14 +30,14 @@ with_any_member : (nodes : List ℕ) (node who : ℕ) → is_member (united node
 with_any_member nodes node who = cond_both (is_member nodes node) nodes (with_member nodes node) (λ l. is_member l who ≡ true → (is_member nodes who ≡ true) ⊎ (who ≡ node))
     (λ _ e. inl e)
     (λ _ e. (let fact = λ (m : ℕ). eqb m who in
-    let parts = sym (any_append fact (filter (λ m. nat_lt m node) nodes) (node ∷ filter (λ m. nat_lt node m) nodes)) ∙ e in
+    let parts = sym (list_any-append fact (filter (λ m. nat_lt m node) nodes) (node ∷ filter (λ m. nat_lt node m) nodes)) ∙ e in
     elim (or_true (list_any fact (filter (λ m. nat_lt m node) nodes)) (eqb node who || list_any fact (filter (λ m. nat_lt node m) nodes)) parts) [
       | inl low ↦ inl (any_filter fact (λ m. nat_lt m node) nodes low)
       | inr more ↦ elim (or_true (eqb node who) (list_any fact (filter (λ m. nat_lt node m) nodes)) more) [ inl same ↦ inr (sym (eqb-true node who same)) | inr high ↦ inl (any_filter fact (λ m. nat_lt node m) nodes high) ]
     ]))
 
 any_appended : (p : ℕ → Bool) (xs ys : List ℕ) → list_any p ys ≡ true → list_any p (xs ++ ys) ≡ true
-any_appended p xs ys e = any_append p xs ys ∙ or_right (list_any p xs) (list_any p ys) e
+any_appended p xs ys e = list_any-append p xs ys ∙ or_right (list_any p xs) (list_any p ys) e
 
 -- and that is
 pub united_has : (nodes : List ℕ) (node : ℕ) → is_member (united nodes (node ∷ [])) node ≡ true

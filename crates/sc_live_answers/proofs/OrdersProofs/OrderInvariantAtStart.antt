@@ -5,7 +5,7 @@ use Rattle.sc_node_table.specs.Values.{Draw, Base, OrderLine, Mail, Seat, Row}
 use Rattle.sc_actor.specs.declared.rows.Event.TheVariants.{Told}
 use Rattle.sc_actor.specs.Definitions.{System, row_of, mails}
 use Rattle.sc_live_orderly.specs.Definitions.{is_born, is_told, AreInTime}
-use Rattle.sc_live_orderly.proofs.Lemmas.{count_push, in_time_before}
+use Rattle.sc_live_orderly.proofs.Lemmas.{count_push}
 use Rattle.sc_scenario.specs.scenario.Definitions.{ValidScenariosAreBounded}
 use Rattle.sc_scenario.specs.declared.scenario.scenarios.Scenario.{Scenario}
 use Rattle.sc_node_table.specs.Definitions.{ReplicaState, next, last_slot}
@@ -43,9 +43,6 @@ module _ (all_bounded : ValidScenariosAreBounded) (few_law : SlotsAreLeft) (logs
 
   abbrev then : Rows
   then = with_event quiet seat (Told line)
-
-  before : AreInTime s quiet
-  before = in_time_before s quiet row timely
 
   strangers : (name : Draw) (who : ℕ) → is_born s who ≡ false → marks_at s quiet name who ≡ []
   strangers = no_law.strangers words scenario journal quiet calm rests.prefix rests.sent

@@ -1,20 +1,22 @@
 -- Nothing is asked for beyond the bound of a group's course, row by row.
-use Rattle.std.proofs.Common.{◌≡◌, ℕ, ◌≤◌, eqb, List, [], ◌∷◌, ◌++◌, drop, Option, Some, None, inl, inr, refl, sym, ◌∙◌, ap, subst, append_assoc, append-nil, arith}
+use Rattle.sc_live_journals.specs.rows.Definitions.{IsSeat, with_event}
+use Rattle.sc_live_journals.proofs.GroupsProofs.PrefixesInTime.{kept_by_all}
+use Rattle.std.proofs.Common.{◌≡◌, ℕ, ◌≤◌, eqb, List, [], ◌∷◌, ◌++◌, drop, Option, Some, None, inl, inr, refl, sym, ◌∙◌, ap, subst, arith}
 use Rattle.std.proofs.lemmas.Bool.{cond-true, eq-eqb}
 use Rattle.sc_base.specs.Definitions.{Among, same_draw}
 use Rattle.sc_node_table.specs.Values.{Draw, Base, OrderLine, Mail, MailBody, Accept, Seat, Event, Row}
 use Rattle.sc_base.proofs.Lemmas.{same_name}
 use Rattle.sc_actor.specs.Definitions.{mails}
 use Rattle.sc_actor.proofs.Lemmas.{mails-snoc}
-use Rattle.sc_live_orderly.specs.Definitions.{rest, taken, mail_for, AreInTime}
-use Rattle.sc_live_orderly.proofs.Lemmas.{by_time, in_time_before, in_time_tidy, last_in_time, rest-calm}
+use Rattle.sc_live_orderly.specs.Definitions.{IsCalmEvent, rest, taken, mail_for, AreInTime}
+use Rattle.sc_live_orderly.proofs.Lemmas.{in_time_before, in_time_tidy, last_in_time, rest-calm}
 use Rattle.sc_paxos_law.proofs.Lemmas.{Among-left, Among-right}
 use Rattle.sc_words.proofs.PaxosProofs.Lemmas.{Among-filter, Each-among, Each-append, Each-from, Each-weaker}
 use Rattle.sc_node_table.specs.Definitions.{listed}
 use Rattle.sc_meaning.specs.sound.Definitions.{Player}
 use Rattle.sc_live_steps.specs.calm.Definitions.{players, Rows}
 use Rattle.sc_live_steps.specs.following.Definitions.{Mark, Asks, mark_of, marks_of, IsKnown, Course, Sets, SlotLeaders}
-use Rattle.sc_live_journals.specs.groups.Definitions.{IsGroupRow, RowPasses, RowRests, RowTakes, RowMakes, RowLeads, RowElects, Ends, IsWellLed, RowsKeepTaught, AreWellBorn, HasOneLog, IsSentSo, EventsGoOn}
+use Rattle.sc_live_journals.specs.groups.Definitions.{IsRowOf, IsGroupRow, RowPasses, RowRests, RowTakes, RowMakes, RowLeads, RowElects, Ends, IsWellLed, RowsKeepTaught, AreWellBorn, HasOneLog, IsSentSo, EventsGoOn}
 use Rattle.sc_live_answers.specs.Definitions.{AsksBelow, AreAskedBelow, GroupsAreAskedThrough}
 use Rattle.sc_live_answers.specs.OfferedSlots.{IsAskedOn}
 
@@ -54,29 +56,21 @@ module _ (go_on : EventsGoOn) (keep : RowsKeepTaught) (at : Sets) (over : Ends) 
       subst (Among mail) (sym left) (Among-right mail (drop (taken mail.to row) (rest s rows mail.to)) (mail_for s mail.to row.sent) (Among-filter (λ (m : Mail). eqb m.to mail.to) row.sent mail a (eq-eqb mail.to mail.to refl))) in
       Each-among (IsKnown later) (marks_of base.core.id (rest s (rows ++ row ∷ []) mail.to)) mark (led.followed.follows.known mail.to) (mark_among base.core.id (rest s (rows ++ row ∷ []) mail.to) mail mark there e))))
 
-  -- after these rows, if they begin the journal
-  abbrev Begin : Rows → Type 0
-  Begin rows = (more : Rows) → journal ≡ rows ++ more → IsAskedOn at over by words births rows base
-
-  after_row : (rows : Rows) (row : Row Mail OrderLine) → AreInTime (players words births) (rows ++ row ∷ []) → Begin rows → Begin (rows ++ row ∷ [])
-  after_row rows row timely was more fact =
-      let calm = (last_in_time (players words births) rows row timely).0 in
-      let old = was (row ∷ more) (fact ∙ append_assoc rows (row ∷ []) more) in
-      let timely_too = subst (λ (r : Row Mail OrderLine). AreInTime (players words births) (rows ++ r ∷ [])) calm.row_is timely in
-      let step = go_on at over by words births journal base wb one so rows calm.seat calm.event old.course (record { more = more; fact = fact ∙ ap (λ (r : Row Mail OrderLine). (rows ++ r ∷ []) ++ more) calm.row_is }) calm.born calm.calm timely_too old.led in
-      let up = rises rows calm.seat calm.event old.course step.later step.row in
-      subst (λ (r : Row Mail OrderLine). IsAskedOn at over by words births (rows ++ r ∷ []) base) (sym calm.row_is)
-      (record {
+  asked_row : (rows : Rows) (seat : Seat Player) (event : Event OrderLine) → IsRowOf journal rows seat event → IsSeat births seat → IsCalmEvent (players words births) rows seat.who event → AreInTime (players words births) (with_event rows seat event)
+      → IsAskedOn at over by words births rows base → IsAskedOn at over by words births (with_event rows seat event) base
+  asked_row rows seat event place born calm timely old =
+      let step = go_on at over by words births journal base wb one so rows seat event old.course place born calm timely old.led in
+      let up = rises rows seat event old.course step.later step.row in
+      record {
         course = step.later;
         led = step.led;
-        taught = keep at over by words births rows calm.seat calm.event base old.course step.later (record { rosters = one.log.rosters; timely = timely_too; was = old.led }) step.row old.taught;
+        taught = keep at over by words births rows seat event base old.course step.later (record { rosters = one.log.rosters; timely = timely; was = old.led }) step.row old.taught;
         asked = subst (AreAskedBelow base.core.id step.later.bound) (sym (mails-snoc rows _))
             (Each-append (λ (mail : Mail). AsksBelow base.core.id step.later.bound mail.body) (mails rows) _
             (Each-weaker (λ (mail : Mail). AsksBelow base.core.id old.course.bound mail.body) (λ (mail : Mail). AsksBelow base.core.id step.later.bound mail.body) (λ mail k. below_later base.core.id old.course.bound step.later.bound up mail.body k) (mails rows) old.asked)
-            (sent_known rows _ step.later timely_too step.led));
-      })
+            (sent_known rows _ step.later timely step.led));
+      }
 
 pub asked_through : EventsGoOn → RowsKeepTaught → GroupsAreAskedThrough
 asked_through go_on keep at over by words births journal base wb one so timely first =
-    by_time (players words births) (Begin go_on keep at over by words births journal base wb one so) (λ all e. record { course = first.course; led = first.led; taught = first.taught; asked = tt })
-    (after_row go_on keep at over by words births journal base wb one so) journal timely [] (sym (append-nil journal))
+    kept_by_all words births journal (λ rows. IsAskedOn at over by words births rows base) (asked_row go_on keep at over by words births journal base wb one so) (record { course = first.course; led = first.led; taught = first.taught; asked = tt }) timely

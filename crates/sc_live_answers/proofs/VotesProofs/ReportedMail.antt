@@ -1,6 +1,5 @@
 -- A result that an executed entry reports stays among the mail of its row.
-use Rattle.std.proofs.Common.{◌≡◌, ◌⊎◌, ℕ, ◌+◌, ◌-◌, ◌^◌, ◌&&◌, nat_le, eqb, Bool, true, cond, List, [], ◌∷◌, ◌++◌, Option, Some, None, inl, inr, refl, sym, subst}
-use Rattle.std.specs.Prelude.{is_some}
+use Rattle.std.proofs.Common.{◌≡◌, ◌⊎◌, ℕ, ◌+◌, ◌-◌, ◌^◌, eqb, Bool, true, cond, List, [], ◌∷◌, ◌++◌, Option, Some, None, inl, inr, refl, sym, subst}
 use Rattle.std.specs.List.{list_any}
 use Rattle.std.proofs.lemmas.Bool.{cond-true}
 use Rattle.sc_base.specs.Definitions.{is_member, least_of}
@@ -11,9 +10,9 @@ use Rattle.sc_words.specs.paxos.Definitions.{must}
 use Rattle.sc_paxos_law.proofs.Lemmas.{Among-left, Among-right}
 use Rattle.sc_group_table.specs.policy.Definitions.{is_reported}
 use Rattle.sc_group_table.specs.machine.Definitions.{Group, applied}
-use Rattle.sc_node_table.specs.Definitions.{elected, ended, stopped, open_nodes, entered, answer_of, answered_or_put_back, order_result, effect_reported, announced, learnt_to, welcomed, landed, left_gone, left, is_among, looked_for, looked, executed_one, executed, install_to, asked_to_promise, welcomed_all, answered_all, sent_others, order_number, result_sent, order_reported, Found, is_act, from_backlog, from_acts, from_queues, found_by, found_for, offered, pumped_from, pumped, ReplicaState, Place, name_of, next, members, settled, may_offer, taken_at, under_way, is_idle, last_slot, before_of, begun_result, spoken_number, result_reported, begun_reported, spoken_mails, spoken}
+use Rattle.sc_node_table.specs.Definitions.{elected, ended, stopped, open_nodes, entered, answer_of, answered_or_put_back, order_result, effect_reported, announced, learnt_to, welcomed, landed, left_gone, left, is_among, looked_for, looked, executed_one, executed, install_to, asked_to_promise, welcomed_all, answered_all, sent_others, order_number, result_sent, order_reported, Found, is_act, from_backlog, from_acts, from_queues, found_by, found_for, offered, pumped, ReplicaState, Place, name_of, next, members, under_way, is_idle, before_of, begun_result, spoken_number, result_reported, begun_reported, spoken_mails, spoken}
 use Rattle.sc_node_table.specs.declared.Before.{Before}
-use Rattle.sc_law_walks.proofs.Lemmas.{either_way, executed_place, welcomed_place, next_found, Talk, parties, grows}
+use Rattle.sc_law_walks.proofs.Lemmas.{either_way, executed_place, welcomed_place, next_found, Offers, pumped_place, Talk, parties, grows}
 use Rattle.sc_law_walks.proofs.Talks.{all_sent, others_sent, client_reported, desk_reported, one_answered, all_answered, all_dismissed, went_said, spoken_said}
 use Rattle.sc_live_answers.specs.Definitions.{IsTold}
 
@@ -73,21 +72,12 @@ module _ (n : ℕ) (result : OrderResult) where
   unfolding offered
   offers slot set command r mails m = all_sent r.me Q (Accept (name_of r) r.leader.ballot slot command) (λ to ms q. more_said ms _ q) set mails m
 
-  pump_by : (slot : ℕ) (set : List ℕ) (sets : List (List ℕ)) (found : Found) → Q found.1.1 → ((place : Place) → H place → H (pumped_from (slot + 1) sets place))
-      → H (elim (found.0) [ None ↦ found.1 | Some command ↦ pumped_from (slot + 1) sets (offered slot set command found.1) ])
-  pump_by slot set sets (None, place) m more = m
-  pump_by slot set sets (Some command, (r, mails)) m more = more (offered slot set command (r, mails)) (offers slot set command r mails m)
-
-  from_pumps : (slot : ℕ) (sets : List (List ℕ)) (place : Place) → H place → H (pumped_from slot sets place)
-  unfolding pumped_from
-  from_pumps slot [] place m = m
-  from_pumps slot (set ∷ sets) (r, mails) m =
-      either_way H (is_some (taken_at r slot)) _ _ (from_pumps (slot + 1) sets (r, mails) m)
-      (either_way H (may_offer r set) _ _ (pump_by slot set sets (found_for slot (r, mails)) (slot_finds slot r mails m) (λ p q. from_pumps (slot + 1) sets p q)) m)
+  found_offers : (slot : ℕ) (set : List ℕ) (found : Found) → Q found.1.1 → Offers H slot set found
+  found_offers slot set (None, place) m = m
+  found_offers slot set (Some command, (r, mails)) m = offers slot set command r mails m
 
   pumps : (place : Place) → H place → H (pumped place)
-  unfolding pumped
-  pumps place m = either_way H (settled place.0 && nat_le (next place.0) last_slot) (pumped_from (next place.0) place.0.sets place) place (from_pumps (next place.0) place.0.sets place m) m
+  pumps place m = pumped_place H (λ slot set p k. found_offers slot set (found_for slot p) (slot_finds slot p.0 p.1 k)) place m
 
   -- ---- leaders
 

@@ -1,10 +1,10 @@
 -- What each replica has in flight and ready stays from its next slot on by the rows of its node, and so after any rows.
 use Rattle.std.proofs.Common.{ℕ, List, [], ◌∷◌, map}
 use Rattle.sc_base.specs.Definitions.{Each, is_member}
-use Rattle.sc_node_table.specs.Values.{Input, Base, OrderLine, Mail, Node, Client}
+use Rattle.sc_node_table.specs.Values.{Base, Node, Client}
 use Rattle.sc_node_table.specs.Definitions.{born_replicas, born_replica, slots_ahead}
 use Rattle.sc_meaning.specs.sound.Definitions.{Player, player_table}
-use Rattle.sc_law_walks.proofs.Lemmas.{either_way, EachReplica, ReplicaRows, node_step, replay_keeps}
+use Rattle.sc_law_walks.proofs.Lemmas.{either_way, EachReplica, ReplicaRows, node_step, StepsHold, replay_keeps}
 use Rattle.sc_live_journals.specs.groups.Definitions.{IsSlotKept, NodesAreBornSlotted}
 use Rattle.sc_live_journals.proofs.GroupsProofs.SlotRows.{born_well, made_well, mailed_well, order_well, tick_well}
 use Rattle.sc_live_journals.proofs.RowsProofs.Players.{RowsKeep}
@@ -26,7 +26,7 @@ module _ (me : ℕ) where
   Plays (Node node) = EachReplica me IsSlotKept node
   Plays (Client client) = Unit {0}
 
-  acts_well : (player : Player) (input : Input Mail OrderLine) → Plays player → Plays (player_table player input).0
+  acts_well : StepsHold player_table Plays
   acts_well (Node node) input k = node_step me IsSlotKept slot_rows node input k
   acts_well (Client client) input k = tt
 

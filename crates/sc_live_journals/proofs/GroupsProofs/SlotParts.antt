@@ -17,6 +17,7 @@ use Rattle.sc_live_journals.proofs.GroupsProofs.SlotLists.{fly_past, fly_pushed,
 use Rattle.sc_live_journals.proofs.GroupsProofs.LeadersAtRest.{none_mapped, none_first}
 use Rattle.sc_node_table.proofs.Lemmas.{one-shorter}
 use Rattle.sc_live_steps.proofs.FollowingProofs.Lemmas.{none_there as none_is}
+use Rattle.std.proofs.lemmas.List.{nil_from_length}
 
 -- what is ready is not executed where nothing runs, or nothing is ready
 pub off_done : (r : ReplicaState) → r.running ≡ false → next_ready r ≡ None
@@ -240,13 +241,11 @@ from_parts n place k = (subst (λ x. HasFrom x place.0) (sym k.1) k.0, k.2 refl)
 pub pumps : (place : Place) → K place → K (pumped place)
 pumps place k = from_parts (next place.0) (pumped place) (pumped_well (next place.0) true place (to_parts place k))
 
-none_at : (es : List (ℕ × Command)) (slot : ℕ) → length es ≤ 0 → at_slot es slot ≡ None
-none_at [] slot few = refl
-none_at (e ∷ es) slot few = absurd (omega (arith, few))
-
 ready_well : (es : List (ℕ × Command)) (place : Place) → S place.0 → length place.0.ready ≤ length es → K (executed_ready es place).0
 unfolding executed_ready
-ready_well [] place k few = (k, empty_done place.0 (none_at place.0.ready (next place.0) few))
+ready_well [] place k few =
+    let none : length place.0.ready ≤ 0 = few in
+    (k, empty_done place.0 (subst (λ (es : List (ℕ × Command)). at_slot es (next place.0) ≡ None) (sym (nil_from_length place.0.ready (omega (arith, none)))) refl))
 ready_well (e ∷ es) place k few = by (next_ready place.0) refl (λ p q l. ready_well es p q l)
   where
     by : (o : Option Command) → next_ready place.0 ≡ o → ((p : Place) → S p.0 → length p.0.ready ≤ length es → K (executed_ready es p).0)

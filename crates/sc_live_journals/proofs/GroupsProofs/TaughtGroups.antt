@@ -1,10 +1,9 @@
 -- Through a journal in which a group is well led, its members learn all entries.
-use Rattle.std.proofs.Common.{◌≡◌, ℕ, true, List, [], ◌∷◌, ◌++◌, Option, None, refl, sym, ◌∙◌, ap, subst, arith, append_assoc}
-use Rattle.sc_node_table.specs.Values.{Ballot, Base, OrderLine, Mail, Seat, Event, Row}
+use Rattle.sc_live_journals.proofs.GroupsProofs.PrefixesInTime.{kept_through}
+use Rattle.std.proofs.Common.{◌≡◌, ℕ, true, List, [], Option, None, refl, sym, ◌∙◌, ap, subst, arith}
+use Rattle.sc_node_table.specs.Values.{Ballot, Base, OrderLine, Seat, Event}
 use Rattle.sc_base.specs.Definitions.{is_member}
 use Rattle.sc_actor.specs.Definitions.{mails, row_of}
-use Rattle.sc_live_orderly.specs.Definitions.{AreInTime}
-use Rattle.sc_live_orderly.proofs.Lemmas.{by_time, last_in_time}
 use Rattle.sc_node_table.specs.Definitions.{first_ballot}
 use Rattle.sc_meaning.specs.sound.Definitions.{Player, player_table, births, as_nodes}
 use Rattle.sc_live_steps.specs.calm.Definitions.{players, Rows}
@@ -12,7 +11,7 @@ use Rattle.sc_live_steps.specs.following.Definitions.{Mark, Course, Progress, Se
 use Rattle.sc_live_steps.proofs.FollowingProofs.Lemmas.{begins, taught_is_kept}
 use Rattle.sc_live_journals.specs.rows.Definitions.{next_in, promise_in, progress_at, marks_at, taken_mark, begun_course, with_event}
 use Rattle.sc_live_journals.proofs.RowsProofs.Lemmas.{born_facts, next_born, promise_born, rows_are}
-use Rattle.sc_live_journals.specs.groups.Definitions.{BeginsSo, IsGroupRow, RowPasses, RowRests, RowTakes, RowMakes, RowLeads, RowElects, Ends, IsStage, AreTaughtAt, IsTaughtOn, RowsKeepTaught, ScenariosBeginTaught, ChildrenBeginTaught, GroupsAreTaughtThrough, AreWellBorn, HasOneLog, IsSentSo}
+use Rattle.sc_live_journals.specs.groups.Definitions.{BeginsSo, IsGroupRow, RowPasses, RowRests, RowTakes, RowMakes, RowLeads, RowElects, Ends, IsStage, AreTaughtAt, IsTaughtOn, RowsKeepTaught, ScenariosBeginTaught, ChildrenBeginTaught, GroupsAreTaughtThrough}
 use Rattle.sc_live_journals.proofs.GroupsProofs.WellLedBeginnings.{first_slots, scenarios_begin_led, children_begin_led}
 use Rattle.sc_live_journals.proofs.GroupsProofs.JournalEvents.{events_go_on}
 
@@ -107,30 +106,13 @@ children_begin_taught at over by words births base first unborn so = record {
 
 -- ---- through a journal
 
-module _ (at : Sets) (over : Ends) (by : SlotLeaders) (words : ℕ → ℕ → ℕ × ℕ) (births : List (Seat Player)) (journal : Rows) (base : Base) (wb : AreWellBorn births) (one : HasOneLog at over by births journal base) (so : IsSentSo births journal base) where
-  -- after these rows, if they begin the journal
-  abbrev Begin : Rows → Type 0
-  Begin rows = (more : Rows) → journal ≡ rows ++ more → IsTaughtOn at over by words births rows base
-
-  -- one row more
-  after_row : (rows : Rows) (row : Row Mail OrderLine) → AreInTime (players words births) (rows ++ row ∷ []) → Begin rows → Begin (rows ++ row ∷ [])
-  after_row rows row timely was more fact =
-      let calm = (last_in_time (players words births) rows row timely).0 in
-      let old = was (row ∷ more) (fact ∙ append_assoc rows (row ∷ []) more) in
-      let timely_too = subst (λ (r : Row Mail OrderLine). AreInTime (players words births) (rows ++ r ∷ [])) calm.row_is timely in
-      let step = events_go_on at over by words births journal base wb one so rows calm.seat calm.event old.course (record { more = more; fact = fact ∙ ap (λ (r : Row Mail OrderLine). (rows ++ r ∷ []) ++ more) calm.row_is }) calm.born calm.calm timely_too old.led in
-      subst (λ (r : Row Mail OrderLine). IsTaughtOn at over by words births (rows ++ r ∷ []) base) (sym calm.row_is)
-      (record {
-        course = step.later;
-        led = step.led;
-        taught = rows_keep_taught at over by words births rows calm.seat calm.event base old.course step.later (record { rosters = one.log.rosters; timely = timely_too; was = old.led }) step.row old.taught;
-      })
-
-  -- the first rows of a journal in time come in time
-  before_in_time : AreInTime (players words births) journal → (rows more : Rows) → journal ≡ rows ++ more → AreInTime (players words births) rows
-  before_in_time timely rows more fact = λ before row after e. timely before row (after ++ more) (fact ∙ (ap (λ rs. rs ++ more) e ∙ append_assoc before (row ∷ after) more))
-
 -- It is so after each row of a journal whose rows come in time, and in which the group's log is one, if it is at first.
 pub groups_taught_through : GroupsAreTaughtThrough
 groups_taught_through at over by words births journal base wb one so timely first rows more fact =
-    by_time (players words births) (Begin at over by words births journal base wb one so) (λ all e. first) (after_row at over by words births journal base wb one so) rows (before_in_time at over by words births journal base wb one so timely rows more fact) more fact
+    kept_through words births journal (λ rows. IsTaughtOn at over by words births rows base) (λ rows seat event row born calm timely_ old. (
+    let step = events_go_on at over by words births journal base wb one so rows seat event old.course row born calm timely_ old.led in
+    record {
+      course = step.later;
+      led = step.led;
+      taught = rows_keep_taught at over by words births rows seat event base old.course step.later (record { rosters = one.log.rosters; timely = timely_; was = old.led }) step.row old.taught;
+    })) first timely rows more fact

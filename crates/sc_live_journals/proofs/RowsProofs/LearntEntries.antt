@@ -1,18 +1,15 @@
 -- A replica with nothing ready that learns the next entry has the state after it, and nothing ready.
-use Rattle.std.proofs.Common.{◌≡◌, ℕ, ◌+◌, ◌-◌, ◌^◌, ◌≤◌, ◌&&◌, nat_le, nat_lt, eqb, false, cond, List, [], ◌∷◌, Option, Some, None, refl, sym, ◌∙◌, ap, subst}
-use Rattle.std.specs.Prelude.{is_some}
-use Rattle.std.specs.List.{list_any}
+use Rattle.std.proofs.Common.{◌≡◌, ℕ, ◌-◌, ◌^◌, ◌≤◌, ◌&&◌, nat_lt, eqb, false, cond, List, [], Option, Some, None, refl, sym, ◌∙◌, ap, subst}
 use Rattle.std.proofs.lemmas.Bool.{cond-true, cond-false, eq-eqb, le-ltb}
-use Rattle.sc_node_table.specs.Values.{Command, Noop, Effect, Route, OrderResult, AnswerBody, Ask, Learn, Must, Gap}
+use Rattle.sc_node_table.specs.Values.{Command, Noop, Effect, Route, OrderResult, AnswerBody, Ask, Learn}
 use Rattle.sc_mail.specs.declared.bodies.AnswerBody.TheVariants as Says
 use Rattle.sc_base.specs.Definitions.{is_member, least_of}
 use Rattle.sc_group_table.specs.machine.Definitions.{applied}
-use Rattle.sc_words.specs.declared.paxos.answers.Must.TheVariants.{Value, Free as Open}
-use Rattle.sc_words.specs.paxos.Definitions.{must}
 use Rattle.sc_node_table.specs.declared.Before.{Before}
-use Rattle.sc_node_table.specs.Definitions.{elected, ended, stopped, entered, order_result, effect_reported, announced, learnt_to, welcomed, landed, left_gone, left, is_among, looked_for, looked, executed_one, has_room, next_ready, executed, sent, Found, is_act, from_backlog, from_acts, from_queues, found_by, found_for, offered, pumped_from, pumped, put_back, ReplicaState, Place, Executed, childless, name_of, next, members, settled, may_offer, taken_at, under_way, is_idle, last_slot, forgotten, learn_row, mailed, at_slot, without_slot, before_of, spoken}
+use Rattle.sc_node_table.specs.Definitions.{elected, ended, stopped, entered, order_result, effect_reported, announced, learnt_to, welcomed, landed, left_gone, left, is_among, looked_for, looked, executed_one, has_room, next_ready, executed, sent, offered, pumped, put_back, ReplicaState, Place, Executed, childless, name_of, next, members, last_slot, forgotten, learn_row, mailed, at_slot, without_slot, before_of, spoken}
 use Rattle.sc_law_walks.proofs.Lemmas.{executed_place, landed_place, either_way}
 use Rattle.sc_live_journals.specs.rows.Definitions.{IsPast, LearntEntriesAreExecuted}
+use Rattle.sc_law_walks.proofs.Lemmas.{pumped_freely}
 
 module _ (command : Command) (r : ReplicaState) where
   abbrev Past : Place → Type 0
@@ -27,50 +24,12 @@ module _ (command : Command) (r : ReplicaState) where
 
   -- ---- the pump
 
-  abbrev FoundPast : Found → Type 0
-  FoundPast found = Past found.1
-
-  calls_past : (place : Place) → Past place → FoundPast (from_backlog place)
-  unfolding from_backlog
-  calls_past (q, mails) k = record { group_is = k.group_is; sets_are = k.sets_are; me_is = k.me_is; ready_is = k.ready_is }
-
-  acts_past : (acts : List Command) (place : Place) → Past place → FoundPast (from_acts acts place)
-  acts_past [] place k = calls_past place k
-  acts_past (act ∷ acts) (q, mails) k =
-      either_way FoundPast (is_idle q) (Some act, (record q { acts = acts }, mails)) (None, (q, mails)) (record { group_is = k.group_is; sets_are = k.sets_are; me_is = k.me_is; ready_is = k.ready_is }) k
-
-  queues_past : (place : Place) → Past place → FoundPast (from_queues place)
-  unfolding from_queues
-  queues_past (q, mails) k = either_way FoundPast (list_any is_act (under_way q)) (None, (q, mails)) (from_acts q.acts (q, mails)) k (acts_past q.acts (q, mails) k)
-
-  found_by_past : (what : Must Command) (place : Place) → Past place → FoundPast (found_by what place)
-  found_by_past (Value other) place k = k
-  found_by_past Gap place k = k
-  found_by_past Open place k = queues_past place k
-
-  found_past : (slot : ℕ) (place : Place) → Past place → FoundPast (found_for slot place)
-  unfolding found_for
-  found_past slot (q, mails) k = found_by_past (must slot q.leader) (q, mails) k
-
   offered_past : (slot : ℕ) (set : List ℕ) (other : Command) (place : Place) → Past place → Past (offered slot set other place)
   unfolding offered
   offered_past slot set other (q, mails) k = record { group_is = k.group_is; sets_are = k.sets_are; me_is = k.me_is; ready_is = k.ready_is }
 
-  pump_by : (slot : ℕ) (set : List ℕ) (sets : List (List ℕ)) (found : Found) → FoundPast found → ((place : Place) → Past place → Past (pumped_from (slot + 1) sets place))
-      → Past (elim (found.0) [ None ↦ found.1 | Some other ↦ pumped_from (slot + 1) sets (offered slot set other found.1) ])
-  pump_by slot set sets (None, place) k more = k
-  pump_by slot set sets (Some other, place) k more = more (offered slot set other place) (offered_past slot set other place k)
-
-  from_past : (slot : ℕ) (sets : List (List ℕ)) (place : Place) → Past place → Past (pumped_from slot sets place)
-  unfolding pumped_from
-  from_past slot [] place k = k
-  from_past slot (set ∷ sets) place k =
-      either_way Past (is_some (taken_at place.0 slot)) _ _ (from_past (slot + 1) sets place k)
-      (either_way Past (may_offer place.0 set) _ _ (pump_by slot set sets (found_for slot place) (found_past slot place k) (λ p q. from_past (slot + 1) sets p q)) k)
-
   pumped_past : (place : Place) → Past place → Past (pumped place)
-  unfolding pumped
-  pumped_past place k = either_way Past (settled place.0 && nat_le (next place.0) last_slot) (pumped_from (next place.0) place.0.sets place) place (from_past (next place.0) place.0.sets place k) k
+  pumped_past place k = pumped_freely Past (λ q mails more acts backlog p. record { group_is = p.group_is; sets_are = p.sets_are; me_is = p.me_is; ready_is = p.ready_is }) offered_past place k
 
   -- ---- the parts of an entry
 

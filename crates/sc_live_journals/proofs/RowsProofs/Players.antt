@@ -1,14 +1,15 @@
 -- What a walk of states says of each replica of a node holds after any rows, as it held at the birth of groups.
-use Rattle.std.proofs.Common.{◌≡◌, ℕ, List, [], ◌∷◌, map, Option, Some, None, sym, subst}
-use Rattle.sc_base.specs.Definitions.{Each, same_draw, is_member}
+use Rattle.std.proofs.Common.{◌≡◌, ℕ, List, [], ◌∷◌, map, Option, sym, subst}
+use Rattle.sc_base.specs.Definitions.{Each, is_member}
 use Rattle.sc_node_table.specs.Values.{Draw, Base, Mail, OrderLine, Input, Got, Row, Seat, Node, Client}
 use Rattle.sc_actor.specs.declared.rows.Input.TheVariants.{Tick, Go, Told}
 use Rattle.sc_actor.specs.Definitions.{replay, value}
 use Rattle.sc_words.proofs.PaxosProofs.Lemmas.{Each-weaker}
-use Rattle.sc_node_table.specs.Definitions.{NodeState, node_table, replica_of, born_replicas, born_replica, ReplicaState, name_of, slots_ahead}
+use Rattle.sc_node_table.specs.Definitions.{NodeState, node_table, replica_of, born_replicas, born_replica, ReplicaState, slots_ahead}
 use Rattle.sc_meaning.specs.sound.Definitions.{Player, player_table}
 use Rattle.sc_law_walks.specs.Definitions.{IsKept}
-use Rattle.sc_law_walks.proofs.Lemmas.{StateBirths, either_way, StateParts, state_walk, state_births, state_ticks, state_hears, GivenAny, any_step, creation, replay_keeps}
+use Rattle.sc_law_walks.proofs.Lemmas.{StateBirths, either_way, StateParts, state_walk, state_births, state_ticks, state_hears, GivenAny, any_step, creation, StepsHold, replay_keeps}
+use Rattle.sc_law_walks.proofs.Lemmas.{FoundOne, found_one}
 
 -- any rows keep what holds of a player
 abbrev pub RowsKeep : (Player → Type 0) → Type 0
@@ -20,12 +21,10 @@ module _ (me : ℕ) (P : ReplicaState → Type 0) (parts : StateParts me P) (beg
   All replicas = Each W replicas
 
   abbrev pub Found : Option ReplicaState → Type 0
-  Found None = Unit {0}
-  Found (Some r) = W r
+  Found o = FoundOne W o
 
   pub found : (group : Draw) (replicas : List ReplicaState) → All replicas → Found (replica_of group replicas)
-  found group [] k = tt
-  found group (r ∷ replicas) k = either_way Found (same_draw (name_of r) group) (Some r) (replica_of group replicas) k.0 (found group replicas k.1)
+  found group replicas k = found_one W group replicas k
 
   -- a node of this number
   abbrev pub Holds : NodeState → Type 0
@@ -47,7 +46,7 @@ module _ (me : ℕ) (P : ReplicaState → Type 0) (parts : StateParts me P) (beg
       let after = any_step (state_walk me P parts) (state_births me P parts begins) (state_ticks me P parts) node input (given input) (k.0, early) in
       (after.0.0, Each-weaker (λ (r : ReplicaState). IsKept me r × P r) W from (node_table node input).0.replicas after.0.1)
 
-  acts : (player : Player) (input : Input Mail OrderLine) → Plays player → Plays (player_table player input).0
+  acts : StepsHold player_table Plays
   acts (Node node) input k = steps node input k
   acts (Client client) input k = tt
 

@@ -63,9 +63,6 @@ module _ (r : ReplicaState) where
   late_by from ballot slot none None = itself
   late_by from ballot slot none (Some set) = subst (λ (c : Counted Command × LeaderState Command). Leaves (vote_tallied slot c (r, []))) (sym same) itself
     where
-      none_counted : Counted Command × LeaderState Command
-      none_counted = (NotYet 0, r.leader)
-
       same : counted from ballot slot set r.leader ≡ (NotYet 0, r.leader)
       same = either_way (λ (c : Counted Command × LeaderState Command). c ≡ (NotYet 0, r.leader)) (same_ballot ballot r.leader.ballot) (vote_at from slot set (flight_at slot r.leader.flights) r.leader) (NotYet 0, r.leader)
           (ap (λ o. vote_at from slot set o r.leader) none) refl

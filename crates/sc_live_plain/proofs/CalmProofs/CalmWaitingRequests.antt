@@ -20,8 +20,8 @@ use Rattle.sc_live_plain.proofs.PlainRowsProofs.RowViews.{Journal, replica_other
 use Rattle.sc_live_plain.proofs.PlainProofs.PlainJournals.{of_player}
 use Rattle.sc_live_plain.proofs.CalmProofs.CalmClients.{Seeks, Ignores}
 use Rattle.sc_live_plain.proofs.PlainProofs.PlainClients.{asking}
-use Rattle.sc_live_plain.proofs.PlainProofs.WaitingRequestPlaces.{sent_left, others_left, behind_left}
-use Rattle.sc_live_plain.proofs.PlainProofs.WaitingRequestJournals.{client_is}
+use Rattle.sc_live_plain.proofs.CalmProofs.RequestsLeftByRows.{sent_left, others_left, behind_left}
+use Rattle.sc_live_plain.proofs.PlainRowsProofs.RowViews.{client_is}
 use Rattle.sc_live_plain.proofs.PlainRowsProofs.RepeatedMail.{mail_of}
 use Rattle.sc_live_plain.proofs.CalmProofs.SoughtRequests.{IsAsked, IsHeldAt, IsSought, AreSought, me_of}
 use Rattle.sc_live_plain.proofs.CalmProofs.NodeRowsLeaveRequests.{node_event}

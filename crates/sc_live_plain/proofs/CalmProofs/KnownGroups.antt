@@ -1,5 +1,5 @@
 -- The groups that a client knows between two orders: the first ones round the ring, from the one that it reached first.
-use Rattle.std.proofs.Common.{◌≡◌, ℕ, ◌+◌, ◌-◌, ◌%◌, ◌^◌, ◌<◌, ◌≤◌, false, Bool, List, [], ◌∷◌, ◌++◌, length, map, take, drop, Option, Some, None, inl, inr, refl, sym, ◌∙◌, ap, subst, arith, append_assoc, take-append-drop, length-append}
+use Rattle.std.proofs.Common.{◌≡◌, ℕ, ◌+◌, ◌-◌, ◌%◌, ◌^◌, ◌<◌, ◌≤◌, false, Bool, List, [], ◌∷◌, ◌++◌, length, map, take, Option, Some, None, inl, inr, refl, sym, ◌∙◌, ap, subst, arith, append_assoc, take-append-drop, length-append}
 use Rattle.std.specs.Prelude.{is_some}
 use Rattle.std.specs.Map.{lookup, set_value}
 use Rattle.std.proofs.lemmas.Bool.{cond_both, cond-true, cond-false, cases_Bool, cases_lt, ltb-false}
@@ -12,7 +12,7 @@ use Rattle.sc_client_table.specs.declared.lookup.ways.Way.{Way}
 use Rattle.sc_client_table.specs.lookup.Definitions.{far, new_way, KnownGroups, way_to, chosen, changed, preferring, starting, learnt_from_not_mine}
 use Rattle.sc_paxos_law.proofs.Lemmas.{from_map, Among-right, Among-either}
 use Rattle.sc_live_plain.specs.Definitions.{FollowedBy, AreRoundRing, start_of, start_known, KnowsFirst, ClientsLearnInTurn, Frame}
-use Rattle.sc_live_plain.proofs.PlainProofs.PlainKnownGroups.{IsChosen, among_first, chosen_is, parts_of, take_prefix}
+use Rattle.sc_live_plain.proofs.PlainProofs.PlainKnownGroups.{Follows, follows, IsChosen, among_first, chosen_is, parts_of, take_prefix}
 use Rattle.sc_live_plain.proofs.PlainRowsProofs.Lists.{map_among}
 use Rattle.sc_live_plain.proofs.PlainProofs.PlainKnownGroups.{map_push as map_last}
 
@@ -138,49 +138,6 @@ module _ (frames : List Frame) (ring : AreRoundRing frames) where
       let out = ltb-false (((p + 2 ^ 32) - frame.core.arc.lo) % 2 ^ 32) frame.core.arc.len lacks in
       subst (λ lo. gap p lo < gap p frame.core.arc.lo) (sym k.starts) (near_behind p frame.core.arc.lo frame.core.arc.len arc.1 arc.0.some arc.0.most (omega (arith, out)))
 
-  module _ (reached : ℕ) (low : reached ≤ length frames) where
-    abbrev prefix : List Frame
-    prefix = take reached frames
-
-    abbrev back : List Frame
-    back = drop reached frames
-
-    parts : frames ≡ prefix ++ back
-    parts = sym (take-append-drop reached frames)
-
-    -- none of the first is nearer to a position
-    abbrev IsNearest : ℕ → Frame → Type 0
-    IsNearest p frame = (other : Frame) → Among other prefix → gap p frame.core.arc.lo ≤ gap p other.core.arc.lo
-
-    -- the one behind the first, which follows another
-    record Follows (frame : Frame) : Type 0 where
-      other : Frame
-      rest : List Frame
-      whole : frames ≡ prefix ++ other ∷ rest
-      before : FollowedBy frame other
-
-    wrapped : (p : ℕ) (frame : Frame) → Among frame prefix → IsNearest p frame → holds frame.core.arc p ≡ false → (l : List Frame) → frames ≡ l ++ frame ∷ [] → (all : List Frame) → frames ≡ all → prefix ≡ frames → Follows frame
-    wrapped p frame a near lacks l whole [] e same = absurd (subst (Among frame) (same ∙ e) a)
-    wrapped p frame a near lacks l whole (first ∷ rest) e same =
-        let k = ring.last l rest frame first whole e in
-        let le = near first (subst (Among first) (sym (same ∙ e)) (inl refl)) in
-        let lt = nearer p frame first (among_first reached frames frame a) k lacks in
-        absurd (omega (arith, le, lt))
-
-    behind : (p : ℕ) (frame : Frame) → Among frame prefix → IsNearest p frame → holds frame.core.arc p ≡ false → (l b rest : List Frame) → back ≡ rest → prefix ≡ l ++ frame ∷ b → frames ≡ l ++ frame ∷ (b ++ rest) → Follows frame
-    behind p frame a near lacks l (other ∷ b) rest r split whole =
-        let k = ring.next l (b ++ rest) frame other whole in
-        let le = near other (subst (Among other) (sym split) (Among-right other l (frame ∷ other ∷ b) (inr (inl refl)))) in
-        let lt = nearer p frame other (among_first reached frames frame a) k lacks in
-        absurd (omega (arith, le, lt))
-    behind p frame a near lacks l [] (other ∷ rest) r split whole = record { other = other; rest = rest; whole = parts ∙ ap (λ (fs : List Frame). prefix ++ fs) r; before = ring.next l rest frame other whole }
-    behind p frame a near lacks l [] [] r split whole = wrapped p frame a near lacks l whole frames refl (subst (λ (fs : List Frame). prefix ≡ fs) (split ∙ sym whole) refl)
-
-    follows : (p : ℕ) (frame : Frame) → Among frame prefix → IsNearest p frame → holds frame.core.arc p ≡ false → Follows frame
-    follows p frame a near lacks =
-        let w = parts_of prefix frame a in
-        behind p frame a near lacks w.0 w.1 back refl w.2 (parts ∙ (ap (λ (fs : List Frame). fs ++ back) w.2 ∙ append_assoc w.0 (frame ∷ w.1) back))
-
   -- ---- a client learns that a key is not the chosen group's
 
   module _ (reached p : ℕ) (frame : Frame) (known : KnownGroups) (k : KnowsFirst frames reached known) (a : Among frame frames) (c : chosen p known ≡ Some frame.core.id) (lacks : holds frame.core.arc p ≡ false) where
@@ -220,19 +177,23 @@ module _ (frames : List Frame) (ring : AreRoundRing frames) where
           omega (arith, e))
     ]
 
-    next_one : Follows reached k.low frame
-    next_one = follows reached k.low p frame in_prefix near lacks
+    next_one : Follows frames FollowedBy ring.next ring.last nearer reached frame
+    next_one = follows frames FollowedBy ring.next ring.last nearer reached p frame in_prefix near lacks
+
+    -- the first ones, and those behind them
+    whole : frames ≡ take reached frames ++ next_one.other ∷ next_one.rest
+    whole = sym (take-append-drop reached frames) ∙ ap (λ (fs : List Frame). take reached frames ++ fs) next_one.back_is
 
     taken : take (reached + 1) frames ≡ take reached frames ++ next_one.other ∷ []
     taken =
-        ap (λ (l : List Frame). take (reached + 1) l) next_one.whole
+        ap (λ (l : List Frame). take (reached + 1) l) whole
         ∙ (ap (λ n. take (n + 1) (take reached frames ++ next_one.other ∷ next_one.rest)) (sym count) ∙ take_prefix (take reached frames) next_one.other next_one.rest)
 
     -- it is not known
     is_new : (groups : KnownGroups) → map name_in groups ≡ map id_of (take reached frames) → way_to frame.core.succ.group groups ≡ None
     is_new groups names = not_known frame.core.succ.group groups (λ d m e. (
         let f = from_map id_of (take reached frames) d (subst (Among d) names m) in
-        Each-among (λ (o : Frame). o.core.id ≡ next_one.other.core.id → ⊥) (take reached frames) f.0 (ring.distinct (take reached frames) next_one.rest next_one.other next_one.whole) f.1 (f.2 ∙ (e ∙ next_one.before.name))))
+        Each-among (λ (o : Frame). o.core.id ≡ next_one.other.core.id → ⊥) (take reached frames) f.0 (ring.distinct (take reached frames) next_one.rest next_one.other whole) f.1 (f.2 ∙ (e ∙ next_one.before.name))))
 
     abbrev started : KnownGroups
     started = starting frame.core.id frame.core.arc.lo known
@@ -293,7 +254,7 @@ module _ (frames : List Frame) (ring : AreRoundRing frames) where
 
     more : reached + 1 ≤ length frames
     more =
-        let all = ap length next_one.whole in
+        let all = ap length whole in
         let both = length-append (take reached frames) (next_one.other ∷ next_one.rest) in
         let n = count in
         omega (arith, all, both, n)

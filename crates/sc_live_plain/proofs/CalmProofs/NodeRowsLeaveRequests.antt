@@ -25,7 +25,7 @@ use Rattle.sc_live_plain.proofs.PlainProofs.PlainClients.{asking}
 use Rattle.sc_live_plain.proofs.LeadersProofs.LeadingReplicas.{IsHeld, IsReportedOf}
 use Rattle.sc_live_plain.proofs.PlainRowsProofs.Lists.{some_is}
 use Rattle.sc_live_plain.proofs.PlainRowsProofs.NodeRows.{NodeRow, found_after, others_after}
-use Rattle.sc_live_plain.proofs.PlainProofs.WaitingRequestPlaces.{IsFinal, does_holds, sent_left, others_left, own_left, behind_left, told_final}
+use Rattle.sc_live_plain.proofs.CalmProofs.RequestsLeftByRows.{IsFinal, does_holds, sent_left, others_left, own_left, behind_left, told_final}
 use Rattle.sc_live_plain.proofs.PlainRowsProofs.ReplicaRows.{Does}
 use Rattle.sc_live_plain.proofs.PlainRowsProofs.RepeatedMail.{mail_of}
 use Rattle.sc_live_plain.proofs.CalmProofs.SoughtRequests.{IsAnswered, IsHeldAt, IsSought, AreSought, me_of}

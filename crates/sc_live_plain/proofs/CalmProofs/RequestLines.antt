@@ -25,7 +25,7 @@ use Rattle.sc_live_plain.proofs.PlainProofs.PlainClients.{asking}
 use Rattle.sc_live_plain.proofs.LeadersProofs.LeadingReplicas.{IsHeld}
 use Rattle.sc_live_plain.proofs.PlainRowsProofs.Lists.{map_among}
 use Rattle.sc_live_plain.proofs.LeadersProofs.IdleLeaders.{leader_idle}
-use Rattle.sc_live_plain.proofs.PlainProofs.WaitingRequestJournals.{client_is}
+use Rattle.sc_live_plain.proofs.PlainRowsProofs.RowViews.{client_is}
 use Rattle.sc_live_plain.proofs.PlainRowsProofs.ReplicaRows.{leading_at}
 use Rattle.sc_live_plain.proofs.PlainRowsProofs.RepeatedMail.{mail_of}
 

@@ -1,13 +1,10 @@
 -- Between two orders each row of a client leaves a journal in which clients ask alone; and so each row.
-use Rattle.std.proofs.Common.{◌≡◌, ℕ, ◌-◌, ◌≤◌, eqb, ◌&&◌, ◌||◌, Bool, true, false, cond, List, [], ◌∷◌, ◌++◌, length, drop, find, Some, ◌⊎◌, inl, inr, refl, sym, ◌∙◌, ap, subst, arith}
-use Rattle.std.specs.Prelude.{slice_get}
-use Rattle.std.specs.Option.{option_map}
-use Rattle.std.proofs.lemmas.Bool.{cases_eq, eq-eqb, or_right}
-use Rattle.std.proofs.lemmas.List.Folds.{list_any-append}
+use Rattle.std.proofs.Common.{◌≡◌, ℕ, ◌≤◌, eqb, Bool, true, false, cond, List, [], ◌∷◌, ◌++◌, drop, find, Some, ◌⊎◌, inl, inr, refl, sym, ◌∙◌, ap, subst}
+use Rattle.std.proofs.lemmas.Bool.{cases_eq}
 use Rattle.sc_base.specs.Definitions.{Among, Each, client_actor}
-use Rattle.sc_node_table.specs.Values.{Draw, Op, Base, OrderLine, Mail, Seat, Row, Event, Deliver, Go, Got, Client}
+use Rattle.sc_node_table.specs.Values.{Draw, Base, OrderLine, Mail, Seat, Row, Event, Deliver, Go, Got, Client}
 use Rattle.sc_actor.specs.declared.rows.Input.TheVariants.{Go as GoInput}
-use Rattle.sc_actor.specs.Definitions.{mails, is_delivery, value, acted, input_of, System, row_of, has_started, is_go, waiting, kth}
+use Rattle.sc_actor.specs.Definitions.{mails, is_delivery, value, acted, input_of, System, row_of, has_started, waiting, kth}
 use Rattle.sc_node_table.specs.Definitions.{is_node}
 use Rattle.sc_client_table.specs.table.Definitions.{ClientStep, table}
 use Rattle.sc_scenario.specs.declared.scenario.scenarios.Asks.{Asks}
@@ -16,8 +13,8 @@ use Rattle.sc_scenario.specs.scenario.Definitions.{ValidScenariosAreBounded}
 use Rattle.sc_meaning.specs.sound.Definitions.{Player, player_table, node_seat, client_seat, route_of, births, system_of, as_nodes}
 use Rattle.sc_live_orderly.specs.Definitions.{IsTidy, IsOrderly, IsInOrder, rest, mail_for, taken}
 use Rattle.sc_live_orderly.proofs.Lemmas.{TakesFirst, takes_first, is_born-from, rest-row}
-use Rattle.sc_live_plain.specs.Definitions.{IsAskingClient, IsAsking, AreFarFromLast, RequestsGoOn, Mark, Other, mark, marks_for, marks_at, IsOther, IsTaken, IsLinkedSetting, IsCalmClient, BeginsBy, StaysCalm, Setting, IsSetting, IsCalmMail, begun_ones, waiting_ones, begun_of, IsBegun}
-use Rattle.sc_live_plain.proofs.PlainProofs.PlainClients.{unasked}
+use Rattle.sc_live_plain.specs.Definitions.{IsAskingClient, IsAsking, AreFarFromLast, RequestsGoOn, Mark, Other, mark, marks_for, marks_at, IsOther, IsTaken, IsLinkedSetting, IsCalmClient, BeginsBy, StaysCalm, Setting, IsSetting, IsCalmMail, begun_ones, IsBegun}
+use Rattle.sc_live_plain.proofs.PlainProofs.ActingClients.{becomes, begins_more, begins_by, takes_is, starts_is, starts_more, starts_now}
 use Rattle.sc_live_plain.proofs.CalmProofs.MoreCalmRequests.{aside_mark, takes_only, go_only}
 use Rattle.sc_live_plain.proofs.CalmProofs.RequestPhaseNodes as turns_of
 use Rattle.sc_live_plain.proofs.PlainProofs.MorePlainRequests.{IsMore}
@@ -26,7 +23,7 @@ use Rattle.sc_live_plain.proofs.PlainRowsProofs.LeaderMailOfGroups.{group_idle}
 use Rattle.sc_live_plain.proofs.PlainProofs.BegunRequestCounts.{begun_right, got_grows}
 use Rattle.sc_live_plain.proofs.PlainRowsProofs.LeaderMarks.{each_mark}
 use Rattle.sc_live_plain.proofs.PlainProofs.PlainBeginnings.{IsStage, stage}
-use Rattle.sc_live_plain.proofs.PlainProofs.PlainSteps.{client_number, value_others, started_still, begun_more, same_client, node_away}
+use Rattle.sc_live_plain.proofs.PlainProofs.PlainSteps.{client_number, started_still, same_client, node_away}
 use Rattle.sc_live_plain.proofs.PlainRowsProofs.RowViews.{Journal, replica_others, replica_none}
 use Rattle.sc_live_plain.proofs.PlainProofs.PlainJournals.{of_player}
 use Rattle.sc_live_plain.proofs.CalmProofs.CalmClients.{clients_calm, Seeks, Ignores, takes_calm, go_calm}
@@ -49,29 +46,14 @@ module _ (words : ℕ → ℕ → ℕ × ℕ) (scenario : Scenario) (begins : Is
     module _ (event : Event OrderLine) (fine : IsInOrder (system_of as_nodes words scenario) rows (client_actor asks.client) event) (after : ClientStep)
         (acted_is : acted player_table (value player_table (client_seat (route_of begins.first) asks) rows) (input_of (mails rows) event) ≡ (Client after.0, after.1)) (grows : begun_ones c.client ≤ begun_ones after.0) where
       pub became : value player_table (client_seat (route_of begins.first) asks) (rows ++ row_of player_table (client_seat (route_of begins.first) asks) rows event ∷ []) ≡ Client after.0
-      became = turns_of.value_own words scenario begins set fact rows t j (cseat asks) event ∙ ap (λ (p : Player × List Mail). p.0) acted_is
+      became = becomes words scenario begins rows asks a c.client c.fact event after acted_is
 
       pub more : IsMore (IsBegun scenario rows) (IsBegun scenario (rows ++ row_of player_table (client_seat (route_of begins.first) asks) rows event ∷ []))
-      more = begun_more words scenario begins rows (row_of player_table (cseat asks) rows event) (λ other b. elim (cases_eq (client_actor other.client) (client_actor asks.client)) [
-        | inl here ↦ (let same : other ≡ asks = same_client scenario begins asks other a b here in
-            subst (λ (x : Asks). begun_of (value player_table (cseat x) rows) ≤ begun_of (value player_table (cseat x) (rows ++ row_of player_table (cseat asks) rows event ∷ []))) (sym same)
-            (let before = ap begun_of c.fact in let now_ = ap begun_of became in omega (arith, before, now_, grows)))
-        | inr ne ↦ (let same = ap begun_of (value_others words scenario begins rows (row_of player_table (cseat asks) rows event) (cseat other) ne) in omega (arith, same))
-      ])
+      more = begins_more words scenario begins rows asks a c.client c.fact event after acted_is grows
 
       -- what is begun after it
       pub now : BeginsBy (IsBegun scenario (rows ++ row_of player_table (client_seat (route_of begins.first) asks) rows event ∷ [])) c.client after
-      now n op one at low = record {
-        first = begins.first;
-        others = begins.others;
-        groups_are = begins.groups_are;
-        asks = asks;
-        is_asks = a;
-        client_is = sym c.calm.me_is;
-        from_one = one;
-        op_is = ap (λ (ops : List Op). slice_get ops (n - 1)) (sym c.calm.requests_are) ∙ at;
-        low = (let now_ = ap begun_of became in omega (arith, now_, low));
-      }
+      now = begins_by words scenario begins rows asks a c.client c.fact event after acted_is c.calm.me_is c.calm.requests_are
 
       -- the journal after it
       client_after : (gone : Bool) → has_started (rows ++ row_of player_table (client_seat (route_of begins.first) asks) rows event ∷ []) (client_actor asks.client) ≡ gone
@@ -111,9 +93,7 @@ module _ (words : ℕ → ℕ → ℕ × ℕ) (scenario : Scenario) (begins : Is
       is_calm = (subst (Each (IsCalmMail (IsBegun scenario rows) set)) first.first (j.left (client_actor asks.client) (is_born-from sys (client_actor asks.client) (cseat asks) born))).0
 
       pub got_is : acted player_table (value player_table (client_seat (route_of begins.first) asks) rows) (input_of {O = OrderLine} (mails rows) (Deliver number)) ≡ (Client (table c.client (Got first.mail)).0, (table c.client (Got first.mail)).1)
-      got_is =
-          ap (λ o. acted player_table (value player_table (cseat asks) rows) (option_map Got o)) first.sent
-          ∙ ap (λ p. acted player_table p (Some (Got first.mail))) c.fact
+      got_is = takes_is words scenario begins rows asks a c.client c.fact number first
 
       pub got_more : begun_ones c.client ≤ begun_ones (table c.client (Got first.mail)).0
       got_more = got_grows first.mail.from first.mail.body c.client
@@ -139,29 +119,20 @@ module _ (words : ℕ → ℕ → ℕ × ℕ) (scenario : Scenario) (begins : Is
 
     module _ (fine : has_started rows (client_actor asks.client) ≡ false) where
       pub go_is : acted player_table (value player_table (client_seat (route_of begins.first) asks) rows) (input_of {O = OrderLine} (mails rows) Go) ≡ (Client (table c.client GoInput).0, (table c.client GoInput).1)
-      go_is = ap (λ p. acted player_table p (Some GoInput)) c.fact
+      go_is = starts_is words scenario begins rows asks a c.client c.fact
 
       pub fresh : IsCalmClient set asks false c.client
       fresh = subst (λ g. IsCalmClient set asks g c.client) fine c.calm
 
       pub go_more : begun_ones c.client ≤ begun_ones (table c.client GoInput).0
-      go_more =
-          let none = unasked c.client fresh.state in
-          let waits = ap waiting_ones none.0 in
-          let replies = ap length none.1 in
-          omega (arith, waits, replies)
+      go_more = starts_more words scenario begins rows asks a c.client c.fact fresh.state
 
       pub seeks : Seeks (table c.client GoInput)
       seeks = (go_calm set asks (IsBegun scenario (rows ++ row_of player_table (client_seat (route_of begins.first) asks) rows Go ∷ [])) c.client fresh (now Go fine (table c.client GoInput) go_is go_more)).1
 
-      gone_now : has_started (rows ++ row_of player_table (client_seat (route_of begins.first) asks) rows Go ∷ []) (client_actor asks.client) ≡ true
-      gone_now =
-          list_any-append (λ (r : Row Mail OrderLine). eqb r.who (client_actor asks.client) && is_go r.event) rows (row_of player_table (cseat asks) rows Go ∷ [])
-          ∙ (ap (λ b. has_started rows (client_actor asks.client) || ((b && true) || false)) (eq-eqb (client_actor asks.client) (client_actor asks.client) refl) ∙ or_right (has_started rows (client_actor asks.client)) true refl)
-
       client_go : IsAsking words scenario set begins.first (rows ++ row_of player_table (client_seat (route_of begins.first) asks) rows Go ∷ [])
       client_go =
-          client_after Go fine (table c.client GoInput) go_is go_more true gone_now
+          client_after Go fine (table c.client GoInput) go_is go_more true (starts_now words scenario begins rows asks a c.client c.fact)
           (clients_calm.go scenario (rows ++ row_of player_table (cseat asks) rows Go ∷ []) set asks c.client fresh (now Go fine (table c.client GoInput) go_is go_more))
           (λ name. inr (refl, sym (at_zero (marks_at words scenario rows name (client_actor asks.client))))) (go_only c.client)
         where

@@ -18,7 +18,7 @@ use Rattle.sc_live_plain.specs.Definitions.{IsAskingNode, IsAskingClient, IsAski
 use Rattle.sc_live_plain.proofs.PlainProofs.PlainBeginnings.{IsStage, stage}
 use Rattle.sc_live_plain.proofs.PlainProofs.PlainSteps.{node_number}
 use Rattle.sc_live_plain.proofs.PlainRowsProofs.RowViews.{Journal, replica_is}
-use Rattle.sc_live_plain.proofs.PlainProofs.WaitingRequestJournals.{client_is}
+use Rattle.sc_live_plain.proofs.PlainRowsProofs.RowViews.{client_is}
 use Rattle.sc_live_plain.proofs.CalmProofs.QuietFrames.{quiet_stand_plain}
 use Rattle.sc_live_plain.proofs.PlainRowsProofs.MarkLists.{told-other as other_told}
 

@@ -36,9 +36,6 @@ pub record IsStage (scenario : Scenario) : Type 0 where
   pub seats_apart : are_apart (births as_nodes scenario) ≡ true
 
 module _ (scenario : Scenario) (bounded : IsBounded scenario) where
-  abbrev lines : List GroupLine
-  lines = bounded.starts
-
   line_bounded : (k : ℕ) → k < length bounded.starts → IsBoundedGroup scenario.nodes (group_at bounded.starts k)
   line_bounded k low = bounded.each k (record { lo = 0; members = [] }) low
 

@@ -1,14 +1,10 @@
 -- Each row of a client leaves a plain journal.
-use Rattle.std.proofs.Common.{◌≡◌, ℕ, ◌+◌, ◌-◌, ◌≤◌, eqb, ◌&&◌, ◌||◌, Bool, true, false, cond, List, [], ◌∷◌, ◌++◌, length, map, drop, find, Some, inl, inr, refl, sym, ◌∙◌, ap, subst, arith}
-use Rattle.std.specs.Prelude.{slice_get}
-use Rattle.std.specs.Option.{option_map}
-use Rattle.std.proofs.lemmas.Bool.{cases_eq, both_ways, eq-eqb, or_right}
-use Rattle.std.proofs.lemmas.List.Folds.{list_any-append}
+use Rattle.std.proofs.Common.{◌≡◌, ℕ, ◌+◌, ◌≤◌, eqb, Bool, true, false, cond, List, [], ◌∷◌, ◌++◌, length, map, drop, find, Some, inl, inr, refl, sym, ◌∙◌, ap, subst, arith}
+use Rattle.std.proofs.lemmas.Bool.{cases_eq, both_ways}
 use Rattle.sc_base.specs.Definitions.{Among, Each, client_actor, is_member}
-use Rattle.sc_node_table.specs.Values.{Draw, Op, OrderLine, Mail, MailBody, Request, Accept, Accepted, Learn, Seat, Row, Event, Deliver, Go, Got, Client}
+use Rattle.sc_node_table.specs.Values.{Draw, OrderLine, Mail, MailBody, Request, Accept, Accepted, Learn, Seat, Event, Deliver, Go, Got, Client}
 use Rattle.sc_actor.specs.declared.rows.Input.TheVariants.{Go as GoInput}
-use Rattle.sc_actor.specs.Definitions.{mails, is_delivery, value, acted, input_of, System, row_of, has_started, is_go, waiting, kth}
-use Rattle.sc_actor.proofs.Lemmas.{value-snoc}
+use Rattle.sc_actor.specs.Definitions.{mails, is_delivery, value, acted, input_of, System, row_of, has_started, waiting, kth}
 use Rattle.sc_node_table.specs.Definitions.{is_node, slots_ahead}
 use Rattle.sc_client_table.specs.table.Definitions.{ClientStep, table}
 use Rattle.sc_scenario.specs.declared.scenario.scenarios.Asks.{Asks}
@@ -16,16 +12,17 @@ use Rattle.sc_scenario.specs.declared.scenario.scenarios.Scenario.{Scenario}
 use Rattle.sc_meaning.specs.sound.Definitions.{Player, player_table, client_seat, route_of, births, system_of, as_nodes}
 use Rattle.sc_live_orderly.specs.Definitions.{IsTidy, IsOrderly, IsInOrder, rest, mail_for, taken, owed_by}
 use Rattle.sc_live_orderly.proofs.Lemmas.{IsPaid, pays, TakesFirst, takes_first, is_born-from, rest-row}
-use Rattle.sc_live_plain.specs.Definitions.{Frame, IsFrame, Mark, Other, mark, mark_of, marks_for, marks_at, IsOther, IsTaken, player_owes, mail_owes, begun_ones, waiting_ones, begun_of, IsBegun, IsPlainClient, Requests, IsPlainBody, IsPlainMail}
+use Rattle.sc_live_plain.specs.Definitions.{BeginsBy, Frame, IsFrame, Mark, Other, mark, mark_of, marks_for, marks_at, IsOther, IsTaken, player_owes, mail_owes, begun_ones, IsBegun, IsPlainClient, Requests, IsPlainBody, IsPlainMail}
+use Rattle.sc_live_plain.proofs.PlainProofs.ActingClients.{becomes, begins_more, begins_by, takes_is, starts_is, starts_more, starts_now}
 use Rattle.sc_live_plain.proofs.PlainProofs.PlainInduction.{owing_of, IsClientAt, IsPlainJournal}
 use Rattle.sc_live_plain.proofs.PlainProofs.MorePlainRequests.{IsMore}
 use Rattle.sc_live_plain.proofs.PlainRowsProofs.LeaderMailOfGroups.{group_idle}
 use Rattle.sc_live_plain.proofs.PlainProofs.BegunRequestCounts.{begun_right, got_grows}
 use Rattle.sc_live_plain.proofs.PlainRowsProofs.LeaderMarks.{each_mark}
 use Rattle.sc_live_plain.proofs.PlainProofs.PlainBeginnings.{frames_of, IsStage}
-use Rattle.sc_live_plain.proofs.PlainProofs.PlainSteps.{client_number, each_numbered, value_others, started_still, node_stays, client_stays, sent_more, begun_more, same_client, node_away}
+use Rattle.sc_live_plain.proofs.PlainProofs.PlainSteps.{client_number, each_numbered, started_still, node_stays, client_stays, sent_more, same_client, node_away}
 use Rattle.sc_live_plain.proofs.PlainRowsProofs.RowViews.{Journal, replica_others, replica_none}
-use Rattle.sc_live_plain.proofs.PlainProofs.PlainClients.{asking, DidAsk, DidEnd, ClientRow, TakesMail, Goes, client_row, go_row, unasked}
+use Rattle.sc_live_plain.proofs.PlainProofs.PlainClients.{asking, DidAsk, DidEnd, ClientRow, TakesMail, Goes, client_row, go_row}
 use Rattle.sc_live_plain.proofs.PlainProofs.PlainKnownGroups.{IsRound}
 
 -- a mail for one who is no node is nothing to a group
@@ -78,36 +75,15 @@ module _ (words : ℕ → ℕ → ℕ × ℕ) (scenario : Scenario) (stage : IsS
   module _ (event : Event OrderLine) (fine : IsInOrder (system_of as_nodes words scenario) rows (client_actor asks.client) event) (after : ClientStep)
       (acted_is : acted player_table (value player_table (client_seat (route_of stage.first) asks) rows) (input_of (mails rows) event) ≡ (Client after.0, after.1))
       (grows : begun_ones c.client ≤ begun_ones after.0) where
-    row : Row Mail OrderLine
-    row = row_of player_table (client_seat (route_of stage.first) asks) rows event
+    became : value player_table (client_seat (route_of stage.first) asks) (rows ++ row_of player_table (client_seat (route_of stage.first) asks) rows event ∷ []) ≡ Client after.0
+    became = becomes words scenario stage rows asks a c.client c.fact event after acted_is
 
-    pub became : value player_table (client_seat (route_of stage.first) asks) (rows ++ row_of player_table (client_seat (route_of stage.first) asks) rows event ∷ []) ≡ Client after.0
-    became =
-        value-snoc player_table (cseat asks) rows (row_of player_table (cseat asks) rows event)
-        ∙ (ap (λ b. cond b (acted player_table (value player_table (cseat asks) rows) (input_of (mails rows) event)).0 (value player_table (cseat asks) rows)) (eq-eqb (client_actor asks.client) (client_actor asks.client) refl)
-        ∙ ap (λ (p : Player × List Mail). p.0) acted_is)
-
-    pub more : IsMore (IsBegun scenario rows) (IsBegun scenario (rows ++ row_of player_table (client_seat (route_of stage.first) asks) rows event ∷ []))
-    more = begun_more words scenario stage rows (row_of player_table (cseat asks) rows event) (λ other b. elim (cases_eq (client_actor other.client) (client_actor asks.client)) [
-      | inl fact ↦ (let same : other ≡ asks = same_client scenario stage asks other a b fact in
-          subst (λ (x : Asks). begun_of (value player_table (cseat x) rows) ≤ begun_of (value player_table (cseat x) (rows ++ row_of player_table (cseat asks) rows event ∷ []))) (sym same)
-          (let before = ap begun_of c.fact in let now_ = ap begun_of became in omega (arith, before, now_, grows)))
-      | inr ne ↦ (let same = ap begun_of (value_others words scenario stage rows (row_of player_table (cseat asks) rows event) (cseat other) ne) in omega (arith, same))
-    ])
+    more : IsMore (IsBegun scenario rows) (IsBegun scenario (rows ++ row_of player_table (client_seat (route_of stage.first) asks) rows event ∷ []))
+    more = begins_more words scenario stage rows asks a c.client c.fact event after acted_is grows
 
     -- what is begun after it
-    pub now : (n : ℕ) (op : Op) → 1 ≤ n → slice_get c.client.requests (n - 1) ≡ Some op → n ≤ begun_ones after.0 → IsBegun scenario (rows ++ row_of player_table (client_seat (route_of stage.first) asks) rows event ∷ []) c.client.me n op
-    now n op one at low = record {
-      first = stage.first;
-      others = stage.others;
-      groups_are = stage.groups_are;
-      asks = asks;
-      is_asks = a;
-      client_is = sym c.plain.me_is;
-      from_one = one;
-      op_is = ap (λ (ops : List Op). slice_get ops (n - 1)) (sym c.plain.requests_are) ∙ at;
-      low = (let fact = ap begun_of became in omega (arith, fact, low));
-    }
+    now : BeginsBy (IsBegun scenario (rows ++ row_of player_table (client_seat (route_of stage.first) asks) rows event ∷ [])) c.client after
+    now = begins_by words scenario stage rows asks a c.client c.fact event after acted_is c.plain.me_is c.plain.requests_are
 
     -- the journal after it
     client_after : (gone : Bool) → has_started (rows ++ row_of player_table (client_seat (route_of stage.first) asks) rows event ∷ []) (client_actor asks.client) ≡ gone
@@ -141,24 +117,16 @@ module _ (words : ℕ → ℕ → ℕ × ℕ) (scenario : Scenario) (stage : IsS
   -- ---- a client takes a mail
 
   module _ (number : ℕ) (fine : kth (waiting (system_of as_nodes words scenario) rows (Some (client_actor asks.client))) 1 ≡ Some number) where
-    pub first : TakesFirst (system_of as_nodes words scenario) rows (client_actor asks.client) number
+    first : TakesFirst (system_of as_nodes words scenario) rows (client_actor asks.client) number
     first = takes_first (system_of as_nodes words scenario) rows (client_actor asks.client) number t (is_born-from (system_of as_nodes words scenario) (client_actor asks.client) (cseat asks) born) fine
 
-    pub is_plain : IsPlainMail (IsBegun scenario rows) (frames_of scenario) first.mail
+    is_plain : IsPlainMail (IsBegun scenario rows) (frames_of scenario) first.mail
     is_plain = each_numbered (IsPlainMail (IsBegun scenario rows) (frames_of scenario)) (mails rows) number first.mail j.sent first.sent
 
-    pub got_is : acted player_table (value player_table (client_seat (route_of stage.first) asks) rows) (input_of {O = OrderLine} (mails rows) (Deliver number)) ≡ (Client (table c.client (Got first.mail)).0, (table c.client (Got first.mail)).1)
-    got_is =
-        ap (λ o. acted player_table (value player_table (cseat asks) rows) (option_map Got o)) first.sent
-        ∙ ap (λ p. acted player_table p (Some (Got first.mail))) c.fact
-
-    pub got_more : begun_ones c.client ≤ begun_ones (table c.client (Got first.mail)).0
-    got_more = got_grows first.mail.from first.mail.body c.client
-
-    pub takes : TakesMail (frames_of scenario) round asks (IsBegun scenario rows) (IsBegun scenario (rows ++ row_of player_table (client_seat (route_of stage.first) asks) rows (Deliver number) ∷ [])) (has_started rows (client_actor asks.client)) c.client first.mail c.plain is_plain
-        (first.receiver ∙ ap client_actor (sym c.plain.me_is)) (begun_right scenario rows stage.once asks a c.client c.plain.me_is c.plain.requests_are) (more (Deliver number) fine (table c.client (Got first.mail)) got_is got_more) (now (Deliver number) fine (table c.client (Got first.mail)) got_is got_more) (table c.client (Got first.mail))
+    takes : TakesMail (frames_of scenario) round asks (IsBegun scenario rows) (IsBegun scenario (rows ++ row_of player_table (client_seat (route_of stage.first) asks) rows (Deliver number) ∷ [])) (has_started rows (client_actor asks.client)) c.client first.mail c.plain is_plain
+        (first.receiver ∙ ap client_actor (sym c.plain.me_is)) (begun_right scenario rows stage.once asks a c.client c.plain.me_is c.plain.requests_are) (more (Deliver number) fine (table c.client (Got first.mail)) (takes_is words scenario stage rows asks a c.client c.fact number first) (got_grows first.mail.from first.mail.body c.client)) (now (Deliver number) fine (table c.client (Got first.mail)) (takes_is words scenario stage rows asks a c.client c.fact number first) (got_grows first.mail.from first.mail.body c.client)) (table c.client (Got first.mail))
     takes = client_row (frames_of scenario) round asks (IsBegun scenario rows) (IsBegun scenario (rows ++ row_of player_table (client_seat (route_of stage.first) asks) rows (Deliver number) ∷ [])) (has_started rows (client_actor asks.client)) c.client first.mail c.plain is_plain
-        (first.receiver ∙ ap client_actor (sym c.plain.me_is)) (begun_right scenario rows stage.once asks a c.client c.plain.me_is c.plain.requests_are) (more (Deliver number) fine (table c.client (Got first.mail)) got_is got_more) (now (Deliver number) fine (table c.client (Got first.mail)) got_is got_more)
+        (first.receiver ∙ ap client_actor (sym c.plain.me_is)) (begun_right scenario rows stage.once asks a c.client c.plain.me_is c.plain.requests_are) (more (Deliver number) fine (table c.client (Got first.mail)) (takes_is words scenario stage rows asks a c.client c.fact number first) (got_grows first.mail.from first.mail.body c.client)) (now (Deliver number) fine (table c.client (Got first.mail)) (takes_is words scenario stage rows asks a c.client c.fact number first) (got_grows first.mail.from first.mail.body c.client))
 
     marks_taken : (name : Draw) → IsTaken Other (marks_at words scenario rows name (client_actor asks.client)) (drop 1 (marks_at words scenario rows name (client_actor asks.client)))
     marks_taken name =
@@ -174,7 +142,7 @@ module _ (words : ℕ → ℕ → ℕ × ℕ) (scenario : Scenario) (stage : IsS
 
     client_turn : J (rows ++ row_of player_table (client_seat (route_of stage.first) asks) rows (Deliver number) ∷ [])
     client_turn =
-        client_after (Deliver number) fine (table c.client (Got first.mail)) got_is got_more (has_started rows (client_actor asks.client))
+        client_after (Deliver number) fine (table c.client (Got first.mail)) (takes_is words scenario stage rows asks a c.client c.fact number first) (got_grows first.mail.from first.mail.body c.client) (has_started rows (client_actor asks.client))
         (started_still words scenario stage rows (row_of player_table (cseat asks) rows (Deliver number)) (client_actor asks.client) refl) takes.row marks_taken others_sent
         (λ mail sent. (
         let same : first.mail ≡ mail = (let e : Some first.mail ≡ Some mail = sym first.sent ∙ sent in cc) in
@@ -184,30 +152,15 @@ module _ (words : ℕ → ℕ → ℕ × ℕ) (scenario : Scenario) (stage : IsS
   -- ---- a client starts
 
   module _ (fine : has_started rows (client_actor asks.client) ≡ false) where
-    pub go_is : acted player_table (value player_table (client_seat (route_of stage.first) asks) rows) (input_of {O = OrderLine} (mails rows) Go) ≡ (Client (table c.client GoInput).0, (table c.client GoInput).1)
-    go_is = ap (λ p. acted player_table p (Some GoInput)) c.fact
-
-    pub fresh : IsPlainClient (frames_of scenario) asks false c.client
+    fresh : IsPlainClient (frames_of scenario) asks false c.client
     fresh = subst (λ g. IsPlainClient (frames_of scenario) asks g c.client) fine c.plain
 
-    pub go_more : begun_ones c.client ≤ begun_ones (table c.client GoInput).0
-    go_more =
-        let none = unasked c.client fresh.state in
-        let waits = ap waiting_ones none.0 in
-        let replies = ap length none.1 in
-        omega (arith, waits, replies)
-
-    pub goes : Goes (frames_of scenario) round asks (IsBegun scenario (rows ++ row_of player_table (client_seat (route_of stage.first) asks) rows Go ∷ [])) c.client (table c.client GoInput)
-    goes = go_row (frames_of scenario) round asks (IsBegun scenario (rows ++ row_of player_table (client_seat (route_of stage.first) asks) rows Go ∷ [])) c.client fresh (now Go fine (table c.client GoInput) go_is go_more)
-
-    gone_now : has_started (rows ++ row_of player_table (client_seat (route_of stage.first) asks) rows Go ∷ []) (client_actor asks.client) ≡ true
-    gone_now =
-        list_any-append (λ (r : Row Mail OrderLine). eqb r.who (client_actor asks.client) && is_go r.event) rows (row_of player_table (cseat asks) rows Go ∷ [])
-        ∙ (ap (λ b. has_started rows (client_actor asks.client) || ((b && true) || false)) (eq-eqb (client_actor asks.client) (client_actor asks.client) refl) ∙ or_right (has_started rows (client_actor asks.client)) true refl)
+    goes : Goes (frames_of scenario) round asks (IsBegun scenario (rows ++ row_of player_table (client_seat (route_of stage.first) asks) rows Go ∷ [])) c.client (table c.client GoInput)
+    goes = go_row (frames_of scenario) round asks (IsBegun scenario (rows ++ row_of player_table (client_seat (route_of stage.first) asks) rows Go ∷ [])) c.client fresh (now Go fine (table c.client GoInput) (starts_is words scenario stage rows asks a c.client c.fact) (starts_more words scenario stage rows asks a c.client c.fact fresh.state))
 
     client_go : J (rows ++ row_of player_table (client_seat (route_of stage.first) asks) rows Go ∷ [])
     client_go =
-        client_after Go fine (table c.client GoInput) go_is go_more true gone_now goes.row (λ name. inr (refl, sym (at_zero (marks_at words scenario rows name (client_actor asks.client)))))
+        client_after Go fine (table c.client GoInput) (starts_is words scenario stage rows asks a c.client c.fact) (starts_more words scenario stage rows asks a c.client c.fact fresh.state) true (starts_now words scenario stage rows asks a c.client c.fact) goes.row (λ name. inr (refl, sym (at_zero (marks_at words scenario rows name (client_actor asks.client)))))
         (λ name who. elim (goes.response) [ inl asked ↦ asked_others name who (table c.client GoInput) asked | inr ended ↦ ended_others name who (table c.client GoInput) ended ])
         (subst (λ p. owed_by (owing_of scenario) (player_table p GoInput) ≤ player_owes (length (frames_of scenario)) p) (sym c.fact) goes.owed)
       where

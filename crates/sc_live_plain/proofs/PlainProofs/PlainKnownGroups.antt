@@ -124,6 +124,47 @@ way_known (x ∷ prefix) frame apart a =
           ∙ way_known prefix frame (λ o b e. apart o (inr b) e) (elim a [ inl same ↦ absurd (both_ways (same_draw frame.core.id x.core.id) f (same_name frame.core.id x.core.id (ap (λ (y : Frame). y.core.id) (sym same)))) | inr b ↦ b ])
     ]
 
+-- ---- the one behind the nearest
+
+-- round a circle in which each group stands before the next, and is farther from a position that it lacks
+module _ (frames : List Frame) (Before : Frame → Frame → Type 0) (next : (a b : List Frame) (frame other : Frame) → frames ≡ a ++ frame ∷ other ∷ b → Before frame other)
+    (last : (a b : List Frame) (frame other : Frame) → frames ≡ a ++ frame ∷ [] → frames ≡ other ∷ b → Before frame other)
+    (nearer_next : (p : ℕ) (frame other : Frame) → Among frame frames → Before frame other → holds frame.core.arc p ≡ false → far p (way_of other).1 < far p (way_of frame).1) (reached : ℕ) where
+  -- none of the first groups is nearer to a position
+  abbrev pub IsNearest : ℕ → Frame → Type 0
+  IsNearest p frame = (other : Frame) → Among other (take reached frames) → far p (way_of frame).1 ≤ far p (way_of other).1
+
+  -- the first one behind them, before which a group stands
+  pub record Follows (frame : Frame) : Type 0 where
+    pub other : Frame
+    pub rest : List Frame
+    pub back_is : drop reached frames ≡ other ∷ rest
+    pub before : Before frame other
+
+  wrapped : (p : ℕ) (frame : Frame) → Among frame (take reached frames) → IsNearest p frame → holds frame.core.arc p ≡ false → (l : List Frame) → frames ≡ l ++ frame ∷ [] → (all : List Frame) → frames ≡ all → take reached frames ≡ all → Follows frame
+  wrapped p frame a near lacks l whole [] e same = absurd (subst (Among frame) same a)
+  wrapped p frame a near lacks l whole (first ∷ rest) e same =
+      let k = last l rest frame first whole e in
+      let le = near first (subst (Among first) (sym same) (inl refl)) in
+      let lt = nearer_next p frame first (among_first reached frames frame a) k lacks in
+      absurd (omega (arith, le, lt))
+
+  behind : (p : ℕ) (frame : Frame) → Among frame (take reached frames) → IsNearest p frame → holds frame.core.arc p ≡ false → (l b rest : List Frame) → drop reached frames ≡ rest → take reached frames ≡ l ++ frame ∷ b → frames ≡ l ++ frame ∷ (b ++ rest) → Follows frame
+  behind p frame a near lacks l (other ∷ b) rest r split whole =
+      let k = next l (b ++ rest) frame other whole in
+      let le = near other (subst (Among other) (sym split) (among_last l (frame ∷ other ∷ b) other (inr (inl refl)))) in
+      let lt = nearer_next p frame other (among_first reached frames frame a) k lacks in
+      absurd (omega (arith, le, lt))
+  behind p frame a near lacks l [] (other ∷ rest) r split whole = record { other = other; rest = rest; back_is = r; before = next l rest frame other whole }
+  behind p frame a near lacks l [] [] r split whole = wrapped p frame a near lacks l whole frames refl (split ∙ sym whole)
+
+  -- the nearest of the first groups, where it lacks the position, stands before the first one behind them
+  pub follows : (p : ℕ) (frame : Frame) → Among frame (take reached frames) → IsNearest p frame → holds frame.core.arc p ≡ false → Follows frame
+  follows p frame a near lacks =
+      let w = parts_of (take reached frames) frame a in
+      behind p frame a near lacks w.0 w.1 (drop reached frames) refl w.2
+      (sym (take-append-drop reached frames) ∙ (ap (λ (fs : List Frame). fs ++ drop reached frames) w.2 ∙ append_assoc w.0 (frame ∷ w.1) (drop reached frames)))
+
 module _ (frames : List Frame) (round : IsRound frames) (reached : ℕ) (low : reached ≤ length frames) where
   abbrev prefix : List Frame
   prefix = take reached frames
@@ -200,30 +241,10 @@ module _ (frames : List Frame) (round : IsRound frames) (reached : ℕ) (low : r
         known_is = ap (λ known. learnt_from_not_mine frame.core.id frame.core.arc frame.core.succ known) known_prefix ∙ learnt frame other rest a e k;
       }
 
-  wrapped : (p : ℕ) (frame : Frame) → Among frame prefix → ((other : Frame) → Among other prefix → far p (way_of frame).1 ≤ far p (way_of other).1) → holds frame.core.arc p ≡ false → (a : List Frame) → frames ≡ a ++ frame ∷ [] → (all : List Frame) → frames ≡ all → prefix ≡ frames → Grows frame
-  wrapped p frame a near lacks l whole [] e same = absurd (subst (Among frame) (same ∙ e) a)
-  wrapped p frame a near lacks l whole (first ∷ rest) e same =
-      let k = round.last l rest frame first whole e in
-      let among : Among first prefix = subst (Among first) (sym (same ∙ e)) (inl refl) in
-      let le = near first among in
-      let lt = k.nearer p lacks in
-      absurd (omega (arith, le, lt))
-
-  behind : (p : ℕ) (frame : Frame) → Among frame prefix → ((other : Frame) → Among other prefix → far p (way_of frame).1 ≤ far p (way_of other).1) → holds frame.core.arc p ≡ false → (a b rest : List Frame) → back ≡ rest → prefix ≡ a ++ frame ∷ b → frames ≡ a ++ frame ∷ (b ++ rest) → Grows frame
-  behind p frame a near lacks l (other ∷ b) rest r split whole =
-      let k = round.next l (b ++ rest) frame other whole in
-      let among : Among other prefix = subst (Among other) (sym split) (among_last l (frame ∷ other ∷ b) other (inr (inl refl))) in
-      let le = near other among in
-      let lt = k.nearer p lacks in
-      absurd (omega (arith, le, lt))
-  behind p frame a near lacks l [] (other ∷ rest) r split whole = grown frame other rest a r (round.next l rest frame other whole)
-  behind p frame a near lacks l [] [] r split whole = wrapped p frame a near lacks l whole frames refl (subst (λ (fs : List Frame). prefix ≡ fs) (split ∙ sym whole) refl)
-
   pub known_grows : (p : ℕ) (frame : Frame) (group : Draw) → Among frame frames → frame.core.id ≡ group → chosen p (take reached (map way_of frames)) ≡ Some group → holds frame.core.arc p ≡ false → Grows frame
   known_grows p frame group a name e lacks =
       let c = chosen_frame p group (ap (chosen p) (sym known_prefix) ∙ e) in
       let same : c.frame ≡ frame = round.apart c.frame frame (among_first reached frames c.frame c.is_frame) a (c.name ∙ sym name) in
       let in_prefix : Among frame prefix = subst (λ (f : Frame). Among f prefix) same c.is_frame in
-      let split = parts_of prefix frame in_prefix in
-      let whole : frames ≡ split.0 ++ frame ∷ (split.1 ++ back) = parts ∙ ap (λ (l : List Frame). l ++ back) split.2 ∙ append_assoc split.0 (frame ∷ split.1) back in
-      behind p frame in_prefix (λ other b. (let le = c.each other b in let fact = ap (λ (f : Frame). far p (way_of f).1) same in omega (arith, le, fact))) lacks split.0 split.1 back refl split.2 whole
+      let n = follows frames IsBefore round.next round.last (λ q one other b k. k.nearer q) reached p frame in_prefix (λ other b. (let le = c.each other b in let fact = ap (λ (f : Frame). far p (way_of f).1) same in omega (arith, le, fact))) lacks in
+      grown frame n.other n.rest in_prefix n.back_is n.before

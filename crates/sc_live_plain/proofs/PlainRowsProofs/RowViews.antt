@@ -1,8 +1,9 @@
 -- What one row makes of the marks that are under way, and of the view of a group.
+use Rattle.sc_client_table.specs.table.Definitions.{Client as ClientState}
 use Rattle.std.proofs.Common.{◌≡◌, ℕ, ◌&&◌, true, false, cond, List, [], ◌∷◌, ◌++◌, map, drop, None, refl, sym, ◌∙◌, ap}
 use Rattle.std.proofs.lemmas.Bool.{cond-true, cond-false, ne_eqb, eq-eqb}
 use Rattle.std.proofs.lemmas.List.{map-append, drop-map}
-use Rattle.sc_node_table.specs.Values.{Draw, OrderLine, Mail, Row}
+use Rattle.sc_node_table.specs.Values.{Client, Draw, OrderLine, Mail, Row}
 use Rattle.sc_actor.specs.Definitions.{mails, is_delivery, value, acted, input_of}
 use Rattle.sc_actor.proofs.Lemmas.{value-snoc}
 use Rattle.sc_node_table.specs.Definitions.{replica_of, is_node, next}
@@ -69,3 +70,7 @@ module _ (words : ℕ → ℕ → ℕ × ℕ) (scenario : Scenario) where
   pub replica_is : (rows : Journal) (name : Draw) (node : ℕ) (player : Player) → is_node node ≡ true → value player_table (node_seat as_nodes scenario.groups scenario.policy node) rows ≡ player → replica_at scenario rows name node ≡ replica_of name (replicas_of player)
   replica_is rows name node player e v =
       cond-true (is_node node) (replica_of name (replicas_of (value player_table (node_seat as_nodes scenario.groups scenario.policy node) rows))) None e ∙ ap (λ (p : Player). replica_of name (replicas_of p)) v
+
+-- a player is one client
+pub client_is : {x y : ClientState} → ◌≡◌ {A = Player} (Client x) (Client y) → x ≡ y
+client_is e = cc

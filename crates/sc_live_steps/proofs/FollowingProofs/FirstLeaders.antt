@@ -9,9 +9,6 @@ use Rattle.sc_live_steps.specs.following.Definitions.{LeadersBegin, voters_of, I
 pub leaders_begin : LeadersBegin
 leaders_begin at me base same first member stands roster = (leads_first, orderly_first)
   where
-    r : ReplicaState
-    r = born_replica slots_ahead me base
-
     no_voters : (s : ℕ) → voters_of (born_replica slots_ahead me base) s ≡ None
     no_voters s = cond_both {A = Option (List ℕ)} (not (eqb base.core.first me) || (ltb s (next (born_replica slots_ahead me base)) || false)) None None (λ o. o ≡ None) (λ _. refl) (λ _. refl)
 

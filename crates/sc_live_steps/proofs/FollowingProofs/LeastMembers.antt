@@ -68,9 +68,6 @@ once : (test : ℕ → Bool) (who : ℕ) (mark : Mark) (count from : ℕ) → ma
 once test who mark zero from = refl
 once test who mark (suc count) from = by (test from) (once test who mark count (from + 1))
   where
-    tail : List ℕ
-    tail = filter test (numbers_from (from + 1) count)
-
     head : marks_to who mark (filter test (numbers_from (from + 1) count)) ≡ cond (is_member (filter test (numbers_from (from + 1) count)) who) (mark ∷ []) []
         → cond (eqb from who) (mark ∷ []) [] ++ marks_to who mark (filter test (numbers_from (from + 1) count)) ≡ cond (eqb from who || is_member (filter test (numbers_from (from + 1) count)) who) (mark ∷ []) []
     head rest = elim (cases_eq from who) [

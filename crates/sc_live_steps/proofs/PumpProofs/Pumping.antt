@@ -10,6 +10,7 @@ use Rattle.sc_words.specs.paxos.Definitions.{LeaderState, flight_at, must}
 use Rattle.sc_node_table.specs.Definitions.{Found, is_act, from_backlog, from_acts, from_queues, found_by, found_for, offered, pumped_from, pumped, ReplicaState, Place, either, flying, listed, next, settled, may_offer, first_set, taken_at, taken_from, open_slots, under_way, is_idle, last_slot, at_slot}
 use Rattle.sc_law_walks.proofs.Lemmas.{either_way}
 use Rattle.sc_live_steps.specs.pump.Waiting.{HasNoneWaiting, PumpsLeaveNone}
+use Rattle.std.proofs.lemmas.List.{length_push}
 
 -- something is in flight or ready
 abbrev IsBusy : ReplicaState → Type 0
@@ -24,10 +25,6 @@ BusyAt place = IsBusy place.0
 
 abbrev DoneAt : Place → Type 0
 DoneAt place = IsDone place.0
-
-snoc_none : {X : Type 0} (xs : List X) (x : X) → xs ++ x ∷ [] ≡ [] → ⊥
-snoc_none [] x e = cc
-snoc_none (y ∷ xs) x e = cc
 
 pub none_at : (r : ReplicaState) (slot : ℕ) → r.leader.flights ≡ [] → r.ready ≡ [] → taken_at r slot ≡ None
 none_at r slot f e =
@@ -79,7 +76,7 @@ stays_busy r found l b f e = b (sym (ap (λ (x : LeaderState Command). x.flights
 
 offered_busy : (slot : ℕ) (set : List ℕ) (command : Command) (place : Place) → IsBusy (offered slot set command place).0
 unfolding offered
-offered_busy slot set command (r, mails) f e = snoc_none r.leader.flights _ f
+offered_busy slot set command (r, mails) f e = (let one = length_push r.leader.flights (record { slot = slot; value = command; voters = None }) in let none = ap length f in absurd (omega (arith, one, none)))
 
 -- ---- slots
 

@@ -1,5 +1,5 @@
--- A request that waits is on its way, or its answer is, or it is queued at the leader that was asked.
-use Rattle.std.proofs.Common.{◌≡◌, ℕ, ◌≤◌, eqb, ◌&&◌, true, false, cond, List, [], ◌∷◌, ◌++◌, drop, Some, ◌⊎◌, inl, inr, refl, sym, ◌∙◌, ap, subst, arith}
+-- What a row leaves of the mail that is under way, and what a leader makes of a queued request: it stays queued, or its client is answered for good.
+use Rattle.std.proofs.Common.{◌≡◌, ℕ, ◌≤◌, eqb, ◌&&◌, true, false, cond, List, [], ◌∷◌, ◌++◌, drop, ◌⊎◌, inl, inr, refl, sym, ◌∙◌, ap, subst, arith}
 use Rattle.std.specs.List.{filter}
 use Rattle.std.proofs.lemmas.Bool.{ne_eqb, eq-eqb, cond-true, cond_both}
 use Rattle.sc_base.specs.Definitions.{Among, Each, client_actor}
@@ -13,10 +13,9 @@ use Rattle.sc_scenario.specs.declared.scenario.scenarios.Scenario.{Scenario}
 use Rattle.sc_meaning.specs.sound.Definitions.{player_table, client_seat, route_of, system_of, as_nodes}
 use Rattle.sc_live_orderly.specs.Definitions.{rest, mail_for, taken}
 use Rattle.sc_paxos_law.proofs.Lemmas.{Among-left, Among-right}
-use Rattle.sc_live_plain.specs.Definitions.{replica_at, Frame, IsFrame, answer_owes, waiting_ones, IsBegun, IsWaiting, begun_of, Requests, IsPlainAnswer, IsPlainBody}
-use Rattle.sc_live_plain.proofs.PlainProofs.PlainBeginnings.{frames_of, IsStage}
+use Rattle.sc_live_plain.specs.Definitions.{Frame, IsFrame, answer_owes, waiting_ones, IsBegun, IsWaiting, begun_of, Requests, IsPlainAnswer, IsPlainBody}
+use Rattle.sc_live_plain.proofs.PlainProofs.PlainBeginnings.{IsStage}
 use Rattle.sc_live_plain.proofs.PlainRowsProofs.RowViews.{Journal}
-use Rattle.sc_live_plain.proofs.PlainProofs.PlainClients.{asking}
 use Rattle.sc_live_plain.proofs.LeadersProofs.LeadingReplicas.{IsHeld, IsReportedOf}
 use Rattle.sc_live_plain.proofs.PlainRowsProofs.ReplicaRows.{Does}
 use Rattle.sc_live_plain.proofs.PlainRowsProofs.RepeatedMail.{mail_of}
@@ -28,6 +27,10 @@ IsFinal (NotMine arc succ) = Unit {0}
 IsFinal (NotLeader hint) = ⊥
 IsFinal (Gone into) = ⊥
 IsFinal (Stale last) = ⊥
+
+at_zero : (xs : List Mail) → drop 0 xs ≡ xs
+at_zero [] = refl
+at_zero (x ∷ xs) = refl
 
 -- a mail among those for its receiver
 filter_among : (who : ℕ) (sent : List Mail) (mail : Mail) → mail.to ≡ who → Among mail sent → Among mail (filter (λ (m : Mail). eqb m.to who) sent)
@@ -52,26 +55,6 @@ module _ (words : ℕ → ℕ → ℕ × ℕ) (scenario : Scenario) where
   abbrev left : Journal → ℕ → List Mail
   left rows who = rest (system_of as_nodes words scenario) rows who
 
-  -- a request is on its way to a leader
-  abbrev pub IsAsked : Journal → Frame → ℕ → ℕ → Type 0
-  IsAsked rows frame me seq = (op : Op) × Among (asking me frame.lead frame.core.id seq op) (left rows frame.lead)
-
-  -- its answer is on its way
-  abbrev pub IsAnswered : Journal → Frame → ℕ → ℕ → Type 0
-  IsAnswered rows frame me seq = (answer : AnswerBody) × IsFinal answer × Among (mail_of frame.lead (client_actor me) (Answer frame.core.id seq answer)) (left rows (client_actor me))
-
-  -- its request is queued at the leader
-  abbrev pub IsHeldAt : Journal → Frame → ℕ → ℕ → Type 0
-  IsHeldAt rows frame me seq = (r : ReplicaState) × (replica_at scenario rows frame.core.id frame.lead ≡ Some r) × IsHeld r me seq
-
-  -- a request that waits is on its way, or its answer is, or it is queued at the leader
-  pub record IsSought (rows : Journal) (client : ClientState) (w : IsWaiting client) : Type 0 where
-    pub frame : Frame
-    pub is_frame : Among frame (frames_of scenario)
-    pub name : w.group ≡ frame.core.id
-    pub lead : w.target ≡ frame.lead
-    pub where_ : IsAsked rows frame client.me w.seq ⊎ (IsAnswered rows frame client.me w.seq ⊎ IsHeldAt rows frame client.me w.seq)
-
   module _ (rows : Journal) (row : Row Mail OrderLine)
       (after : (who : ℕ) → rest (system_of as_nodes words scenario) (rows ++ row ∷ []) who ≡ drop (taken who row) (rest (system_of as_nodes words scenario) rows who) ++ mail_for (system_of as_nodes words scenario) who row.sent) where
     -- what is sent to one is left of its mail
@@ -83,10 +66,6 @@ module _ (words : ℕ → ℕ → ℕ × ℕ) (scenario : Scenario) where
     others_left who mail ne a =
         let none : drop (taken who row) (left rows who) ≡ left rows who = ap (λ b. drop (cond (b && is_delivery row.event) 1 0) (left rows who)) (ne_eqb row.who who (λ e. ne (sym e))) ∙ at_zero (left rows who) in
         subst (Among mail) (sym (after who)) (Among-left mail (drop (taken who row) (left rows who)) (mail_for (system_of as_nodes words scenario) who row.sent) (subst (Among mail) (sym none) a))
-      where
-        at_zero : (xs : List Mail) → drop 0 xs ≡ xs
-        at_zero [] = refl
-        at_zero (x ∷ xs) = refl
 
     -- what is left of the mail of one who takes its first stays, but for that
     pub behind_left : (first : Mail) (behind : List Mail) → left rows row.who ≡ first ∷ behind → is_delivery row.event ≡ true → (mail : Mail) → Among mail (left rows row.who) → (first ≡ mail) ⊎ Among mail (left (rows ++ row ∷ []) row.who)
@@ -104,10 +83,6 @@ module _ (words : ℕ → ℕ → ℕ × ℕ) (scenario : Scenario) where
         let all : drop (taken row.who row) (left rows row.who) ≡ left rows row.who =
         ap (λ b. drop (cond (b && is_delivery row.event) 1 0) (left rows row.who)) (eq-eqb row.who row.who refl) ∙ (ap (λ b. drop (cond b 1 0) (left rows row.who)) none ∙ at_zero (left rows row.who)) in
         subst (Among mail) (sym (after row.who)) (Among-left mail (drop (taken row.who row) (left rows row.who)) (mail_for (system_of as_nodes words scenario) row.who row.sent) (subst (Among mail) (sym all) a))
-      where
-        at_zero : (xs : List Mail) → drop 0 xs ≡ xs
-        at_zero [] = refl
-        at_zero (x ∷ xs) = refl
 
   -- ---- an answer of the leader that a client waits for
 
