@@ -16,7 +16,6 @@ use Rattle.sc_thread_ports.proofs.TurnProofs.ListPrefixes.{starts_refl, starts_n
 module _ {E : Type 0} where
   abbrev first_status : ℕ → Status E
   first_status = put_status (λ _. unused) 0 (carried 0)
-
   opens_each : (i : ℕ) (v : View E) → get_elem? (opener ∷ []) i ≡ some v → Fits [] first_status free i v
   opens_each zero v e = subst (Fits [] first_status free 0) (some-injective opener v e) record {
     seen = ([], refl);
@@ -47,10 +46,8 @@ module _ {E : Type 0} where
 module _ {T E : Type 0} (entries : T → List (E × ℕ)) where
   abbrev St : Type 0
   St = State (Option T) (View E)
-
   abbrev M : Type 0
   M = Me (Option T) (View E)
-
   abbrev Rule : St → Type 0
   Rule = Kept entries
 
