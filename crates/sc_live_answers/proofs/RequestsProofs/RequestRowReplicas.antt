@@ -1,4 +1,5 @@
 -- What a row of requests leaves of all replicas: one at most serves, and all others stay.
+use Rattle.sc_live_plain.proofs.PlainRowsProofs.RowViews.{value_own}
 use Rattle.std.proofs.Common.{◌≡◌, ℕ, ◌+◌, ◌<◌, ◌≤◌, eqb, true, List, [], ◌∷◌, ◌++◌, map, find, Some, ◌⊎◌, inl, inr, sym, ◌∙◌, ap, subst, arith}
 use Rattle.std.proofs.lemmas.Bool.{cond-true, cases_eq}
 use Rattle.sc_base.specs.Definitions.{Among, Each, client_actor, same_draw}
@@ -182,7 +183,7 @@ module _ (words : ℕ → ℕ → ℕ × ℕ) (scenario : Scenario) (stage : IsS
     went : RowLeaves words scenario set.frames rows (later Go)
     went =
         let acted_go : acted player_table (value player_table (nseat me) rows) (input_of {O = OrderLine} (mails rows) Go) ≡ (Node n.node, []) = ap (λ p. acted player_table p (Some GoInput)) n.fact in
-        inl (all_stay Go (turns_of.value_own words scenario stage set fact rows t j (nseat me) Go ∙ ap (λ (p : Player × List Mail). p.0) acted_go))
+        inl (all_stay Go (value_own rows (nseat me) Go ∙ ap (λ (p : Player × List Mail). p.0) acted_go))
 
     node_leaves : (event : Event OrderLine) → IsInOrder (system_of as_nodes words scenario) rows me event → RowLeaves words scenario set.frames rows (later event)
     node_leaves (Deliver number) fine = delivered number fine

@@ -18,7 +18,7 @@ use Rattle.sc_live_plain.specs.Definitions.{IsAskingNode, IsAsking, AreFarFromLa
 use Rattle.sc_live_plain.proofs.CalmProofs.RequestPhaseNodes as turns_of
 use Rattle.sc_live_plain.proofs.PlainProofs.PlainBeginnings.{IsStage}
 use Rattle.sc_live_plain.proofs.PlainProofs.PlainSteps.{node_number, value_others, client_away}
-use Rattle.sc_live_plain.proofs.PlainRowsProofs.RowViews.{Journal, replica_is, replica_others}
+use Rattle.sc_live_plain.proofs.PlainRowsProofs.RowViews.{same_replicas, value_own, Journal, replica_is, replica_others}
 use Rattle.sc_live_plain.proofs.CalmProofs.CalmClients.{EndsWait}
 use Rattle.sc_live_plain.proofs.CalmProofs.CalmNodes.{Turns, aside_is, aside_answer, step_is}
 use Rattle.sc_live_plain.proofs.PlainProofs.PlainClients.{asking}
@@ -292,7 +292,7 @@ module _ (words : ℕ → ℕ → ℕ × ℕ) (scenario : Scenario) (begins : Is
           let n = turns_of.n words scenario begins set fact rows t j room me one most born in
           let ne : client_actor client.me ≡ me → ⊥ = λ e. client_away words scenario begins me (node_number words scenario begins me one most) asks a (ap client_actor (sym (me_of words scenario begins set fact linked rows t j sought asks client a was)) ∙ e) in
           let acted_go : acted player_table (value player_table (nseat me) rows) (input_of {O = OrderLine} (mails rows) Go) ≡ (Node n.node, []) = ap (λ p. acted player_table p (Some GoInput)) n.fact in
-          let same : value player_table (nseat me) (rows ++ r ∷ []) ≡ Node n.node = turns_of.value_own words scenario begins set fact rows t j (nseat me) Go ∙ ap (λ (p : Player × List Mail). p.0) acted_go in
+          let same : value player_table (nseat me) (rows ++ r ∷ []) ≡ Node n.node = value_own rows (nseat me) Go ∙ ap (λ (p : Player × List Mail). p.0) acted_go in
           elim (cases_eq w.target me) [
             | inr other ↦ elsewhere Go fine client w.group w.target w.seq ne other (sought asks client a was w)
             | inl here ↦ elim (sought asks client a was w) [
@@ -309,7 +309,7 @@ module _ (words : ℕ → ℕ → ℕ × ℕ) (scenario : Scenario) (begins : Is
                 lead = h.lead;
                 r = h.r;
                 there = ap (λ d. replica_at scenario (rows ++ r ∷ []) d w.target) (sym h.name)
-                    ∙ (turns_of.same_replicas words scenario begins set fact rows t j room me one most born Go same h.frame w.target ∙ (ap (λ d. replica_at scenario rows d w.target) h.name ∙ h.there));
+                    ∙ (same_replicas words scenario rows me Go (Node (turns_of.n words scenario begins set fact rows t j room me one most born).node) (node_number words scenario begins me one most) (turns_of.n words scenario begins set fact rows t j room me one most born).fact same h.frame.core.id w.target ∙ (ap (λ d. replica_at scenario rows d w.target) h.name ∙ h.there));
                 held = h.held;
               }))
             ]

@@ -1,4 +1,5 @@
 -- Between two orders each row of a client leaves a journal in which clients ask alone; and so each row.
+use Rattle.sc_live_plain.proofs.PlainRowsProofs.Lists.{at_zero}
 use Rattle.std.proofs.Common.{◌≡◌, ℕ, ◌≤◌, eqb, Bool, true, false, cond, List, [], ◌∷◌, ◌++◌, drop, find, Some, ◌⊎◌, inl, inr, refl, sym, ◌∙◌, ap, subst}
 use Rattle.std.proofs.lemmas.Bool.{cases_eq}
 use Rattle.sc_base.specs.Definitions.{Among, Each, client_actor}
@@ -13,7 +14,7 @@ use Rattle.sc_scenario.specs.scenario.Definitions.{ValidScenariosAreBounded}
 use Rattle.sc_meaning.specs.sound.Definitions.{Player, player_table, node_seat, client_seat, route_of, births, system_of, as_nodes}
 use Rattle.sc_live_orderly.specs.Definitions.{IsTidy, IsOrderly, IsInOrder, rest, mail_for, taken}
 use Rattle.sc_live_orderly.proofs.Lemmas.{TakesFirst, takes_first, is_born-from, rest-row}
-use Rattle.sc_live_plain.specs.Definitions.{IsAskingClient, IsAsking, AreFarFromLast, RequestsGoOn, Mark, Other, mark, marks_for, marks_at, IsOther, IsTaken, IsLinkedSetting, IsCalmClient, BeginsBy, StaysCalm, Setting, IsSetting, IsCalmMail, begun_ones, IsBegun}
+use Rattle.sc_live_plain.specs.Definitions.{IsAskingClient, IsAsking, AreFarFromLast, RequestsGoOn, Other, mark, marks_for, marks_at, IsOther, IsTaken, IsLinkedSetting, IsCalmClient, BeginsBy, StaysCalm, Setting, IsSetting, IsCalmMail, begun_ones, IsBegun}
 use Rattle.sc_live_plain.proofs.PlainProofs.ActingClients.{becomes, begins_more, begins_by, takes_is, starts_is, starts_more, starts_now}
 use Rattle.sc_live_plain.proofs.CalmProofs.MoreCalmRequests.{aside_mark, takes_only, go_only}
 use Rattle.sc_live_plain.proofs.CalmProofs.RequestPhaseNodes as turns_of
@@ -135,10 +136,6 @@ module _ (words : ℕ → ℕ → ℕ × ℕ) (scenario : Scenario) (begins : Is
           client_after Go fine (table c.client GoInput) go_is go_more true (starts_now words scenario begins rows asks a c.client c.fact)
           (clients_calm.go scenario (rows ++ row_of player_table (cseat asks) rows Go ∷ []) set asks c.client fresh (now Go fine (table c.client GoInput) go_is go_more))
           (λ name. inr (refl, sym (at_zero (marks_at words scenario rows name (client_actor asks.client))))) (go_only c.client)
-        where
-          at_zero : (xs : List Mark) → drop 0 xs ≡ xs
-          at_zero [] = refl
-          at_zero (x ∷ xs) = refl
 
     -- whatever row of it comes in order
     client_event : (event : Event OrderLine) → IsInOrder (system_of as_nodes words scenario) rows (client_actor asks.client) event → IsAsking words scenario set begins.first (rows ++ row_of player_table (client_seat (route_of begins.first) asks) rows event ∷ [])

@@ -1,12 +1,12 @@
 -- Between two orders each row of a node leaves a journal in which clients ask alone.
-use Rattle.std.proofs.Common.{◌≡◌, ℕ, ◌≤◌, eqb, true, false, cond, List, [], ◌∷◌, ◌++◌, map, drop, find, Some, inl, inr, refl, sym, ◌∙◌, ap, subst, arith}
+use Rattle.std.proofs.Common.{◌≡◌, ℕ, ◌≤◌, eqb, true, false, cond, List, [], ◌∷◌, ◌++◌, map, drop, find, Some, inl, inr, refl, sym, ◌∙◌, ap, subst, arith, zero, suc}
+use Rattle.sc_live_plain.proofs.PlainRowsProofs.Lists.{at_zero}
 use Rattle.std.specs.Option.{option_map}
-use Rattle.std.proofs.lemmas.Bool.{cases_eq, eq-eqb}
+use Rattle.std.proofs.lemmas.Bool.{cases_eq}
 use Rattle.sc_base.specs.Definitions.{Among, Each, client_actor}
 use Rattle.sc_node_table.specs.Values.{Op, OrderLine, Mail, Seat, Event, Deliver, Go, Got, Row, Node}
 use Rattle.sc_actor.specs.declared.rows.Input.TheVariants.{Go as GoInput}
 use Rattle.sc_actor.specs.Definitions.{mails, value, acted, input_of, System, row_of, has_started, waiting, kth}
-use Rattle.sc_actor.proofs.Lemmas.{value-snoc}
 use Rattle.sc_words.proofs.PaxosProofs.Lemmas.{Each-weaker, Each-append, Each-filter}
 use Rattle.sc_node_table.specs.Definitions.{NodeState, is_node, node_table}
 use Rattle.sc_scenario.specs.declared.scenario.scenarios.Asks.{Asks}
@@ -21,7 +21,7 @@ use Rattle.sc_live_plain.proofs.PlainRowsProofs.LeaderMailOfGroups.{due, group_i
 use Rattle.sc_live_plain.proofs.PlainRowsProofs.LeaderMarks.{each_mark}
 use Rattle.sc_live_plain.proofs.PlainProofs.PlainBeginnings.{IsStage}
 use Rattle.sc_live_plain.proofs.PlainProofs.PlainSteps.{node_number, value_others, gone_others, begun_still, client_away}
-use Rattle.sc_live_plain.proofs.PlainRowsProofs.RowViews.{Journal, replica_is, replica_others}
+use Rattle.sc_live_plain.proofs.PlainRowsProofs.RowViews.{same_replicas, value_own, Journal, replica_is}
 use Rattle.sc_live_plain.proofs.CalmProofs.CalmNodes.{aside_mail, aside_mail_mark, step_is, Turns, turns, stays_by, me_stays}
 use Rattle.sc_law_walks.proofs.Lemmas.{Each-drop}
 
@@ -63,16 +63,6 @@ module _ (words : ℕ → ℕ → ℕ × ℕ) (scenario : Scenario) (stage : IsS
       (Each-drop P (taken who row) (rest sys rows who) (Each-weaker (IsCalmMail (IsBegun scenario rows) set) P (calm_mail_more (IsBegun scenario rows) (IsBegun scenario (rows ++ row ∷ [])) more set) (rest sys rows who) (j.left who born)))
       (Each-filter P (λ (mail : Mail). eqb (sys.receiver mail) who) row.sent sent))
 
-  -- the value of who acts
-  pub value_own : (seat : Seat Player) (event : Event OrderLine) → value player_table seat (rows ++ row_of player_table seat rows event ∷ []) ≡ (acted player_table (value player_table seat rows) (input_of (mails rows) event)).0
-  value_own seat event =
-      value-snoc player_table seat rows (row_of player_table seat rows event)
-      ∙ ap (λ b. cond b (acted player_table (value player_table seat rows) (input_of (mails rows) event)).0 (value player_table seat rows)) (eq-eqb seat.who seat.who refl)
-
-  at_zero : {X : Type 0} (xs : List X) → drop 0 xs ≡ xs
-  at_zero [] = refl
-  at_zero (x ∷ xs) = refl
-
   -- ---- a node acts
 
   module _ (room : AreFarFromLast scenario set rows) (me : ℕ) (one : 1 ≤ me) (most : me ≤ scenario.nodes) (born : find (λ (other : Seat Player). eqb other.who me) (births as_nodes scenario) ≡ Some (node_seat as_nodes scenario.groups scenario.policy me)) where
@@ -84,18 +74,6 @@ module _ (words : ℕ → ℕ → ℕ × ℕ) (scenario : Scenario) (stage : IsS
 
     pub not_client : (client seq : ℕ) (op : Op) → IsBegun scenario rows client seq op → n.node.me ≡ client_actor client → ⊥
     not_client client seq op b e = client_away words scenario stage me number_is b.asks b.is_asks (ap client_actor b.client_is ∙ (sym e ∙ n.me_is))
-
-    -- where the node is the same, so are all replicas
-    pub same_replicas : (event : Event OrderLine) → value player_table (node_seat as_nodes scenario.groups scenario.policy me) (rows ++ row_of player_table (node_seat as_nodes scenario.groups scenario.policy me) rows event ∷ []) ≡ Node n.node
-        → (frame : Frame) (node : ℕ) → replica_at scenario (rows ++ row_of player_table (node_seat as_nodes scenario.groups scenario.policy me) rows event ∷ []) frame.core.id node ≡ replica_at scenario rows frame.core.id node
-    same_replicas event same frame node =
-        let r = row_of player_table (nseat me) rows event in
-        elim (cases_eq node me) [
-          | inl here ↦ ap (replica_at scenario (rows ++ r ∷ []) frame.core.id) here
-              ∙ (replica_is words scenario (rows ++ r ∷ []) frame.core.id me (Node n.node) number_is same
-              ∙ (sym (replica_is words scenario rows frame.core.id me (Node n.node) number_is n.fact) ∙ ap (replica_at scenario rows frame.core.id) (sym here)))
-          | inr ne ↦ replica_others words scenario rows r frame.core.id node ne
-        ]
 
     module _ (number : ℕ) (fine : kth (waiting (system_of as_nodes words scenario) rows (Some me)) 1 ≡ Some number) where
       pub first : TakesFirst (system_of as_nodes words scenario) rows me number
@@ -133,7 +111,7 @@ module _ (words : ℕ → ℕ → ℕ × ℕ) (scenario : Scenario) (stage : IsS
       rest_after who = rest-row sys rows (row_of player_table (nseat me) rows (Deliver number)) who t (record { seat = nseat me; born = born; event = Deliver number; row_is = refl; in_order = fine })
 
       pub became : value player_table (node_seat as_nodes scenario.groups scenario.policy me) (rows ++ row_of player_table (node_seat as_nodes scenario.groups scenario.policy me) rows (Deliver number) ∷ []) ≡ Node (node_table n.node (Got first.mail)).0
-      became = value_own (nseat me) (Deliver number) ∙ ap (λ (p : Player × List Mail). p.0) acted_is
+      became = value_own rows (nseat me) (Deliver number) ∙ ap (λ (p : Player × List Mail). p.0) acted_is
 
       pub sends : (row_of player_table (node_seat as_nodes scenario.groups scenario.policy me) rows (Deliver number)).sent ≡ (node_table n.node (Got first.mail)).1
       sends = ap (λ (p : Player × List Mail). p.1) acted_is
@@ -151,7 +129,7 @@ module _ (words : ℕ → ℕ → ℕ × ℕ) (scenario : Scenario) (stage : IsS
           let all : marks_at words scenario rows frame.core.id me ≡ mark frame.core.id first.mail ∷ map (mark frame.core.id) first.behind = ap (map (mark frame.core.id)) first.first in
           let none : mark frame.core.id first.mail ≡ Other = ap (λ body. mark frame.core.id (record { from = first.mail.from; to = first.mail.to; body = body })) s.body_is in
           group_idle words scenario rows (row_of player_table (nseat me) rows (Deliver number)) rest_after frame (j.groups frame a)
-          (same_replicas (Deliver number) (became ∙ ap (λ (x : NodeState × List Mail). Node x.0) step) frame)
+          (same_replicas words scenario rows me (Deliver number) (Node n.node) number_is n.fact (became ∙ ap (λ (x : NodeState × List Mail). Node x.0) step) frame.core.id)
           (inl (all ∙ (ap (λ m. m ∷ map (mark frame.core.id) first.behind) none ∙ ap (λ l. Other ∷ l) (sym (ap (drop 1) all)))))
           (λ who. subst (λ l. Each IsOther (marks_for frame.core.id who l)) (sym (sends ∙ ap (λ (x : NodeState × List Mail). x.1) step))
           (each_mark IsOther (λ mail. mark frame.core.id mail ≡ Other) frame.core.id who (λ mail e. e) (said ∷ []) (said_mark frame.core.id, tt)))
@@ -186,7 +164,7 @@ module _ (words : ℕ → ℕ → ℕ × ℕ) (scenario : Scenario) (stage : IsS
         let orderly : IsOrderly sys rows r = record { seat = nseat me; born = born; event = Go; row_is = refl; in_order = fine } in
         let rest_after : (who : ℕ) → rest sys (rows ++ r ∷ []) who ≡ drop (taken who r) (rest sys rows who) ++ mail_for sys who r.sent = λ who. rest-row sys rows r who t orderly in
         let more = begun_still words scenario stage rows r (λ asks a e. client_away words scenario stage me number_is asks a e) in
-        let same : value player_table (nseat me) (rows ++ r ∷ []) ≡ Node n.node = value_own (nseat me) Go ∙ ap (λ (p : Player × List Mail). p.0) acted_go in
+        let same : value player_table (nseat me) (rows ++ r ∷ []) ≡ Node n.node = value_own rows (nseat me) Go ∙ ap (λ (p : Player × List Mail). p.0) acted_go in
         let none : r.sent ≡ [] = ap (λ (p : Player × List Mail). p.1) acted_go in
         record {
           nodes = λ other low high. elim (cases_eq other me) [
@@ -197,7 +175,7 @@ module _ (words : ℕ → ℕ → ℕ × ℕ) (scenario : Scenario) (stage : IsS
           clients = λ asks a. client_stays r asks (λ e. client_away words scenario stage me number_is asks a e) (j.clients asks a);
           left = left_more r more rest_after (subst (Each (IsCalmMail (IsBegun scenario (rows ++ r ∷ [])) set)) (sym none) tt);
           groups = λ frame a.
-              group_idle words scenario rows r rest_after frame (j.groups frame a) (same_replicas Go same frame) (inr (refl, sym (at_zero (marks_at words scenario rows frame.core.id me))))
+              group_idle words scenario rows r rest_after frame (j.groups frame a) (same_replicas words scenario rows me Go (Node n.node) number_is n.fact same frame.core.id) (inr (refl, sym (at_zero (marks_at words scenario rows frame.core.id me))))
               (λ who. subst (λ l. Each IsOther (marks_for frame.core.id who l)) (sym none) tt);
         }
 

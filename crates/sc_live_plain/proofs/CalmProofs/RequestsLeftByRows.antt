@@ -1,4 +1,5 @@
 -- What a row leaves of the mail that is under way, and what a leader makes of a queued request: it stays queued, or its client is answered for good.
+use Rattle.sc_live_plain.proofs.PlainRowsProofs.Lists.{at_zero}
 use Rattle.std.proofs.Common.{◌≡◌, ℕ, ◌≤◌, eqb, ◌&&◌, true, false, cond, List, [], ◌∷◌, ◌++◌, drop, ◌⊎◌, inl, inr, refl, sym, ◌∙◌, ap, subst, arith}
 use Rattle.std.specs.List.{filter}
 use Rattle.std.proofs.lemmas.Bool.{ne_eqb, eq-eqb, cond-true, cond_both}
@@ -27,10 +28,6 @@ IsFinal (NotMine arc succ) = Unit {0}
 IsFinal (NotLeader hint) = ⊥
 IsFinal (Gone into) = ⊥
 IsFinal (Stale last) = ⊥
-
-at_zero : (xs : List Mail) → drop 0 xs ≡ xs
-at_zero [] = refl
-at_zero (x ∷ xs) = refl
 
 -- a mail among those for its receiver
 filter_among : (who : ℕ) (sent : List Mail) (mail : Mail) → mail.to ≡ who → Among mail sent → Among mail (filter (λ (m : Mail). eqb m.to who) sent)

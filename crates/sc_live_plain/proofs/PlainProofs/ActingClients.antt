@@ -1,5 +1,5 @@
 -- What a row makes of the client that acts, in plain journals and between two orders: what it is then, which of its requests are begun, and that it has started.
-use Rattle.std.proofs.Common.{◌⊎◌, ◌≡◌, ℕ, ◌-◌, ◌≤◌, eqb, ◌&&◌, ◌||◌, true, false, cond, List, [], ◌∷◌, ◌++◌, length, Some, inl, inr, refl, sym, ◌∙◌, ap, subst, arith}
+use Rattle.std.proofs.Common.{◌⊎◌, ◌≡◌, ℕ, ◌-◌, ◌≤◌, eqb, ◌&&◌, ◌||◌, true, false, List, [], ◌∷◌, ◌++◌, length, Some, inl, inr, refl, sym, ◌∙◌, ap, subst, arith}
 use Rattle.std.specs.Prelude.{slice_get}
 use Rattle.std.specs.Option.{option_map}
 use Rattle.std.proofs.lemmas.Bool.{cases_eq, eq-eqb, or_right}
@@ -8,7 +8,6 @@ use Rattle.sc_base.specs.Definitions.{Among, client_actor}
 use Rattle.sc_node_table.specs.Values.{Op, OrderLine, Mail, Seat, Row, Event, Deliver, Go, Got, Client}
 use Rattle.sc_actor.specs.declared.rows.Input.TheVariants.{Go as GoInput}
 use Rattle.sc_actor.specs.Definitions.{mails, value, acted, input_of, row_of, has_started, is_go}
-use Rattle.sc_actor.proofs.Lemmas.{value-snoc}
 use Rattle.sc_client_table.specs.table.Definitions.{Client as ClientState, ClientStep, table}
 use Rattle.sc_scenario.specs.declared.scenario.scenarios.Asks.{Asks}
 use Rattle.sc_scenario.specs.declared.scenario.scenarios.Scenario.{Scenario}
@@ -18,7 +17,7 @@ use Rattle.sc_live_plain.specs.Definitions.{IsWaiting, IsResting, BeginsBy, begu
 use Rattle.sc_live_plain.proofs.PlainProofs.MorePlainRequests.{IsMore}
 use Rattle.sc_live_plain.proofs.PlainProofs.PlainBeginnings.{IsStage}
 use Rattle.sc_live_plain.proofs.PlainProofs.PlainSteps.{value_others, begun_more, same_client}
-use Rattle.sc_live_plain.proofs.PlainRowsProofs.RowViews.{Journal}
+use Rattle.sc_live_plain.proofs.PlainRowsProofs.RowViews.{value_own, Journal}
 use Rattle.sc_live_plain.proofs.PlainProofs.PlainClients.{unasked}
 
 module _ (words : ℕ → ℕ → ℕ × ℕ) (scenario : Scenario) (stage : IsStage scenario) (rows : Journal) (asks : Asks) (a : Among asks scenario.clients) (client : ClientState)
@@ -28,10 +27,7 @@ module _ (words : ℕ → ℕ → ℕ × ℕ) (scenario : Scenario) (stage : IsS
 
   module _ (event : Event OrderLine) (after : ClientStep) (acted_is : acted player_table (value player_table (client_seat (route_of stage.first) asks) rows) (input_of (mails rows) event) ≡ (Client after.0, after.1)) where
     pub becomes : value player_table (client_seat (route_of stage.first) asks) (rows ++ row_of player_table (client_seat (route_of stage.first) asks) rows event ∷ []) ≡ Client after.0
-    becomes =
-        value-snoc player_table (cseat asks) rows (row_of player_table (cseat asks) rows event)
-        ∙ (ap (λ b. cond b (acted player_table (value player_table (cseat asks) rows) (input_of (mails rows) event)).0 (value player_table (cseat asks) rows)) (eq-eqb (client_actor asks.client) (client_actor asks.client) refl)
-        ∙ ap (λ (p : Player × List Mail). p.0) acted_is)
+    becomes = value_own rows (cseat asks) event ∙ ap (λ (p : Player × List Mail). p.0) acted_is
 
     pub begins_more : begun_ones client ≤ begun_ones after.0 → IsMore (IsBegun scenario rows) (IsBegun scenario (rows ++ row_of player_table (client_seat (route_of stage.first) asks) rows event ∷ []))
     begins_more grows = begun_more words scenario stage rows (row_of player_table (cseat asks) rows event) (λ other b. elim (cases_eq (client_actor other.client) (client_actor asks.client)) [

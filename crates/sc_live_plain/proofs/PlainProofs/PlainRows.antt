@@ -1,12 +1,12 @@
 -- Each row of a plain journal leaves a plain journal.
-use Rattle.std.proofs.Common.{◌≡◌, ℕ, ◌+◌, ◌≤◌, eqb, false, cond, List, [], ◌∷◌, ◌++◌, length, map, drop, find, Some, inl, inr, refl, sym, ◌∙◌, ap, subst, arith}
+use Rattle.sc_live_plain.proofs.PlainRowsProofs.Lists.{at_zero}
+use Rattle.std.proofs.Common.{◌≡◌, ℕ, ◌+◌, ◌≤◌, eqb, false, List, [], ◌∷◌, ◌++◌, length, map, drop, find, Some, inl, inr, refl, sym, ◌∙◌, ap, subst, arith}
 use Rattle.std.specs.Option.{option_map}
-use Rattle.std.proofs.lemmas.Bool.{cases_eq, eq-eqb}
+use Rattle.std.proofs.lemmas.Bool.{cases_eq}
 use Rattle.sc_base.specs.Definitions.{Each, client_actor}
 use Rattle.sc_node_table.specs.Values.{Op, OrderLine, Mail, Seat, Event, Deliver, Go, Got, Node}
 use Rattle.sc_actor.specs.declared.rows.Input.TheVariants.{Go as GoInput}
 use Rattle.sc_actor.specs.Definitions.{mails, value, acted, input_of, System, row_of, has_started, waiting, kth}
-use Rattle.sc_actor.proofs.Lemmas.{value-snoc}
 use Rattle.sc_words.proofs.PaxosProofs.Lemmas.{Each-weaker}
 use Rattle.sc_node_table.specs.Definitions.{is_node, node_table, last_slot}
 use Rattle.sc_scenario.specs.declared.scenario.scenarios.Scenario.{Scenario}
@@ -19,7 +19,7 @@ use Rattle.sc_live_plain.proofs.PlainProofs.MorePlainRequests.{mail_more, node_m
 use Rattle.sc_live_plain.proofs.PlainRowsProofs.LeaderMailOfGroups.{due, group_idle, group_after}
 use Rattle.sc_live_plain.proofs.PlainProofs.PlainBeginnings.{frames_of, IsStage}
 use Rattle.sc_live_plain.proofs.PlainProofs.PlainSteps.{node_number, each_numbered, has_room_at, node_stays, client_stays, sent_more, begun_still, client_away}
-use Rattle.sc_live_plain.proofs.PlainRowsProofs.RowViews.{Journal, replica_is, replica_others}
+use Rattle.sc_live_plain.proofs.PlainRowsProofs.RowViews.{same_replicas, value_own, Journal, replica_is}
 use Rattle.sc_live_plain.proofs.PlainRowsProofs.NodeRows.{NodeRow, node_row, node_plain, node_said, node_owed, me_after}
 
 module _ (words : ℕ → ℕ → ℕ × ℕ) (scenario : Scenario) (stage : IsStage scenario) (few : owed_at_birth (system_of as_nodes words scenario) (owing_of scenario) + 16 ≤ last_slot) where
@@ -32,20 +32,10 @@ module _ (words : ℕ → ℕ → ℕ × ℕ) (scenario : Scenario) (stage : IsS
   abbrev pub nseat : ℕ → Seat Player
   nseat me = node_seat as_nodes scenario.groups scenario.policy me
 
-  -- the value of who acts
-  pub value_own : (rows : Journal) (seat : Seat Player) (event : Event OrderLine) → value player_table seat (rows ++ row_of player_table seat rows event ∷ []) ≡ (acted player_table (value player_table seat rows) (input_of (mails rows) event)).0
-  value_own rows seat event =
-      value-snoc player_table seat rows (row_of player_table seat rows event)
-      ∙ ap (λ b. cond b (acted player_table (value player_table seat rows) (input_of (mails rows) event)).0 (value player_table seat rows)) (eq-eqb seat.who seat.who refl)
-
   -- what is owed after a row that pays
   pub owes_after : (rows : Journal) (seat : Seat Player) (event : Event OrderLine) → J rows → find (λ (other : Seat Player). eqb other.who seat.who) (births as_nodes scenario) ≡ Some seat → IsInOrder sys rows seat.who event → IsPaid sys stage.seats_apart (owing_of scenario) rows seat event
       → deliveries (rows ++ row_of player_table seat rows event ∷ []) + owed sys (owing_of scenario) (rows ++ row_of player_table seat rows event ∷ []) ≤ owed_at_birth sys (owing_of scenario)
   owes_after rows seat event j born fine paid = (let p = pays sys stage.seats_apart (owing_of scenario) rows seat event born fine paid in let o = j.owes in omega (arith, p, o))
-
-  at_zero : {X : Type 0} (xs : List X) → drop 0 xs ≡ xs
-  at_zero [] = refl
-  at_zero (x ∷ xs) = refl
 
   -- ---- a node takes a mail
 
@@ -146,12 +136,7 @@ module _ (words : ℕ → ℕ → ℕ × ℕ) (scenario : Scenario) (stage : IsS
           sent = sent_more words scenario stage rows j r more (subst (Each (IsPlainMail (IsBegun scenario (rows ++ r ∷ [])) (frames_of scenario))) (sym none) tt);
           groups = λ frame a.
               group_idle words scenario rows r rest_after frame (j.groups frame a)
-              (λ node. elim (cases_eq node me) [
-                | inl fact ↦ ap (replica_at scenario (rows ++ r ∷ []) frame.core.id) fact
-                    ∙ (replica_is words scenario (rows ++ r ∷ []) frame.core.id me (Node n.node) (node_number words scenario stage me one most) (same ∙ n.fact)
-                    ∙ (sym (replica_is words scenario rows frame.core.id me (Node n.node) (node_number words scenario stage me one most) n.fact) ∙ ap (replica_at scenario rows frame.core.id) (sym fact)))
-                | inr ne ↦ replica_others words scenario rows r frame.core.id node ne
-              ])
+              (same_replicas words scenario rows me Go (Node n.node) (node_number words scenario stage me one most) n.fact (same ∙ n.fact) frame.core.id)
               (inr (refl, sym (at_zero (marks_at words scenario rows frame.core.id me))))
               (λ who. subst (λ l. Each IsOther (marks_for frame.core.id who l)) (sym none) tt);
           owes = owes_after rows (nseat me) Go j born fine node_go_paid;

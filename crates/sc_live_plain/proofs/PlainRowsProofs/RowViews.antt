@@ -1,10 +1,11 @@
 -- What one row makes of the marks that are under way, and of the view of a group.
+use Rattle.sc_live_plain.proofs.PlainRowsProofs.Lists.{at_zero}
 use Rattle.sc_client_table.specs.table.Definitions.{Client as ClientState}
-use Rattle.std.proofs.Common.{◌≡◌, ℕ, ◌&&◌, true, false, cond, List, [], ◌∷◌, ◌++◌, map, drop, None, refl, sym, ◌∙◌, ap}
-use Rattle.std.proofs.lemmas.Bool.{cond-true, cond-false, ne_eqb, eq-eqb}
+use Rattle.std.proofs.Common.{inr, inl, ◌≡◌, ℕ, ◌&&◌, true, false, cond, List, [], ◌∷◌, ◌++◌, map, drop, None, refl, sym, ◌∙◌, ap}
+use Rattle.std.proofs.lemmas.Bool.{cases_eq, cond-true, cond-false, ne_eqb, eq-eqb}
 use Rattle.std.proofs.lemmas.List.{map-append, drop-map}
-use Rattle.sc_node_table.specs.Values.{Client, Draw, OrderLine, Mail, Row}
-use Rattle.sc_actor.specs.Definitions.{mails, is_delivery, value, acted, input_of}
+use Rattle.sc_node_table.specs.Values.{Event, Seat, Client, Draw, OrderLine, Mail, Row}
+use Rattle.sc_actor.specs.Definitions.{row_of, mails, is_delivery, value, acted, input_of}
 use Rattle.sc_actor.proofs.Lemmas.{value-snoc}
 use Rattle.sc_node_table.specs.Definitions.{replica_of, is_node, next}
 use Rattle.sc_scenario.specs.declared.scenario.scenarios.Scenario.{Scenario}
@@ -17,12 +18,14 @@ use Rattle.sc_live_plain.proofs.PlainRowsProofs.LeaderMailRows.{between-row}
 abbrev pub Journal : Type 0
 Journal = List (Row Mail OrderLine)
 
+-- the value of who acts
+pub value_own : (rows : Journal) (seat : Seat Player) (event : Event OrderLine) → value player_table seat (rows ++ row_of player_table seat rows event ∷ []) ≡ (acted player_table (value player_table seat rows) (input_of (mails rows) event)).0
+value_own rows seat event =
+    value-snoc player_table seat rows (row_of player_table seat rows event)
+    ∙ ap (λ b. cond b (acted player_table (value player_table seat rows) (input_of (mails rows) event)).0 (value player_table seat rows)) (eq-eqb seat.who seat.who refl)
+
 module _ (words : ℕ → ℕ → ℕ × ℕ) (scenario : Scenario) where
   -- ---- marks
-
-  at_zero : {X : Type 0} (xs : List X) → drop 0 xs ≡ xs
-  at_zero [] = refl
-  at_zero (x ∷ xs) = refl
 
   module _ (rows : Journal) (row : Row Mail OrderLine) (after : (who : ℕ) → rest (system_of as_nodes words scenario) (rows ++ row ∷ []) who ≡ drop (taken who row) (rest (system_of as_nodes words scenario) rows who) ++ mail_for (system_of as_nodes words scenario) who row.sent) where
     marks_after : (name : Draw) (who : ℕ) → marks_at words scenario (rows ++ row ∷ []) name who ≡ drop (taken who row) (marks_at words scenario rows name who) ++ marks_for name who row.sent
@@ -70,6 +73,18 @@ module _ (words : ℕ → ℕ → ℕ × ℕ) (scenario : Scenario) where
   pub replica_is : (rows : Journal) (name : Draw) (node : ℕ) (player : Player) → is_node node ≡ true → value player_table (node_seat as_nodes scenario.groups scenario.policy node) rows ≡ player → replica_at scenario rows name node ≡ replica_of name (replicas_of player)
   replica_is rows name node player e v =
       cond-true (is_node node) (replica_of name (replicas_of (value player_table (node_seat as_nodes scenario.groups scenario.policy node) rows))) None e ∙ ap (λ (p : Player). replica_of name (replicas_of p)) v
+
+  -- where the node that acts is the same, so are all replicas
+  pub same_replicas : (rows : Journal) (me : ℕ) (event : Event OrderLine) (player : Player) → is_node me ≡ true → value player_table (node_seat as_nodes scenario.groups scenario.policy me) rows ≡ player
+      → value player_table (node_seat as_nodes scenario.groups scenario.policy me) (rows ++ row_of player_table (node_seat as_nodes scenario.groups scenario.policy me) rows event ∷ []) ≡ player → (name : Draw) (node : ℕ)
+      → replica_at scenario (rows ++ row_of player_table (node_seat as_nodes scenario.groups scenario.policy me) rows event ∷ []) name node ≡ replica_at scenario rows name node
+  same_replicas rows me event player number_is was same name node =
+      let r = row_of player_table (node_seat as_nodes scenario.groups scenario.policy me) rows event in
+      elim (cases_eq node me) [
+        | inl here ↦ ap (replica_at scenario (rows ++ r ∷ []) name) here
+            ∙ (replica_is (rows ++ r ∷ []) name me player number_is same ∙ (sym (replica_is rows name me player number_is was) ∙ ap (replica_at scenario rows name) (sym here)))
+        | inr ne ↦ replica_others rows r name node ne
+      ]
 
 -- a player is one client
 pub client_is : {x y : ClientState} → ◌≡◌ {A = Player} (Client x) (Client y) → x ≡ y
