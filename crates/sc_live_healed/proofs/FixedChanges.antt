@@ -10,7 +10,6 @@ use Rattle.sc_group_table.specs.machine.Definitions.{applied}
 use Rattle.sc_words.specs.paxos.Definitions.{IsAtLeast, AcceptorState, LeaderState, below, promise_counted, counted, with_flight_at, without_flight, flight_at}
 use Rattle.sc_node_table.specs.Definitions.{ended, stopped, entered, forgotten, floor_of, jumped, offered, put_back, request_before, queued_number, answered, answered_all, dismissed, dismissed_all, sent, sent_all, under_way, without_slot, hinted, name_of, next, rest_of, ReplicaState, Place, answer_of, waits_in, open_nodes, flying, slots_ahead, with_entry}
 use Rattle.sc_law_entries.proofs.NamesProofs.EachFound.{Each-drop, slot_without, flight_without}
-use Rattle.sc_law_walks.proofs.Places.{cleared}
 use Rattle.sc_law_walks.proofs.Lemmas.{either_way, elected_place, TableEntry, entry_holds, entered_place}
 use Rattle.sc_law_walks.specs.Definitions.{GoesOn}
 use Rattle.sc_live_healed.proofs.FixedWalks.{IsFixedPlace, IsSaid, IsMember, IsFresh}
@@ -181,33 +180,6 @@ module _ (base : Base) (me : ℕ) (fresh : IsFresh base me) where
         call_back (Call client seq op) g = (with_backlog r mails (request_before (queued_number r.backlog client) client seq (Call client seq op) r.backlog) (k.1 ∙ on) (parts.before_request base (queued_number r.backlog client) client seq (Call client seq op) r.backlog g k.0.fixed.backlog) k.0, k.1)
         call_back _ g = absurd g
 
-    clears : (place : Place) → Q place → Q (cleared (next start) place)
-    clears (r, mails) k = (
-      record {
-        me_is = k.0.me_is;
-        fixed = record {
-          group = k.0.fixed.group;
-          sets = k.0.fixed.sets;
-          acts = k.0.fixed.acts;
-          waits = k.0.fixed.waits;
-          backlog = k.0.fixed.backlog;
-          flights = flight_without Fixed (next start) r.leader.flights k.0.fixed.flights;
-          ready = slot_without Fixed r.ready (next start) k.0.fixed.ready;
-          reports = k.0.fixed.reports;
-          accepted = k.0.fixed.accepted;
-          entries = k.0.fixed.entries;
-        };
-        ballots = record {
-          promised = k.0.ballots.promised;
-          asker = k.0.ballots.asker;
-          running = λ on. (let runs = k.0.ballots.running on in record { own = runs.own; seen = runs.seen; unpassed = runs.unpassed; hint = runs.hint });
-          stopped = λ off. (let s = k.0.ballots.stopped off in record { backlog = s.backlog; flights = ap (without_flight (next start)) s.flights; ready = ap (λ (es : List (ℕ × Command)). without_slot es (next start)) s.ready; leader = s.leader; hint = s.hint; member = s.member });
-        };
-        said = k.0.said;
-      },
-      k.1,
-    )
-
     none_flies : (r : ReplicaState) (slot : ℕ) (other : Command) → r.leader.flights ≡ [] → flying r slot ≡ Some other → ⊥
     none_flies r slot other e is = (let none : flying r slot ≡ None = ap (λ (flights : List (Flight Command)). option_map (λ (flight : Flight Command). flight.value) (flight_at slot flights)) e in cc)
 
@@ -231,7 +203,31 @@ module _ (base : Base) (me : ℕ) (fresh : IsFresh base me) where
       installs = λ to r mails t new k. absurd (none_joined base counted command start f same r k.0.fixed.group to new);
       repolls = λ to r mails t new k. absurd (none_joined base counted command start f same r k.0.fixed.group to new);
       flies = λ other r mails e k. (parts.flight_fixed base r.leader.flights (next start) other e k.0.fixed.flights, sym k.1 ∙ flying_runs r (next start) other k.0.ballots e);
-      landed = λ place k. clears place k;
+      landed = λ place k. (
+        record {
+          me_is = k.0.me_is;
+          fixed = record {
+            group = k.0.fixed.group;
+            sets = k.0.fixed.sets;
+            acts = k.0.fixed.acts;
+            waits = k.0.fixed.waits;
+            backlog = k.0.fixed.backlog;
+            flights = flight_without Fixed (next start) place.0.leader.flights k.0.fixed.flights;
+            ready = slot_without Fixed place.0.ready (next start) k.0.fixed.ready;
+            reports = k.0.fixed.reports;
+            accepted = k.0.fixed.accepted;
+            entries = k.0.fixed.entries;
+          };
+          ballots = record {
+            promised = k.0.ballots.promised;
+            asker = k.0.ballots.asker;
+            running = λ on. (let runs = k.0.ballots.running on in record { own = runs.own; seen = runs.seen; unpassed = runs.unpassed; hint = runs.hint });
+            stopped = λ off. (let s = k.0.ballots.stopped off in record { backlog = s.backlog; flights = ap (without_flight (next start)) s.flights; ready = ap (λ (es : List (ℕ × Command)). without_slot es (next start)) s.ready; leader = s.leader; hint = s.hint; member = s.member });
+          };
+          said = k.0.said;
+        },
+        k.1,
+      );
       back = λ other r mails l k. goes_back other r mails l.0 l.1 k;
     }
 

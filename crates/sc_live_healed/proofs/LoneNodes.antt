@@ -131,25 +131,24 @@ module _ (client first seq : ℕ) where
           ])
 
       pub node_held : (base : Base) → Among base bases → (r : ReplicaState) → replica_of base.core.id node.replicas ≡ Some r → r.running ≡ true → IsHeld client seq r → IsServedStep base step
-      node_held base a r found on held = by way
+      node_held base a r found on held = elim (way) [
+        | inl p ↦ subst (IsServedStep base) (sym p.step) (inl (r, found, on, held))
+        | inr t ↦ elim (cases_Bool (same_draw t.base.core.id base.core.id)) [
+          | inl same ↦ (
+              let id = draw_is t.base.core.id base.core.id same in
+              let one : t.base ≡ base = apart.apart t.base base t.among a id in
+              let is : r ≡ t.replica = same_replica (sym found ∙ ap (λ (d : Draw). replica_of d node.replicas) (sym id) ∙ t.found) in
+              subst (λ (b : Base). IsServedStep b step) one (served_place t
+              (mailed_held t.base node.me (apart.each t.base t.among node.me t.member) client first seq early late mail.from mail.body t.replica (heard t) unlearnt (finds t) (hidden t)
+              (apart_of t.base t.replica t.fixed (takes_here t)) (unready_of t.base t.replica (takes_here t)) (ap (λ (x : ReplicaState). x.running) (sym is) ∙ on) (subst (IsHeld client seq) is held))))
+          | inr other ↦ (
+              let unlike : t.base.core.id ≡ base.core.id → ⊥ = λ e. true≢false (sym (same_name t.base.core.id base.core.id e) ∙ other) in
+              subst (IsServedStep base) (sym t.step) (inl (r, put_other t.base.core.id base.core.id (place t).0 node.replicas (named t) unlike ∙ found, on, held)))
+        ]
+      ]
         where
           same_replica : {x y : ReplicaState} → Some x ≡ Some y → x ≡ y
           same_replica e = cc
-
-          by : PassesMail node mail ⊎ TakesMail bases node mail → IsServedStep base step
-          by (inl p) = subst (IsServedStep base) (sym p.step) (inl (r, found, on, held))
-          by (inr t) = elim (cases_Bool (same_draw t.base.core.id base.core.id)) [
-            | inl same ↦
-                let id = draw_is t.base.core.id base.core.id same in
-                let one : t.base ≡ base = apart.apart t.base base t.among a id in
-                let is : r ≡ t.replica = same_replica (sym found ∙ ap (λ (d : Draw). replica_of d node.replicas) (sym id) ∙ t.found) in
-                subst (λ (b : Base). IsServedStep b step) one (served_place t
-                (mailed_held t.base node.me (apart.each t.base t.among node.me t.member) client first seq early late mail.from mail.body t.replica (heard t) unlearnt (finds t) (hidden t)
-                (apart_of t.base t.replica t.fixed (takes_here t)) (unready_of t.base t.replica (takes_here t)) (ap (λ (x : ReplicaState). x.running) (sym is) ∙ on) (subst (IsHeld client seq) is held)))
-            | inr other ↦
-                let unlike : t.base.core.id ≡ base.core.id → ⊥ = λ e. true≢false (sym (same_name t.base.core.id base.core.id e) ∙ other) in
-                subst (IsServedStep base) (sym t.step) (inl (r, put_other t.base.core.id base.core.id (place t).0 node.replicas (named t) unlike ∙ found, on, held))
-          ]
 
       -- the mail is the request
       pub node_asked : (base : Base) → Among base bases → (op : Op) → mail.body ≡ Request base.core.id client seq op → IsServedStep base step

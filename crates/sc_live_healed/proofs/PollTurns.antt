@@ -70,17 +70,21 @@ module _ (base : Base) (alive : ℕ → Bool) where
     abbrev pub IsAnswering : List Mail → ℕ → Type 0
     IsAnswering second m = (mail : Mail) × Among mail second × (mail.from ≡ m) × (mail.to ≡ n) × IsOfGroup mail × AnswersPoll ballot from_slot mail.body
 
+    -- a mail answers, if it is of the group
+    abbrev pub AnswersIfOfGroup : Mail → Type 0
+    AnswersIfOfGroup mail = IsOfGroup mail → IsAnswerKind mail.body
+
     -- The first round: the mail of the poll, and behind it what its deliveries have sent.
     pub record FirstRound (c : Replicas) (first second : List Mail) : Type 0 where
       pub asks : Each (λ (mail : Mail). IsOfGroup mail → IsAsked mail) first
-      pub answers : Each (λ (mail : Mail). IsOfGroup mail → IsAnswerKind mail.body) second
+      pub answers : Each AnswersIfOfGroup second
       pub floored : AreFloored c
       pub at : IsAt c
       pub each : (m : ℕ) → IsMember base m → alive m ≡ true → (r : ReplicaState) → c n ≡ Some r → Polls r → IsPending c first m ⊎ IsAnswering second m
 
     -- The second round: the answers.
     pub record SecondRound (c : Replicas) (second : List Mail) : Type 0 where
-      pub answers : Each (λ (mail : Mail). IsOfGroup mail → IsAnswerKind mail.body) second
+      pub answers : Each AnswersIfOfGroup second
       pub floored : AreFloored c
       pub at : IsAt c
       pub each : (m : ℕ) → IsMember base m → alive m ≡ true → (r : ReplicaState) → c n ≡ Some r → Polls r → (is_member r.leader.promisers m ≡ true) ⊎ IsAnswering second m
@@ -132,10 +136,6 @@ module _ (base : Base) (alive : ℕ → Bool) where
     -- who takes the mail, or another
     pub is_or_not : (who to : ℕ) → (who ≡ to) ⊎ (who ≡ to → ⊥)
     is_or_not who to = elim (cases_Bool (eqb who to)) [ inl y ↦ inl (eqb-true who to y) | inr f ↦ inr (λ same. true≢false (sym (eq-eqb who to same) ∙ f)) ]
-
-    -- a mail answers, if it is of the group
-    abbrev AnswersIfOfGroup : Mail → Type 0
-    AnswersIfOfGroup mail = IsOfGroup mail → IsAnswerKind mail.body
 
     answers_so : (mail : Mail) → IsAnswerMail mail → AnswersIfOfGroup mail
     answers_so mail (inl kind) g = kind

@@ -5,7 +5,7 @@ use Rattle.sc_base.specs.Definitions.{Each, is_member}
 use Rattle.sc_node_table.specs.Values.{Ballot}
 use Rattle.sc_node_table.specs.Definitions.{slots_ahead}
 use Rattle.sc_words.specs.paxos.Definitions.{IsAtLeast}
-use Rattle.sc_words.proofs.PaxosProofs.Lemmas.{at_least_itself, at_least_trans, not_below_parts}
+use Rattle.sc_words.proofs.PaxosProofs.Lemmas.{at_least_itself, at_least_trans}
 use Rattle.sc_live_steps.specs.following.Definitions.{Mark, Asks, Votes, Tells, Installs, Prepares, Promises, next_by, promise_by, reached, pledged, IsFit, AreFit, Course, Sets, members_at, IsOpen, Tellers, hinted, IsCount, IsOffer, reported_of, told_from}
 use Rattle.sc_live_steps.proofs.FollowingProofs.Lemmas.{count-hinted, reached-append, count-reached, count-pledged}
 pub use Rattle.sc_law_walks.proofs.Lemmas.{at_least_round as round_most}

@@ -1,13 +1,10 @@
 -- The nodes that links and routes name were members, by the logs of a lawful journal.
-use Rattle.std.proofs.Common.{◌≡◌, ℕ, zero, suc, ◌+◌, ◌<◌, ◌≤◌, ◌⊎◌, eqb, List, [], ◌∷◌, ◌++◌, length, take, Some, inl, inr, refl, sym, ◌∙◌, ap, subst, arith, length-append}
-use Rattle.std.proofs.lemmas.Bool.{cond_both, cases_lt, both_ways, eq-eqb}
+use Rattle.std.proofs.Common.{◌≡◌, ℕ, ◌≤◌, ◌⊎◌, List, [], ◌∷◌, ◌++◌, length, take, Some, inl, inr, refl, sym, ◌∙◌, ap, subst, arith, length-append}
 use Rattle.std.proofs.lemmas.Option.{same_Some}
 use Rattle.sc_base.specs.Definitions.{Among, IsRoster, is_member}
 use Rattle.sc_node_table.specs.Values.{Draw, Command, Base, Free, Route}
 use Rattle.sc_group_table.specs.machine.Definitions.{Group, group_of, state_after}
-use Rattle.sc_paxos_law.proofs.Lemmas.{Among-left, Among-right}
-use Rattle.sc_scenario.specs.scenario.Definitions.{place_right, base_at, bases_up_to, IsValid, ValidScenariosAreBounded}
-use Rattle.sc_scenario.specs.declared.scenario.drafts.GroupLine.{GroupLine}
+use Rattle.sc_scenario.specs.scenario.Definitions.{place_right, base_at, IsValid, ValidScenariosAreBounded}
 use Rattle.sc_scenario.specs.declared.scenario.scenarios.Scenario.{Scenario}
 use Rattle.sc_meaning.specs.sound.Definitions.{groups_at, entries_at, world_at, decided_log, decided_state, as_nodes, Lawful, route_of}
 use Rattle.sc_meaning.specs.declared.entries.LogEntry.{LogEntry}

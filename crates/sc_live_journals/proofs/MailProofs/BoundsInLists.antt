@@ -1,10 +1,9 @@
 -- Lists of slots and rounds that are few stay so with one more, one less, or a later bound.
-use Rattle.std.proofs.Common.{◌≡◌, ℕ, zero, suc, ◌-◌, ◌≤◌, ◌<◌, nat_lt, eqb, Bool, true, false, cond, List, [], ◌∷◌, length, filter, Option, Some, None, refl, arith}
-use Rattle.std.specs.Prelude.{slice_get}
-use Rattle.std.proofs.lemmas.Bool.{eqb-true, ltb-true}
+use Rattle.std.proofs.Common.{◌≡◌, ℕ, ◌≤◌, nat_lt, eqb, Bool, true, false, cond, List, [], ◌∷◌, length, filter, Option, Some, None, refl, arith}
+use Rattle.std.proofs.lemmas.Bool.{eqb-true}
 use Rattle.sc_base.specs.Definitions.{Each, is_majority, same_ballot}
 use Rattle.sc_node_table.specs.Values.{Command, Ballot, Counted, Chosen, NotYet, Flight, Report}
-use Rattle.sc_words.specs.paxos.Definitions.{with_report, LeaderState, flight_at, without_flight, without_flight_at, LogState, entry_at, next_of, counted, vote_at, with_voters, voters_after, kept_voters}
+use Rattle.sc_words.specs.paxos.Definitions.{with_report, LeaderState, flight_at, without_flight, without_flight_at, counted, vote_at, with_voters, voters_after, kept_voters}
 use Rattle.sc_words.proofs.PaxosProofs.Lemmas.{Each-append, Each-filter}
 use Rattle.sc_node_table.specs.Definitions.{at_slot, with_slot, without_slot}
 use Rattle.sc_law_walks.proofs.Lemmas.{either_way}

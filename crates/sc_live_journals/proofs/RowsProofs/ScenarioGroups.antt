@@ -10,13 +10,12 @@ use Rattle.sc_base.proofs.Lemmas.{draw_is, same_name}
 use Rattle.sc_words.specs.paxos.Definitions.{flight_at, kept_voters}
 use Rattle.sc_words.proofs.PaxosProofs.Lemmas.{Each-among, Each-from_All}
 use Rattle.sc_node_table.specs.Definitions.{born_replicas, replica_of, ReplicaState, next, first_ballot, born_replica, slots_ahead, numbers_from, at_slot}
-use Rattle.sc_scenario.specs.scenario.Definitions.{base_at, bases_up_to, group_at, IsBounded, IsBoundedGroup, IsUpTo}
-use Rattle.sc_scenario.specs.declared.scenario.drafts.GroupLine.{GroupLine}
+use Rattle.sc_scenario.specs.scenario.Definitions.{base_at, group_at, IsBounded, IsBoundedGroup, IsUpTo}
 use Rattle.sc_scenario.specs.declared.scenario.scenarios.Asks.{Asks}
 use Rattle.sc_scenario.specs.declared.scenario.scenarios.Scenario.{Scenario}
 use Rattle.sc_meaning.specs.sound.Definitions.{node_seat, client_seat, client_seats, route_of, births, as_nodes}
 use Rattle.sc_live_steps.specs.following.Definitions.{IsLed, Sets, Course, Progress, begun, voters_of, IsLeadOf, AreAt}
-use Rattle.sc_live_steps.proofs.FollowingProofs.Lemmas.{least_in, among-either}
+use Rattle.sc_live_steps.proofs.FollowingProofs.Lemmas.{least_in}
 use Rattle.sc_live_journals.specs.rows.Definitions.{replica_in, view_at, next_in, promise_in, progress_at, begun_course}
 use Rattle.sc_paxos_law.proofs.Among.{member-among as among_member}
 use Rattle.sc_law_groups.proofs.WholeProofs.Lemmas.{group_place}
