@@ -84,9 +84,6 @@ module _ (words : ℕ → ℕ → ℕ × ℕ) (scenario : Scenario) (bounded : I
   abbrev Lone : Mail → Type 0
   Lone mail = lone.IsLoneMail client first mail
 
-  receiver : Player
-  receiver = value player_table t.seat rows
-
   -- an actor that is a node is another one
   other_node : (other : Seat Player) → IsOf scenario other → (node : NodeState) → value player_table other rows ≡ Node node → t.seat.who ≡ other.who → ⊥
   other_node other of node e same = no_node (sym here ∙ ap (λ (s : Seat Player). value player_table s rows) (same_seat words scenario bounded rows row t other of same) ∙ e)

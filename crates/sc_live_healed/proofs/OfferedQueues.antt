@@ -4,7 +4,7 @@ use Rattle.std.specs.Prelude.{is_some, nat_le, nat_lt}
 use Rattle.std.specs.Option.{option_map}
 use Rattle.std.proofs.lemmas.Bool.{cond_both, cases_lt, ltb-false, and_parts, and_from, both_ways, le-leb, leb-true, or_parts, cases_eq}
 use Rattle.sc_base.specs.Definitions.{Among, Each}
-use Rattle.sc_node_table.specs.Values.{Ballot, Op, Base, Command, Noop, Call, Core, Free, Mail, MailBody, Accept, Must, Gap, Flight, Report}
+use Rattle.sc_node_table.specs.Values.{Ballot, Op, Base, Command, Noop, Call, Core, Free, Mail, Accept, Must, Gap, Flight, Report}
 use Rattle.sc_words.specs.declared.paxos.answers.Must.TheVariants.{Value, Free as Open}
 use Rattle.sc_words.specs.ideal.Definitions.{key_of, holds_key}
 use Rattle.sc_words.specs.paxos.Definitions.{must, must_without, choice, names_above}
@@ -80,9 +80,6 @@ module _ (base : Base) (me : ℕ) (ballot : Ballot) (Held : Flight Command → T
   -- ---- a command is offered
 
   module _ (slot taken : ℕ) (command : Command) (r : ReplicaState) (mails : List Mail) (fixed : IsFixedCommand base command) (at : slot ≡ next r + taken) (few : taken < slots_ahead) (low : next r ≤ last_slot) (k : S taken (r, mails)) where
-    body : MailBody
-    body = Accept (name_of r) r.leader.ballot slot command
-
     flight : Flight Command
     flight = record { slot = slot; value = command; voters = None }
 

@@ -13,7 +13,7 @@ use Rattle.sc_live_plain.proofs.Lemmas.{find_some, one_if_most, flights_at, rang
 use Rattle.sc_live_steps.proofs.FollowingProofs.LeastMembers.{none_decided}
 use Rattle.sc_live_plain.proofs.Lemmas.{flight_stands}
 use Rattle.sc_live_healed.specs.Definitions.{IsFixedCommand, IsFixedReplica, IsUndecided, TakesSlots}
-use Rattle.sc_live_healed.proofs.ServingReplicas.{Grows, IsAsked, IsServing, IsUnderWay}
+use Rattle.sc_live_healed.proofs.ServingReplicas.{Grows, IsAsked, IsUnderWay}
 use Rattle.sc_live_healed.proofs.ReadySlots.{HasServed, served_takes, pump_serves}
 use Rattle.sc_live_healed.proofs.MailedSlots.{empty_takes}
 
@@ -85,9 +85,6 @@ AskAll base place = Each (IsAsked base place.0.me place.0.leader.ballot place.1)
 module _ (base : Base) (free : base.core.lock ≡ Free) (stands : base.core.gone ≡ None) (r : ReplicaState) (member : is_member base.core.members r.me ≡ true) (fixed : IsFixedReplica base r) (takes_slots : TakesSlots base r) where
   abbrev None_ : Flight Command → Type 0
   None_ flight = ⊥
-
-  abbrev S : ℕ → Place → Type 0
-  S taken place = IsServing base r.me r.leader.ballot None_ taken place
 
   -- what a tick leaves
   pub record HasTicked (place : Place) : Type 0 where
